@@ -1,11 +1,9 @@
 pub mod AskedUnits
-pub mod Beginnings
 pub mod Contents
 pub mod Exits
 pub mod Lists
 pub mod OnScreen
+pub mod Parts
 pub mod Progress
-pub mod Saving
 pub mod Shifts
-pub mod Sources
 pub mod Verifying

@@ -2,7 +2,6 @@
 #![tactic(auto)]
 
 mod arguments;
-mod beginning;
 mod command_line;
 mod contents;
 mod exit;
@@ -10,11 +9,8 @@ mod listed;
 mod part;
 mod program;
 mod reopened;
-mod saving;
 mod shift;
 mod shown;
-mod source;
-mod system_fault;
 mod watching;
 
 use std::io::IsTerminal;

@@ -1,9 +1,10 @@
 //! The parts that sources name.
 ghost use Rattle.std.specs.Prelude.{◌≡◌};
-ghost use Rattle.mxf_tool.specs.Sources.{part_of, source_parts};
+ghost use Rattle.mxf_saving.specs.Sources.{source_parts};
+ghost use Rattle.mxf_tool.specs.Parts.{part_of};
 
-use crate::source::Source;
 use mxf_read::Part;
+use mxf_saving::Source;
 
 /// The part that a source names, by a reader of its file.
 pub fn part_of<R>(source: &Source<'_>, from: R) -> Part<R>

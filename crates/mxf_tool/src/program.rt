@@ -24,9 +24,6 @@ use crate::command_line::{
 use crate::exit::Exit;
 use crate::part::part_of;
 use crate::reopened::{Reopened, extent_of};
-use crate::saving::{BUFFER_BYTES, Reservation, SaveFault, WatchedWriter, refusal_of};
-use crate::source::Source;
-use crate::system_fault::{LastFault, SystemFault};
 use crate::watching::{Screen, Watched};
 use apart::{tell_apart, tell_unsettled};
 use beside::print_beside;
@@ -44,6 +41,9 @@ use mxf_places::AtHand;
 use mxf_read::{
     Extent, GatherFault, Gathered, Given, Part, PartFault, PieceReport, PieceReports, SourceFault,
     gather,
+};
+use mxf_saving::{
+    BUFFER_BYTES, LastFault, Reservation, SaveFault, Source, SystemFault, WatchedWriter, refusal_of,
 };
 use mxf_units::UnitRange;
 use mxf_verify::{Readings, Renewed};

@@ -1,10 +1,9 @@
 //! Sources that are read again: their files are opened once more, by their paths.
 ghost use Rattle.std.specs.Prelude.{◌≤◌, IfOk, length};
 
-use crate::source::Source;
-use crate::system_fault::LastFault;
 use mxf_klv::MAX;
 use mxf_read::{Extent, Sources, Step};
+use mxf_saving::{LastFault, Source};
 use std::fs::{self, File};
 use std::io::{self, ErrorKind, Read, Seek, SeekFrom};
 use std::rt::Files;

@@ -6,8 +6,7 @@ mod line;
 mod progress;
 
 use crate::shown::text_on_screen;
-use crate::source::Source;
-use crate::system_fault::LastFault;
+use mxf_saving::{LastFault, Source};
 use progress::{ReadProgress, is_long};
 use std::fs::OpenFile;
 use std::io::{self, Read};

@@ -1,11 +1,11 @@
 //! Telling what of the sources doesn't go together.
 use super::offsets::{is_contradicted, tell_offsets, views_of};
 use super::telling::tell_on_screen;
-use crate::source::Source;
 use mxf_catalogue::Catalogue;
 use mxf_klv::Stop;
 use mxf_lines::hex_text;
 use mxf_read::PieceReport;
+use mxf_saving::Source;
 use mxf_sets::{PackPart, Package};
 use mxf_views::{RipView, Target, Views};
 use std::alloc::{AllocError, Global};

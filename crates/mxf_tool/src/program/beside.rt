@@ -4,10 +4,9 @@ use super::telling::line_on_screen;
 use super::{Inputs, Printed, System, open_sources, print_answer, told, ungathered};
 use crate::contents::{Contents, gather_each};
 use crate::exit::Exit;
-use crate::source::Source;
-use crate::system_fault::LastFault;
 use mxf_catalogue::Catalogue;
 use mxf_lines::Form;
+use mxf_saving::{LastFault, Source};
 use mxf_verify::Readings;
 use std::alloc::{AllocError, Global};
 

@@ -3,11 +3,9 @@ ghost use Rattle.std.specs.Prelude.{◌≡◌};
 ghost use Rattle.mxf_tool.specs.Exits.{exit_of_fault, exit_of_run};
 
 use crate::exit::Exit;
-use crate::saving::{OutputRefusal, SaveFault};
 use crate::shift::Shift;
-use crate::source::Source;
-use crate::system_fault::SystemFault;
 use mxf_read::PartFault;
+use mxf_saving::{OutputRefusal, SaveFault, Source, SystemFault};
 use std::fmt;
 use thiserror::Error;
 

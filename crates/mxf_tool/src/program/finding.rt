@@ -6,13 +6,12 @@ use super::{Inputs, Printed, System, print_answer};
 use crate::contents::gather_one;
 use crate::exit::Exit;
 use crate::part::part_of;
-use crate::source::Source;
-use crate::system_fault::LastFault;
 use crate::watching::{Screen, Watched};
 use mxf_catalogue::Catalogue;
 use mxf_find::{Fragment, Ranking, Recording, find};
 use mxf_klv::OutOfMemory;
 use mxf_lines::Searched;
+use mxf_saving::{LastFault, Source};
 use std::alloc::{AllocError, Global};
 use std::fs;
 

@@ -1,8 +1,8 @@
 //! What the front of a file has.
-use crate::beginning::Beginning;
 use crate::contents::gather_one;
 use mxf_klv::{Kind, Stop};
 use mxf_read::{Gathered, Part};
+use mxf_saving::Beginning;
 use std::fs;
 use std::io::Read;
 use std::rt::Files;

@@ -1,11 +1,11 @@
 //! What to do about a fault, told in a second line if standard error is a terminal.
 use super::fault::RunFault;
 use super::sized::SizedWord;
-use crate::beginning::Beginning;
-use crate::saving::{OutputRefusal, SaveFault};
 use crate::shift::Shift;
-use crate::source::Source;
-use crate::system_fault::{NOT_FOUND, SystemFault, TOO_MANY_FILES};
+use mxf_saving::{
+    Beginning, NOT_FOUND, OutputRefusal, SaveFault, Source, SystemFault, TOO_MANY_FILES,
+    begins_with_scheme,
+};
 use std::fmt;
 
 /// What to do about a fault. Of a file that is refused as a catalogue or a list, or of a word that names no source and
@@ -163,16 +163,11 @@ fn advice_on(path: &str) -> &'static str {
         ": the lines of the list end with a carriage return: end them with a line feed alone"
     } else if path.ends_with(" ") {
         ": the path ends with a space"
-    } else if is_scheme(path) {
+    } else if begins_with_scheme(path) {
         ": this is spelled as a source: here a path alone is named"
     } else {
         ""
     }
-}
-
-/// Whether the path begins as the name of a source does.
-fn is_scheme(path: &str) -> bool {
-    path.starts_with("at:") || path.starts_with("range:") || path.starts_with("cat:")
 }
 
 /// Writes the path and what the system says of it.

@@ -2,10 +2,10 @@
 use super::telling::tell_on_screen;
 use crate::contents::gather_one;
 use crate::shift::{Shift, are_shifted, shift_of};
-use crate::source::Source;
 use mxf_catalogue::Catalogue;
 use mxf_klv::Note;
 use mxf_read::Part;
+use mxf_saving::Source;
 use mxf_sets::PartitionPack;
 use mxf_views::Views;
 use std::alloc::AllocError;

@@ -12,14 +12,12 @@ use super::{
 use crate::command_line::{Renewing, Saving};
 use crate::contents::{Contents, gather_each};
 use crate::exit::Exit;
-use crate::saving::Reservation;
 use crate::shift::Shift;
-use crate::source::Source;
-use crate::system_fault::LastFault;
 use mxf_catalogue::Catalogue;
 use mxf_hand::PutTogether;
 use mxf_klv::OutOfMemory;
 use mxf_read::{Extent, PieceReport, PieceReports};
+use mxf_saving::{LastFault, Reservation, Source};
 use mxf_verify::{Renewed, joined, renew};
 use mxf_views::Views;
 use std::alloc::{AllocError, Global};

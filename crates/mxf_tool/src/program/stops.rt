@@ -1,9 +1,9 @@
 //! Telling of pieces and ranges that end before their bytes do, or have none.
 use super::front::{Front, SEARCHED};
 use super::telling::tell_on_screen;
-use crate::source::Source;
 use mxf_klv::Stop;
 use mxf_read::PieceReport;
+use mxf_saving::Source;
 use std::alloc::AllocError;
 use std::fmt;
 use std::rt::Files;

@@ -4,11 +4,11 @@ ghost use Rattle.mxf_tool.specs.Exits.{has_hints};
 
 use super::fault::RunFault;
 use super::hint::Hint;
-use crate::beginning::Beginning;
 use crate::command_line::Hints;
 use crate::exit::Exit;
 use crate::shown::text_on_screen;
 use crate::watching::Screen;
+use mxf_saving::Beginning;
 use std::alloc::{AllocError, Global};
 use std::fmt;
 use std::rt::Files;

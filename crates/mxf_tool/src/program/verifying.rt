@@ -13,11 +13,11 @@ use super::{
 };
 use crate::command_line::{IndexedUnits, Verifying};
 use crate::exit::Exit;
-use crate::system_fault::LastFault;
 use mxf_klv::OutOfMemory;
 use mxf_lines::{Form, Verified};
 use mxf_places::AtHand;
 use mxf_read::{Gathered, Part};
+use mxf_saving::LastFault;
 use mxf_units::{UnitRange, Units};
 use mxf_verify::{Verification, VerifiedUnits, VerifyFault, verify};
 use mxf_views::Views;
