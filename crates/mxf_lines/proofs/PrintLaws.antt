@@ -10,7 +10,7 @@ use Rattle.mxf_klv.proofs.WrittenParts.{WritesPart-after}
 use Rattle.mxf_klv.specs.Written.{WritesPart}
 use Rattle.mxf_lines.specs.declared.printing.AnswerFault.{AnswerFault}
 use Rattle.mxf_lines.specs.declared.printing.AnswerFault.TheVariants.{OutOfMemory, Write, BadUnit}
-use Rattle.mxf_lines.specs.declared.printing.Form.{Form}
+use Rattle.mxf_asked.specs.declared.form.Form.{Form}
 use Rattle.mxf_lines.specs.Forms.{PrintedLine, line_in, lines_in}
 use Rattle.mxf_lines.specs.Printing.{Prints}
 

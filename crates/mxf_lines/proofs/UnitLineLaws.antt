@@ -14,7 +14,7 @@ use Rattle.mxf_lines.specs.UnitLines.{hand_count, held_count, is_hand, is_held, 
 use Rattle.mxf_lines.specs.UnitLines.{unit_lines, units_line, units_status}
 use Rattle.mxf_lines.specs.declared.printing.AnswerFault.{AnswerFault}
 use Rattle.mxf_lines.specs.declared.printing.AnswerFault.TheVariants.{OutOfMemory, Write, BadUnit}
-use Rattle.mxf_lines.specs.declared.printing.Form.{Form}
+use Rattle.mxf_asked.specs.declared.form.Form.{Form}
 use Rattle.mxf_lines.proofs.PrintLaws.{Leads, PrintsPart}
 
 pub units_length : (u : UnitsParts) (first count : ℕ) → length (units_from u first count) ≡ count

@@ -3,8 +3,8 @@
 use Rattle.std.specs.Prelude.{ℕ, ◌==◌, ◌||◌, Bool, true, false, if◌then◌else◌, List, [], ◌∷◌, ◌++◌, codes, decimal}
 use Rattle.std.specs.Prelude.{flat_map, Option, None, Some, option_map}
 use Prim.Native.String.{String}
-use Rattle.mxf_lines.specs.declared.printing.Form.{Form}
-use Rattle.mxf_lines.specs.declared.printing.Form.TheVariants.{Text, Json}
+use Rattle.mxf_asked.specs.declared.form.Form.{Form}
+use Rattle.mxf_asked.specs.declared.form.Form.TheVariants.{Text, Json}
 
 -- The value of a field: a number, by its digits; characters; one that is absent, for which the text has a word; a flag,
 -- whose word stands in the text or doesn't; a word that the text doesn't show; numbers; or a value that JSON alone has.

@@ -1,6 +1,6 @@
 -- What is written of a line, piece by piece.
 use Rattle.std.specs.Prelude.{ℕ, List, [], ◌∷◌, ◌++◌}
-use Rattle.mxf_lines.specs.declared.printing.Form.{Form}
+use Rattle.mxf_asked.specs.declared.form.Form.{Form}
 use Rattle.mxf_lines.specs.Forms.{Field, PrintedLine, end_in, field_in, front_in}
 
 -- What is written of a line so far, in a form.

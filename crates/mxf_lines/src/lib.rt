@@ -25,7 +25,7 @@ mod printing;
 
 pub use one_run::one_run_one_print;
 pub use printing::{
-    AnswerFault, Ask, Form, Grid, Searched, Verified, answer, escaped_text_is_given_back, hex_text,
-    print_found, print_map, print_renewed, print_sources, print_unit_plan, print_verification,
+    AnswerFault, Searched, Verified, answer, escaped_text_is_given_back, hex_text, print_found,
+    print_map, print_renewed, print_sources, print_unit_plan, print_verification,
     told_disputes_by_definition, verified_status_by_definition, whole_status_by_packets,
 };

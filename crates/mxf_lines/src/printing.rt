@@ -31,7 +31,8 @@ pub use found::{Searched, print_found};
 pub use hexadecimal::hex_text;
 use line::JoinLine;
 use lines::{Printer, print_with_status};
-pub use map::{Grid, print_map};
+pub use map::print_map;
+use mxf_asked::{Ask, Form};
 use mxf_klv::{OutOfMemory, WriteFault};
 use mxf_places::AtHand;
 use mxf_read::Gathered;
@@ -71,32 +72,6 @@ impl From<OutOfMemory> for AnswerFault {
     fn from(_fault: OutOfMemory) -> AnswerFault {
         AnswerFault::OutOfMemory
     }
-}
-
-/// How lines are printed.
-#[derive(Clone, Copy, Debug, PartialEq, Eq)]
-pub enum Form {
-    /// As words, for people and scripts.
-    Text,
-    /// Each as a JSON object (RFC 8259), for programs.
-    Json,
-}
-
-/// What a run is asked for.
-#[derive(Clone, Copy, Debug, PartialEq, Eq)]
-pub enum Ask {
-    /// What was noted of each piece, and all that is known of the recording.
-    Show,
-    /// What is found wrong or missing.
-    Check,
-    /// Where the edit unit begins in its essence stream, by the index of this IndexSID.
-    Locate { index: u32, unit: u64 },
-    /// How many notes the parts hold together.
-    Join,
-    /// What to restore next.
-    Plan,
-    /// Where the edit units of a range lie in the file, by the index of this IndexSID.
-    Units { index: u32, range: UnitRange },
 }
 
 /// Prints the lines that are asked for, in a form. The answer is 1 if a check finds something, or a piece doesn't end

@@ -1,9 +1,2 @@
-pub mod AskedUnits
-pub mod Contents
-pub mod Exits
-pub mod Lists
-pub mod OnScreen
-pub mod Parts
-pub mod Progress
-pub mod Shifts
+pub mod Answered
 pub mod Verifying

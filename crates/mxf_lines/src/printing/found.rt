@@ -11,8 +11,9 @@ ghost use Rattle.mxf_lines.specs.Lines.{lines_where};
 ghost use Rattle.mxf_lines.specs.Printing.{Prints};
 ghost use Rattle.mxf_lines.specs.Writing.{with_field, with_fields};
 
+use super::AnswerFault;
 use super::lines::{Each, FieldWriter, Line, Printer, Series, Then, print_with_status};
-use super::{AnswerFault, Form};
+use mxf_asked::Form;
 use mxf_find::{Match, Ranked, Ranking};
 use std::alloc::{AllocError, Global};
 use std::io::Write;

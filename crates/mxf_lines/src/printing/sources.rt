@@ -7,10 +7,11 @@ ghost use Rattle.mxf_lines.specs.SourceLines.{digest_value, disputed_line, dispu
 ghost use Rattle.mxf_lines.specs.SourceLines.{sources_line, sources_lines, sources_status};
 ghost use Rattle.mxf_lines.specs.Writing.{with_field};
 
+use super::AnswerFault;
 use super::hexadecimal::HexDigits;
 use super::line::write_note_fields;
 use super::lines::{Each, FieldWriter, Line, Printer, Series, Then, print_with_status};
-use super::{AnswerFault, Form};
+use mxf_asked::Form;
 use mxf_catalogue::DisputedNotes;
 use mxf_klv::{Held, Note};
 use mxf_verify::{Readings, SourceCounts};

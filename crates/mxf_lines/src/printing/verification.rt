@@ -21,12 +21,13 @@ ghost use Rattle.mxf_lines.specs.VerificationLines.{verification_status, verifie
 ghost use Rattle.mxf_lines.specs.VerifiedStatus.{AreAllVerified, AreNoted, IsAllKnown, IsAsItSays};
 ghost use Rattle.mxf_lines.specs.Writing.{with_fields};
 
+use super::AnswerFault;
 use super::check::StopLines;
 use super::line::write_note_fields;
 use super::lines::{
     Each, FieldWriter, Line, Lines, Printer, Series, Then, print_with_status, take_first,
 };
-use super::{AnswerFault, Form};
+use mxf_asked::Form;
 use mxf_catalogue::{Cover, CoverRuns, Run};
 use mxf_klv::{Note, Stop};
 use mxf_read::PieceReport;

@@ -1,11 +1,8 @@
 //! Sources beside each other: which of them holds which note.
-use super::fault::RunFault;
-use super::telling::line_on_screen;
 use super::{Inputs, Printed, System, open_sources, print_answer, told, ungathered};
-use crate::contents::{Contents, gather_each};
-use crate::exit::Exit;
+use mxf_asked::Form;
 use mxf_catalogue::Catalogue;
-use mxf_lines::Form;
+use mxf_hints::{Contents, Exit, RunFault, gather_each, line_on_screen};
 use mxf_saving::{LastFault, Source};
 use mxf_verify::Readings;
 use std::alloc::{AllocError, Global};

@@ -2,19 +2,16 @@
 ghost use Rattle.std.specs.Prelude.{◌≡◌, IfOk};
 ghost use Rattle.mxf_verify.specs.Readings.{all_notes};
 
-use super::fault::RunFault;
-use super::offsets::{is_contradicted, tell_offsets};
-use super::telling::tell_on_screen;
 use super::{
-    Held, Inputs, Opened, Printed, System, allow_output, completed, hold_opened, open_sources,
-    print_answer, settled, settled_reports, told, ungathered, unsaved,
+    HeldBySources, Inputs, Opened, Printed, System, allow_output, completed, hold_opened,
+    open_sources, print_answer, settled, settled_reports, told, ungathered, unsaved,
 };
-use crate::command_line::{Renewing, Saving};
-use crate::contents::{Contents, gather_each};
-use crate::exit::Exit;
-use crate::shift::Shift;
+use mxf_asked::{Renewing, Saving};
 use mxf_catalogue::Catalogue;
 use mxf_hand::PutTogether;
+use mxf_hints::{
+    Contents, Exit, RunFault, Shift, gather_each, is_contradicted, tell_offsets, tell_on_screen,
+};
 use mxf_klv::OutOfMemory;
 use mxf_read::{Extent, PieceReport, PieceReports};
 use mxf_saving::{LastFault, Reservation, Source};
@@ -34,7 +31,7 @@ struct Later {
 /// What is renewed, and what it is renewed by.
 #[derive(Drop)]
 struct Sides {
-    earlier: Held,
+    earlier: HeldBySources,
     later: Later,
 }
 
@@ -121,7 +118,7 @@ fn told_both<'a, R: System>(
     rt: &R,
     inputs: Inputs<'_, 'a>,
     is_strict: bool,
-    earlier: &Held,
+    earlier: &HeldBySources,
     later: &[PieceReport],
     exit: Exit,
 ) -> Result<Exit, RunFault<'a>> {
@@ -206,7 +203,7 @@ fn save_renewed<'a, 'r, R: System>(
     inputs: Inputs<'_, 'a>,
     renewing: Renewing<'a>,
     place: Reservation<'r, R>,
-    earlier: &Held,
+    earlier: &HeldBySources,
     later: Catalogue,
 ) -> Result<Exit, RunFault<'a>> {
     let notes = earlier.gathered.views.catalogue();

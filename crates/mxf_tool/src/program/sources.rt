@@ -1,7 +1,7 @@
 //! The sources of a run, by its words and its list.
-use super::fault::RunFault;
-use crate::command_line::NamedSources;
-use crate::listed::{BadLine, all_words, text_of};
+use mxf_asked::NamedSources;
+use mxf_commands::{BadLine, all_words, text_of};
+use mxf_hints::RunFault;
 use mxf_saving::{Source, SystemFault, parse_source};
 use std::alloc::Global;
 use std::fs;

@@ -7,9 +7,9 @@ ghost use Rattle.mxf_lines.specs.Forms.{digits_or, number_or, quoted, separated,
 ghost use Rattle.mxf_lines.specs.Hexadecimal.{hex_of};
 ghost use Rattle.mxf_lines.specs.Writing.{with_end, with_field, with_front};
 
-use crate::printing::Form;
 use crate::printing::hexadecimal::LabelText;
 use itoa::Integer;
+use mxf_asked::Form;
 use std::alloc::{AllocError, Global};
 use std::fmt;
 use std::marker::Model;

@@ -6,7 +6,8 @@ ghost use Rattle.mxf_lines.specs.Printing.{Prints};
 ghost use Rattle.mxf_lines.specs.Writing.{with_line, written};
 
 use super::{FieldWriter, Lines};
-use crate::printing::{AnswerFault, Form};
+use crate::printing::AnswerFault;
+use mxf_asked::Form;
 use mxf_klv::Progress;
 use std::alloc::{AllocError, Global};
 use std::io::Write;
