@@ -1,8 +1,8 @@
 //! What is to be done, of which sources, and in which form.
 use crate::ask::Ask;
-use crate::form::Form;
 use crate::grid::Grid;
 use crate::units::{AskedUnits, IndexedUnits};
+use mxf_forms::Form;
 
 /// What the command line asks for, and in which form, of the sources that words name and a list after them.
 #[derive(Clone, Copy)]

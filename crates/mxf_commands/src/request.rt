@@ -1,9 +1,10 @@
 //! What the matches of the command line ask for.
 use clap::ArgMatches;
 use mxf_asked::{
-    Ask, AskedUnits, BadLastUnit, Form, Grid, Hints, IndexedUnits, NamedSources, Renewing, Request,
+    Ask, AskedUnits, BadLastUnit, Grid, Hints, IndexedUnits, NamedSources, Renewing, Request,
     Saving, Task, Told, Verifying,
 };
+use mxf_forms::Form;
 use mxf_units::UnitRange;
 
 /// What the matches of the command with this name ask for, with these edit units if it has any, or `None` if there is

@@ -2,6 +2,7 @@
 use crate::offsets::{is_contradicted, tell_offsets, views_of};
 use crate::telling::tell_on_screen;
 use mxf_catalogue::Catalogue;
+use mxf_forms::hex_text;
 use mxf_klv::Stop;
 use mxf_read::PieceReport;
 use mxf_saving::Source;
@@ -249,5 +250,5 @@ fn package_of<R: Files + AllocGlobal>(rt: &R, source: &Source<'_>) -> Option<Str
     });
     let note = views.catalogue().clear_at(offsets.next()?)?;
     let uid = Package::read(note.value()?).ok()?.package_uid();
-    hex::encode(rt.alloc(), uid.as_slice()).ok()
+    hex_text(rt.alloc(), &uid).ok()
 }

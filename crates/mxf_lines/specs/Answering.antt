@@ -25,8 +25,8 @@ use Rattle.mxf_lines.specs.declared.printing.AnswerFault.{AnswerFault}
 use Rattle.mxf_lines.specs.declared.printing.AnswerFault.TheVariants.{BadUnit}
 use Rattle.mxf_lines.specs.FindingLines.{count_line, finding_line, stop_line}
 use Rattle.mxf_lines.specs.IndexLines.{place_line}
-use Rattle.mxf_asked.specs.declared.form.Form.{Form}
-use Rattle.mxf_lines.specs.Forms.{PrintedLine}
+use Rattle.mxf_forms.specs.declared.form.Form.{Form}
+use Rattle.mxf_forms.specs.Forms.{PrintedLine}
 use Rattle.mxf_lines.specs.Lines.{join_line, piece_line}
 use Rattle.mxf_lines.specs.PlanLines.{plan_lines}
 use Rattle.mxf_lines.specs.Printing.{Prints, content_lines}

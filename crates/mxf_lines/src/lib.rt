@@ -7,7 +7,7 @@
 //! was verified; that of [`print_unit_plan`], whether edit units need anything more, or wait for bytes beside disputed
 //! packets ([`told_disputes_by_definition`]). A line is its name and its fields,
 //! of which text and JSON are two printings, and a reader of JSON takes each text as it is
-//! ([`escaped_text_is_given_back`]). Two runs that were handed the same print the same ([`one_run_one_print`]).
+//! ([`escaped_text_is_given_back`](mxf_forms::escaped_text_is_given_back)). Two runs that were handed the same print the same ([`one_run_one_print`]).
 //!
 //! That memory is there, and that a call succeeds with it, is tested.
 //!
@@ -25,7 +25,7 @@ mod printing;
 
 pub use one_run::one_run_one_print;
 pub use printing::{
-    AnswerFault, Searched, Verified, answer, escaped_text_is_given_back, hex_text, print_found,
-    print_map, print_renewed, print_sources, print_unit_plan, print_verification,
-    told_disputes_by_definition, verified_status_by_definition, whole_status_by_packets,
+    AnswerFault, Searched, Verified, answer, print_found, print_map, print_renewed, print_sources,
+    print_unit_plan, print_verification, told_disputes_by_definition,
+    verified_status_by_definition, whole_status_by_packets,
 };

@@ -11,8 +11,9 @@ use beside::print_beside;
 use clap::ArgMatches;
 use clap::error::ErrorKind;
 use finding::print_found_in;
-use mxf_asked::{Ask, AskedUnits, BadLastUnit, Form, Grid, Hints, Request, Saving, Task, Told};
+use mxf_asked::{Ask, AskedUnits, BadLastUnit, Grid, Hints, Request, Saving, Task, Told};
 use mxf_commands::{command, hints_of, request_of, signed_number, units_of, unreadable_argument};
+use mxf_forms::Form;
 use mxf_hand::{PutTogether, put_together, settle};
 use mxf_hints::{
     Exit, RefusalHint, RunFault, Telling, only_index, part_of, range_of, tell, tell_apart,

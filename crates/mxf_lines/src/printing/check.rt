@@ -9,9 +9,8 @@ ghost use Rattle.mxf_lines.specs.Printing.{Prints};
 
 use super::AnswerFault;
 use super::line::{source_of, write_stop};
-use super::lines::{
-    Each, FieldWriter, Line, Lines, Printer, Series, Then, print_with_status, take_first,
-};
+use super::lines::{Each, Line, Lines, Printer, Series, Then, print_with_status, take_first};
+use mxf_forms::FieldWriter;
 use mxf_klv::Stop;
 use mxf_read::{Gathered, PieceReport};
 use mxf_views::{Finding, Findings};

@@ -10,8 +10,9 @@ ghost use Rattle.mxf_lines.specs.MapLines.{row_width, rows_of, share_text};
 ghost use Rattle.mxf_lines.specs.Printing.{Prints};
 
 use super::AnswerFault;
-use super::lines::{Each, FieldWriter, Line, Lines, Printer, Series, Then};
-use mxf_asked::{Form, Grid};
+use super::lines::{Each, Line, Lines, Printer, Series, Then};
+use mxf_asked::Grid;
+use mxf_forms::{FieldWriter, Form};
 use mxf_klv::OutOfMemory;
 use mxf_places::AtHand;
 use mxf_restore::{Map, MapExtent, Mark, extents};

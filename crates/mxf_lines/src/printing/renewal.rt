@@ -8,8 +8,8 @@ ghost use Rattle.mxf_lines.specs.RenewalLines.{renewed_words};
 
 use super::AnswerFault;
 use super::line::write_note_fields;
-use super::lines::{Each, FieldWriter, Line, Lines, Printer, Then};
-use mxf_asked::Form;
+use super::lines::{Each, Line, Lines, Printer, Then};
+use mxf_forms::{FieldWriter, Form};
 use mxf_verify::{DroppedNote, Renewed};
 use std::alloc::{AllocError, Global};
 use std::io::Write;

@@ -14,7 +14,7 @@ use super::AnswerFault;
 use super::lines::{Each, Printer, Then, print_with_status};
 use super::plan::PlannedLine;
 use super::units::UnitsLine;
-use mxf_asked::Form;
+use mxf_forms::Form;
 use mxf_partial::UnitPlan;
 use mxf_places::AtHand;
 use mxf_restore::{Disputes, Order};

@@ -1,7 +1,7 @@
 //! Sources beside each other: which of them holds which note.
 use super::{Inputs, Printed, System, open_sources, print_answer, told, ungathered};
-use mxf_asked::Form;
 use mxf_catalogue::Catalogue;
+use mxf_forms::Form;
 use mxf_hints::{Contents, Exit, RunFault, gather_each, line_on_screen};
 use mxf_saving::{LastFault, Source};
 use mxf_verify::Readings;

@@ -6,7 +6,8 @@ use super::{
     HeldBySources, Inputs, Printed, System, hold_opened, open_sources, print_answer, told,
     ungathered,
 };
-use mxf_asked::{Form, IndexedUnits, Verifying};
+use mxf_asked::{IndexedUnits, Verifying};
+use mxf_forms::Form;
 use mxf_hints::{Exit, RunFault, range_of, tell_foreign, tell_index, tell_offsets, tell_on_screen};
 use mxf_klv::OutOfMemory;
 use mxf_lines::Verified;
