@@ -5,15 +5,15 @@
 //! asked for.
 //!
 //! What is proved: what is written of each field is the printing of its definition, in either form. A reader of JSON
-//! takes each text as it is ([`escaped_text_is_given_back`]). [`hex_text`] has two digits for each byte.
+//! takes each text as it is ([`laws::escaped_text_is_given_back`]). [`hex_text`] has two digits for each byte.
 #![tactic(auto)]
 
 mod field_writer;
 mod form;
 mod hexadecimal;
+pub mod laws;
 mod strings;
 
 pub use field_writer::FieldWriter;
 pub use form::Form;
 pub use hexadecimal::{HexDigits, hex_text};
-pub use strings::escaped_text_is_given_back;

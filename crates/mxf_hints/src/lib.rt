@@ -12,8 +12,8 @@
 //!
 //! What is proved: the exit status of each end of a run ([`Exit`]), the end for each fault, and whether hints are told
 //! ([`Telling::of`]). What each part holds by itself is its run alone ([`gather_each`]), and the [`Shift`] of a content
-//! is the only one that all of its partition packs say ([`one_shift`]). The edit units that are asked for end with the
-//! last of the index ([`range_of`]). The words of hints are tested.
+//! is the only one that all of its partition packs say ([`laws::one_shift`]). The edit units that are asked for end with
+//! the last of the index ([`range_of`]). The words of hints are tested.
 #![tactic(auto)]
 
 mod apart;
@@ -23,6 +23,7 @@ mod fault;
 mod front;
 mod hint;
 mod index;
+pub mod laws;
 mod offsets;
 mod part;
 mod refusal;
@@ -40,7 +41,7 @@ pub use index::{only_index, tell_index};
 pub use offsets::{is_contradicted, tell_offsets};
 pub use part::part_of;
 pub use refusal::RefusalHint;
-pub use shift::{Shift, one_shift, shift_of};
+pub use shift::{Shift, shift_of};
 pub use stops::{tell_foreign, tell_stops};
 pub use telling::{Telling, line_on_screen, tell, tell_on_screen};
 pub use unit_range::range_of;

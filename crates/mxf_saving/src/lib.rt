@@ -6,10 +6,10 @@
 //! output, over a file of a source, and over what is neither empty nor a catalogue.
 //!
 //! What is proved: [`parse_source`] reads just the words that name a source, and answers the fault of each other
-//! ([`one_source`]). A file that begins with a label is never replaced, nor is any other but a catalogue and an empty
-//! one. What takes the place of a file is the file of the catalogue, whole, and it is written beside it under the name
-//! of its definition. A file of others takes over no set-id bits. What a [`WatchedWriter`] writes is what it is handed.
-//! What the system does with files is tested.
+//! ([`laws::one_source`]). A file that begins with a label is never replaced, nor is any other but a catalogue and an
+//! empty one. What takes the place of a file is the file of the catalogue, whole, and it is written beside it under the
+//! name of its definition. A file of others takes over no set-id bits. What a [`WatchedWriter`] writes is what it is
+//! handed. What the system does with files is tested.
 //!
 //! A catalogue that takes the place of a file:
 //!
@@ -23,6 +23,7 @@ mod attributes;
 mod beginning;
 mod destination;
 mod fault;
+pub mod laws;
 mod part_file;
 mod refusal;
 mod reservation;
@@ -36,6 +37,6 @@ pub use beginning::Beginning;
 pub use fault::SaveFault;
 pub use refusal::{OutputRefusal, refusal_of};
 pub use reservation::{Reservation, ReservedFile};
-pub use source::{Source, SourceWordFault, begins_with_scheme, one_source, parse_source};
+pub use source::{Source, SourceWordFault, begins_with_scheme, parse_source};
 pub use system_fault::{LastFault, NOT_FOUND, SystemFault, TOO_MANY_FILES};
 pub use watched_writer::{BUFFER_BYTES, WatchedWriter};
