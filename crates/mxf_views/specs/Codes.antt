@@ -11,7 +11,7 @@ use Rattle.mxf_views.specs.declared.finding.Code.{Code}
 use Rattle.mxf_views.specs.declared.finding.Code.TheVariants.{F01, F02, F03, F04, F05, F06, F07}
 use Rattle.mxf_views.specs.declared.finding.Code.TheVariants.{F08, F09, F10, F11, F12, F13, F14}
 use Rattle.mxf_views.specs.declared.finding.Finding.{Finding}
-use Rattle.mxf_klv.proofs.Tests.{ties}
+use Rattle.mxf_klv.specs.NoteOrder.{ties}
 
 -- The codes, rising.
 abbrev pub all_codes : List Code

@@ -1,6 +1,6 @@
 use Rattle.std.proofs.Common.{◌∙◌, drop, nat_le, nat_lt}
 use Rattle.std.proofs.lemmas.Bool.{le-leb, le-ltb, lt-leb, lt-ltb}
-use Rattle.mxf_catalogue.proofs.Windows.{window}
+use Rattle.mxf_klv.proofs.Windows.{window}
 use Rattle.mxf_hand.proofs.head.between.Goals as goal
 
 pub returns : goal.returns
