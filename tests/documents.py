@@ -25,9 +25,12 @@ TOP = pathlib.Path(__file__).resolve().parent.parent
 LINK = re.compile(r"\[[^\]]*\]\(([^)\s]+)\)")
 CONTRACT = re.compile(r"\[`([\w:]+)`\]\(([^)\s]+\.rt)\)(?: \(((?:`\w+`,? ?)+))?")
 LIBRARIES = (
-    "mxf_klv", "mxf_sets", "mxf_catalogue", "mxf_views", "mxf_findings", "mxf_places", "mxf_restore", "mxf_units",
-    "mxf_partial", "mxf_read", "mxf_verify", "mxf_hand", "mxf_find", "mxf_lines",
+    "mxf_klv", "mxf_sets", "mxf_catalogue", "mxf_views", "mxf_findings", "mxf_places", "mxf_restore", "mxf_map",
+    "mxf_units", "mxf_partial", "mxf_read", "mxf_readings", "mxf_verify", "mxf_hand", "mxf_find", "mxf_forms",
+    "mxf_lines",
 )
+# What the program is made of beside them.
+PROGRAM = ("mxf_asked", "mxf_saving", "mxf_watching", "mxf_commands", "mxf_hints", "mxf_tool")
 IMPORT = re.compile(r"^ghost use Rattle\.(mxf_\w+)\.specs\.(\w+)\.\{([^}]*)\};", re.MULTILINE)
 # Modules of small files alone, of which docs/MODEL.md names the file.
 EXAMPLES = re.compile(r"Worked\w+|RefusedFiles")
@@ -241,10 +244,11 @@ def rows_of_files(document):
 
 def verdicts_of_files(document):
     """For each name of a file in the tables of docs/LAYERS.md: its line, the name, and that no file has it or that it
-    stands there twice, or None. Then for each library and mxf_tool: the files that its table lacks, or None."""
+    stands there twice, or None. Then for each library and what the program is made of: the files that its table lacks,
+    or None."""
     if document.name != "LAYERS.md":
         return
-    files, seen = {crate: sources_of(crate) for crate in (*LIBRARIES, "mxf_tool")}, set()
+    files, seen = {crate: sources_of(crate) for crate in (*LIBRARIES, *PROGRAM)}, set()
     for crate, number, names in rows_of_files(document):
         before = ""
         for name in names:
@@ -574,7 +578,7 @@ def printed_by(source, name):
 def retold():
     """What docs/FORMATS.md owns and something else retells: its name, what docs/FORMATS.md has, where it is retold, and
     what stands there."""
-    codes, exits = "crates/mxf_findings/src/finding.rt", "crates/mxf_tool/src/exit.rt"
+    codes, exits = "crates/mxf_findings/src/finding.rt", "crates/mxf_hints/src/exit.rt"
     guide, man = text_of(TOP / GUIDE), plain_man_page()
     return (
         ("status", formats_statuses(), MAN, dict.fromkeys(man_statuses(), True)),

@@ -26,8 +26,8 @@ use Rattle.mxf_lines.specs.declared.printing.line.record.Named.TheVariants.{Iden
 use Rattle.mxf_lines.specs.declared.printing.line.record.Owner.{Owner}
 use Rattle.mxf_lines.specs.declared.printing.references.Record.{Record}
 use Rattle.mxf_lines.specs.declared.printing.references.Record.TheVariants as records
-use Rattle.mxf_lines.specs.Forms.{Characters, Field, PrintedLine, digits, line_of, member, number, word}
-use Rattle.mxf_lines.specs.Hexadecimal.{hex_of}
+use Rattle.mxf_forms.specs.Forms.{Characters, Field, PrintedLine, digits, line_of, member, number, word}
+use Rattle.mxf_forms.specs.Hexadecimal.{hex_of}
 use Rattle.mxf_lines.specs.Lines.{lines_where}
 use Rattle.mxf_lines.specs.ShownText.{shown_value}
 

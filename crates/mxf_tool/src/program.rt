@@ -1,52 +1,38 @@
 //! The run of the program: its arguments, its files, its lines, and its exit status.
-mod apart;
 mod beside;
-mod fault;
 mod finding;
-mod front;
-mod hint;
-mod index;
-mod offsets;
-mod refusal;
 mod renewing;
-mod sized;
 mod sources;
-mod stops;
-mod telling;
-mod unit_range;
 mod verifying;
 
-use crate::arguments::unreadable_argument;
-use crate::command_line::{
-    AskedUnits, BadLastUnit, Hints, Request, Saving, Task, Told, command, hints_of, request_of,
-    signed_number, units_of,
-};
-use crate::exit::Exit;
-use crate::part::part_of;
+use crate::answered::exit_of_answer;
 use crate::reopened::{Reopened, extent_of};
-use crate::saving::{BUFFER_BYTES, Reservation, SaveFault, WatchedWriter, refusal_of};
-use crate::source::Source;
-use crate::system_fault::{LastFault, SystemFault};
-use crate::watching::{Screen, Watched};
-use apart::{tell_apart, tell_unsettled};
 use beside::print_beside;
 use clap::ArgMatches;
 use clap::error::ErrorKind;
-use fault::RunFault;
 use finding::print_found_in;
-use index::{only_index, tell_index};
+use mxf_asked::{Ask, AskedUnits, BadLastUnit, Grid, Hints, Request, Saving, Task, Told};
+use mxf_commands::{command, hints_of, request_of, signed_number, units_of, unreadable_argument};
+use mxf_forms::Form;
 use mxf_hand::{Extent, Given, PutTogether, SourceFault, put_together, settle};
+use mxf_hints::{
+    Exit, RefusalHint, RunFault, Telling, only_index, part_of, range_of, tell, tell_apart,
+    tell_index, tell_on_screen, tell_stops, tell_unsettled,
+};
 use mxf_lines::{
-    AnswerFault, Ask, Form, Grid, Searched, Verified, answer, print_found, print_map,
-    print_renewed, print_sources, print_unit_plan, print_verification,
+    AnswerFault, Searched, Verified, answer, print_found, print_map, print_renewed, print_sources,
+    print_unit_plan, print_verification,
 };
 use mxf_places::AtHand;
 use mxf_read::{GatherFault, Gathered, Part, PartFault, PieceReport, PieceReports, gather};
 use mxf_readings::Readings;
+use mxf_saving::{
+    BUFFER_BYTES, LastFault, Reservation, SaveFault, Source, SystemFault, WatchedWriter, refusal_of,
+};
 use mxf_units::UnitRange;
 use mxf_verify::Renewed;
 use mxf_views::Views;
-use refusal::RefusalHint;
+use mxf_watching::{Screen, Watched};
 use renewing::print_renewal;
 use sources::{Lists, read_lists, sources_of, unread};
 use std::alloc::Global;
@@ -54,9 +40,6 @@ use std::fs::{self, File};
 use std::io::{BufWriter, Input, Read, Write};
 use std::rt::{Clock, Env, Files};
 use std::{env, io};
-use stops::tell_stops;
-use telling::{Telling, tell, tell_on_screen};
-use unit_range::range_of;
 use verifying::print_verified;
 
 /// All that a run takes of the system.
@@ -241,7 +224,7 @@ fn print_held<'a, R: System>(
     rt: &R,
     inputs: Inputs<'_, 'a>,
     asked: Told,
-    held: &Held,
+    held: &HeldBySources,
 ) -> Result<Exit, RunFault<'a>> {
     let printed = match asked {
         Told::Answer(ask) => Printed::Answer(ask, held),
@@ -314,7 +297,7 @@ fn print_saved<'a, R: System>(
     rt: &R,
     inputs: Inputs<'_, 'a>,
     is_strict: bool,
-    held: &Held,
+    held: &HeldBySources,
 ) -> Result<Exit, RunFault<'a>> {
     let exit = print_answer(rt, Printed::Answer(Ask::Join, held), inputs.form)?;
     let Gathered { views, reports } = &held.gathered;
@@ -328,7 +311,7 @@ fn print_saved<'a, R: System>(
 fn told_held<'a, R: System>(
     rt: &R,
     inputs: Inputs<'_, 'a>,
-    held: &Held,
+    held: &HeldBySources,
     with_stops: bool,
     exit: Exit,
 ) -> Result<Exit, RunFault<'a>> {
@@ -346,7 +329,7 @@ fn join<'a, R: System>(
     rt: &R,
     inputs: Inputs<'_, 'a>,
     saving: Saving<'a>,
-) -> Result<Held, RunFault<'a>> {
+) -> Result<HeldBySources, RunFault<'a>> {
     allow_output(rt, saving.out, inputs.sources)?;
     match Reservation::take(rt, saving.out, saving.is_dry) {
         Ok(place) => join_at(rt, inputs, saving.out, place),
@@ -373,7 +356,7 @@ fn join_at<'a, 'r, R: System>(
     inputs: Inputs<'_, 'a>,
     out: &'a str,
     place: Reservation<'r, R>,
-) -> Result<Held, RunFault<'a>> {
+) -> Result<HeldBySources, RunFault<'a>> {
     let held = settled(hold_sources(rt, inputs)?, inputs.sources);
     match place.save(rt, held.gathered.views.catalogue()) {
         Ok(()) => Ok(held),
@@ -408,22 +391,22 @@ fn told<'a, R: System>(
 
 /// What sources hold together, which of their bytes are at hand, and where they lie.
 #[derive(Drop)]
-pub struct Held {
+pub struct HeldBySources {
     pub gathered: Gathered,
     pub at_hand: AtHand,
     pub extents: Vec<Extent>,
 }
 
 /// The same, with the stops of pieces as ends that what is held makes up for.
-fn settled(held: Held, sources: &[Source<'_>]) -> Held {
-    let Held {
+fn settled(held: HeldBySources, sources: &[Source<'_>]) -> HeldBySources {
+    let HeldBySources {
         gathered,
         at_hand,
         extents,
     } = held;
     let Gathered { views, reports } = gathered;
     let reports = settled_reports(&views, &extents, reports, sources);
-    Held {
+    HeldBySources {
         gathered: Gathered { views, reports },
         at_hand,
         extents,
@@ -457,7 +440,10 @@ pub struct Opened<F> {
 }
 
 /// What the sources hold together. All are opened before the first is read.
-fn hold_sources<'a, R: System>(rt: &R, inputs: Inputs<'_, 'a>) -> Result<Held, RunFault<'a>> {
+fn hold_sources<'a, R: System>(
+    rt: &R,
+    inputs: Inputs<'_, 'a>,
+) -> Result<HeldBySources, RunFault<'a>> {
     let last = LastFault::new();
     let opened = open_sources(rt, inputs.telling.screen, inputs.sources, &last)?;
     hold_opened(rt, opened, inputs.sources, &last)
@@ -469,7 +455,7 @@ fn hold_opened<'r, 'a, R: System, F: Read + Drop>(
     opened: Opened<F>,
     sources: &[Source<'a>],
     last: &'r LastFault,
-) -> Result<Held, RunFault<'a>> {
+) -> Result<HeldBySources, RunFault<'a>> {
     let Opened { parts, extents } = opened;
     match gather(rt.alloc(), parts) {
         Ok(gathered) => complete(rt, gathered, extents, sources, last),
@@ -484,11 +470,11 @@ fn complete<'r, 'a, R: System>(
     extents: Vec<Extent>,
     sources: &[Source<'a>],
     last: &'r LastFault,
-) -> Result<Held, RunFault<'a>> {
+) -> Result<HeldBySources, RunFault<'a>> {
     let Gathered { views, reports } = gathered;
     let PutTogether { views, at_hand } = completed(rt, views, &extents, sources, last)?;
     let gathered = Gathered { views, reports };
-    Ok(Held {
+    Ok(HeldBySources {
         gathered,
         at_hand,
         extents,
@@ -586,18 +572,18 @@ fn ungathered<'a>(fault: &GatherFault, sources: &[Source<'a>], last: &LastFault)
 /// What is printed on standard output.
 #[derive(Clone, Copy)]
 enum Printed<'g, 'n> {
-    Answer(Ask, &'g Held),
+    Answer(Ask, &'g HeldBySources),
     /// A map, and the ranges of its bytes if they are asked for.
     Map {
         grid: Grid,
         with_extents: bool,
-        held: &'g Held,
+        held: &'g HeldBySources,
     },
     /// What to restore for edit units, by the index of an IndexSID.
     UnitPlan {
         index: u32,
         range: UnitRange,
-        held: &'g Held,
+        held: &'g HeldBySources,
     },
     /// A renewal, and whether it was saved.
     Renewed(&'g Renewed<'n>, bool),
@@ -625,7 +611,7 @@ fn print_lines<W: Write>(
             with_extents,
             held,
         } => {
-            let Held {
+            let HeldBySources {
                 gathered,
                 at_hand,
                 ..
@@ -635,7 +621,7 @@ fn print_lines<W: Write>(
             Ok(0)
         }
         Printed::UnitPlan { index, range, held } => {
-            let Held {
+            let HeldBySources {
                 gathered,
                 at_hand,
                 ..
@@ -665,7 +651,7 @@ fn print_answer<'a, R: System>(
     };
     let answered = print_lines(rt.alloc(), printed, form, &mut out);
     let is_flushed = answered.is_ok() && out.flush().is_ok();
-    match Exit::of_answer(answered, is_flushed) {
+    match exit_of_answer(answered, is_flushed) {
         Exit::NoMemory => Err(RunFault::OutOfMemory),
         Exit::Usage => Err(RunFault::BadUnit),
         Exit::Unwritten => Err(RunFault::Unwritten { cause: last.get() }),

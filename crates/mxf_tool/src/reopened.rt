@@ -1,11 +1,10 @@
 //! Sources that are read again: their files are opened once more, by their paths.
 ghost use Rattle.std.specs.Prelude.{◌≤◌, IfOk, length};
 
-use crate::source::Source;
-use crate::system_fault::LastFault;
 use mxf_klv::MAX;
 use mxf_hand::{Extent, Sources};
 use mxf_read::Step;
+use mxf_saving::{LastFault, Source};
 use std::fs::{self, File};
 use std::io::{self, ErrorKind, Read, Seek, SeekFrom};
 use std::rt::Files;

@@ -9,10 +9,9 @@ ghost use Rattle.mxf_lines.specs.Printing.{Prints};
 
 use super::AnswerFault;
 use super::line::{source_of, write_stop};
-use super::lines::{
-    Each, FieldWriter, Line, Lines, Printer, Series, Then, print_with_status, take_first,
-};
+use super::lines::{Each, Line, Lines, Printer, Series, Then, print_with_status, take_first};
 use mxf_findings::{Finding, Findings, findings};
+use mxf_forms::FieldWriter;
 use mxf_klv::Stop;
 use mxf_read::{Gathered, PieceReport};
 use std::alloc::AllocError;

@@ -7,14 +7,15 @@ ghost use Rattle.mxf_lines.specs.Printing.{Prints};
 ghost use Rattle.mxf_lines.specs.ReferenceLines.{AreRecordsIn, IsAmong, IsNotAmong, found_record, lines_of_record, lines_of_reference};
 ghost use Rattle.mxf_lines.specs.ReferenceLines.{named_lines, owner_of, record_of, reference_line, reference_lines};
 ghost use Rattle.mxf_lines.specs.ReferenceLines.{target_fields};
-ghost use Rattle.mxf_lines.specs.Writing.{with_fields};
+ghost use Rattle.mxf_forms.specs.Writing.{with_fields};
 ghost use Rattle.mxf_lines.specs.declared.printing.line.record.Named.{Named};
 
 use super::AnswerFault;
 use super::line::{IdentificationLines, Named, Owner, PackageLines};
-use super::lines::{FieldWriter, Line, Lines, Printer, Then};
+use super::lines::{Line, Lines, Printer, Then};
 use mxf_catalogue::Catalogue;
 use mxf_findings::{Ref, Resolved, Target};
+use mxf_forms::FieldWriter;
 use mxf_klv::{Kind, Note, OutOfMemory};
 use mxf_sets::{Identification, Package};
 use std::alloc::{AllocError, Global};

@@ -1,14 +1,10 @@
 //! Sources beside each other: which of them holds which note.
-use super::fault::RunFault;
-use super::telling::line_on_screen;
 use super::{Inputs, Printed, System, open_sources, print_answer, told, ungathered};
-use crate::contents::{Contents, gather_each};
-use crate::exit::Exit;
-use crate::source::Source;
-use crate::system_fault::LastFault;
 use mxf_catalogue::Catalogue;
-use mxf_lines::Form;
+use mxf_forms::Form;
+use mxf_hints::{Contents, Exit, RunFault, gather_each, line_on_screen};
 use mxf_readings::Readings;
+use mxf_saving::{LastFault, Source};
 use std::alloc::{AllocError, Global};
 
 /// Prints what each source holds, and which source has which disputed note.

@@ -1,18 +1,14 @@
 //! Fragments in recordings: which recording has the packets of each, and where they lie in it.
 use super::beside::names_of;
-use super::fault::RunFault;
 use super::sources::unread;
 use super::{Inputs, Printed, System, print_answer};
-use crate::contents::gather_one;
-use crate::exit::Exit;
-use crate::part::part_of;
-use crate::source::Source;
-use crate::system_fault::LastFault;
-use crate::watching::{Screen, Watched};
 use mxf_catalogue::Catalogue;
 use mxf_find::{Fragment, Ranking, Recording, find};
+use mxf_hints::{Exit, RunFault, gather_one, part_of};
 use mxf_klv::OutOfMemory;
 use mxf_lines::Searched;
+use mxf_saving::{LastFault, Source};
+use mxf_watching::{Screen, Watched};
 use std::alloc::{AllocError, Global};
 use std::fs;
 

@@ -2,25 +2,20 @@
 ghost use Rattle.std.specs.Prelude.{◌≡◌, IfOk};
 ghost use Rattle.mxf_readings.specs.Readings.{all_notes};
 
-use super::fault::RunFault;
-use super::offsets::{is_contradicted, tell_offsets};
-use super::telling::tell_on_screen;
 use super::{
-    Held, Inputs, Opened, Printed, System, allow_output, completed, hold_opened, open_sources,
-    print_answer, settled, settled_reports, told, ungathered, unsaved,
+    HeldBySources, Inputs, Opened, Printed, System, allow_output, completed, hold_opened,
+    open_sources, print_answer, settled, settled_reports, told, ungathered, unsaved,
 };
-use crate::command_line::{Renewing, Saving};
-use crate::contents::{Contents, gather_each};
-use crate::exit::Exit;
-use crate::saving::Reservation;
-use crate::shift::Shift;
-use crate::source::Source;
-use crate::system_fault::LastFault;
+use mxf_asked::{Renewing, Saving};
 use mxf_catalogue::Catalogue;
 use mxf_hand::{Extent, PutTogether};
+use mxf_hints::{
+    Contents, Exit, RunFault, Shift, gather_each, is_contradicted, tell_offsets, tell_on_screen,
+};
 use mxf_klv::OutOfMemory;
 use mxf_read::{PieceReport, PieceReports};
 use mxf_readings::joined;
+use mxf_saving::{LastFault, Reservation, Source};
 use mxf_verify::{Renewed, renew};
 use mxf_views::Views;
 use std::alloc::{AllocError, Global};
@@ -37,7 +32,7 @@ struct Later {
 /// What is renewed, and what it is renewed by.
 #[derive(Drop)]
 struct Sides {
-    earlier: Held,
+    earlier: HeldBySources,
     later: Later,
 }
 
@@ -124,7 +119,7 @@ fn told_both<'a, R: System>(
     rt: &R,
     inputs: Inputs<'_, 'a>,
     is_strict: bool,
-    earlier: &Held,
+    earlier: &HeldBySources,
     later: &[PieceReport],
     exit: Exit,
 ) -> Result<Exit, RunFault<'a>> {
@@ -209,7 +204,7 @@ fn save_renewed<'a, 'r, R: System>(
     inputs: Inputs<'_, 'a>,
     renewing: Renewing<'a>,
     place: Reservation<'r, R>,
-    earlier: &Held,
+    earlier: &HeldBySources,
     later: Catalogue,
 ) -> Result<Exit, RunFault<'a>> {
     let notes = earlier.gathered.views.catalogue();

@@ -1,9 +1,8 @@
 //! The sources of a run, by its words and its list.
-use super::fault::RunFault;
-use crate::command_line::NamedSources;
-use crate::listed::{BadLine, all_words, text_of};
-use crate::source::{Source, parse_source};
-use crate::system_fault::SystemFault;
+use mxf_asked::NamedSources;
+use mxf_commands::{BadLine, all_words, text_of};
+use mxf_hints::RunFault;
+use mxf_saving::{Source, SystemFault, parse_source};
 use std::alloc::Global;
 use std::fs;
 use std::io::{self, ErrorKind, Input, Read};
