@@ -25,8 +25,9 @@ TOP = pathlib.Path(__file__).resolve().parent.parent
 LINK = re.compile(r"\[[^\]]*\]\(([^)\s]+)\)")
 CONTRACT = re.compile(r"\[`([\w:]+)`\]\(([^)\s]+\.rt)\)(?: \(((?:`\w+`,? ?)+))?")
 LIBRARIES = (
-    "mxf_klv", "mxf_sets", "mxf_catalogue", "mxf_views", "mxf_places", "mxf_restore", "mxf_units", "mxf_partial",
-    "mxf_read", "mxf_verify", "mxf_hand", "mxf_find", "mxf_forms", "mxf_lines",
+    "mxf_klv", "mxf_sets", "mxf_catalogue", "mxf_views", "mxf_findings", "mxf_places", "mxf_restore", "mxf_map",
+    "mxf_units", "mxf_partial", "mxf_read", "mxf_readings", "mxf_verify", "mxf_hand", "mxf_find", "mxf_forms",
+    "mxf_lines",
 )
 # What the program is made of beside them.
 PROGRAM = ("mxf_asked", "mxf_saving", "mxf_watching", "mxf_commands", "mxf_hints", "mxf_tool")
@@ -577,7 +578,7 @@ def printed_by(source, name):
 def retold():
     """What docs/FORMATS.md owns and something else retells: its name, what docs/FORMATS.md has, where it is retold, and
     what stands there."""
-    codes, exits = "crates/mxf_views/src/finding.rt", "crates/mxf_hints/src/exit.rt"
+    codes, exits = "crates/mxf_findings/src/finding.rt", "crates/mxf_hints/src/exit.rt"
     guide, man = text_of(TOP / GUIDE), plain_man_page()
     return (
         ("status", formats_statuses(), MAN, dict.fromkeys(man_statuses(), True)),

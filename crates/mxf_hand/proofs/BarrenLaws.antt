@@ -9,7 +9,7 @@ use Rattle.std.specs.declared.cmp.Ordering.{Ordering}
 use Rattle.std.specs.declared.cmp.Ordering.TheVariants.{Less, Equal, Greater}
 use Rattle.std.proofs.lemmas.Map.Lookups.{CmpEqualImpliesEq, exact_pairs, exact_unsigned}
 use Rattle.mxf_klv.specs.Parts.{NoteParts}
-use Rattle.mxf_read.specs.Noting.{IsReading}
+use Rattle.mxf_hand.specs.Noting.{IsReading}
 use Rattle.mxf_hand.specs.Barren.{AreAllBarren, IsBarren}
 use Rattle.mxf_hand.specs.Hand.{HandBytes, read_bytes}
 

@@ -20,8 +20,8 @@ use Rattle.mxf_catalogue.proofs.ClearLaws.{after, held_whole}
 use Rattle.mxf_catalogue.proofs.HeadLaws.{AreReduced-reduced_union, has-reduced_union, same_note}
 use Rattle.mxf_catalogue.proofs.PartLaws.{with_whole}
 use Rattle.mxf_catalogue.proofs.RunBounds.{covers_below_end}
-use Rattle.mxf_read.specs.Given.{bytes_between}
-use Rattle.mxf_read.specs.Noting.{cut_heads, packet_notes}
+use Rattle.mxf_hand.specs.Given.{bytes_between}
+use Rattle.mxf_hand.specs.Noting.{cut_heads, packet_notes}
 use Rattle.mxf_read.proofs.Pieces.{head_begins, heads_few}
 use Rattle.mxf_places.specs.AtHand.{LiesInRange, up_to_bound}
 use Rattle.mxf_restore.specs.Plan.{is_head_to, start_of}

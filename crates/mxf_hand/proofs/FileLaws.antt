@@ -27,7 +27,7 @@ use Rattle.mxf_catalogue.specs.Content.{has_note}
 use Rattle.mxf_catalogue.specs.Covers.{IsCover}
 use Rattle.mxf_catalogue.specs.Runs.{LiesIn}
 use Rattle.mxf_catalogue.proofs.HeadLaws.{has-reduced_union}
-use Rattle.mxf_read.specs.Noting.{cut_heads, packet_notes}
+use Rattle.mxf_hand.specs.Noting.{cut_heads, packet_notes}
 use Rattle.mxf_read.proofs.Pieces.{heads_few}
 use Rattle.mxf_places.proofs.AtHandLaws.{has_offsets-says}
 use Rattle.mxf_restore.specs.Plan.{is_head_to, start_of}

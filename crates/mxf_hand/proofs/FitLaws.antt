@@ -13,7 +13,7 @@ use Rattle.mxf_klv.proofs.RoundTrips.{length_bytes-spelled}
 use Rattle.mxf_catalogue.specs.declared.run.Run.{Run}
 use Rattle.mxf_catalogue.specs.Covers.{is_between}
 use Rattle.mxf_catalogue.specs.Runs.{LiesIn}
-use Rattle.mxf_read.specs.Given.{bytes_between}
+use Rattle.mxf_hand.specs.Given.{bytes_between}
 use Rattle.mxf_hand.specs.Hand.{HandBytes}
 use Rattle.mxf_hand.specs.Heads.{fits, key_and_length}
 use Rattle.mxf_hand.proofs.HandLaws.{fits_at}

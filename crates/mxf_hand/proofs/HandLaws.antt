@@ -15,9 +15,9 @@ use Rattle.mxf_catalogue.specs.Runs.{LiesIn}
 use Rattle.mxf_places.specs.AtHand.{has_offset, up_to_bound}
 use Rattle.mxf_places.proofs.AtHandLaws.{has_offset-says}
 use Rattle.mxf_catalogue.proofs.CoverLaws.{same_covers}
-use Rattle.mxf_read.specs.Given.{AreAtHand, AreTold, SourceParts}
-use Rattle.mxf_read.specs.Places.{GivenParts}
-use Rattle.mxf_read.specs.declared.given.Extent.{Extent}
+use Rattle.mxf_hand.specs.Given.{AreAtHand, AreTold, SourceParts}
+use Rattle.mxf_hand.specs.Places.{GivenParts}
+use Rattle.mxf_hand.specs.declared.given.Extent.{Extent}
 use Rattle.mxf_hand.specs.Hand.{AreOf, AreToldIn, HandBytes, HandParts, read_to, run_end}
 use Rattle.mxf_hand.specs.Heads.{fits, key_and_length}
 

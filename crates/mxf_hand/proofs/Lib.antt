@@ -13,3 +13,10 @@ pub mod FileHoles
 pub mod NoMoreLaws
 pub mod WholeFileLaws
 pub mod SettlingLaws
+pub mod NotingLaws
+pub mod PlaceLaws
+pub mod PlacingLaws
+pub mod DifferingLaws
+pub mod ComparingLaws
+pub mod OutsideLaws
+pub mod ReadBytes

@@ -16,7 +16,7 @@ use Rattle.mxf_klv.proofs.PieceLaws.{none_at_end, packets_in-none, rest_in-none}
 use Rattle.mxf_catalogue.specs.Content.{reduced_union}
 use Rattle.mxf_catalogue.proofs.ClearLaws.{is_whole}
 use Rattle.mxf_catalogue.proofs.LaidNotes.{IsContent-laid}
-use Rattle.mxf_read.specs.Noting.{cut_heads, packet_notes}
+use Rattle.mxf_hand.specs.Noting.{cut_heads, packet_notes}
 use Rattle.mxf_restore.specs.Plan.{is_head_to, start_of}
 use Rattle.mxf_restore.specs.Sections.{AreSections, sections_of}
 use Rattle.mxf_restore.specs.declared.section.Section.{Section}

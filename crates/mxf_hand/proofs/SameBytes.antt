@@ -12,8 +12,8 @@ use Rattle.mxf_catalogue.specs.declared.run.Run.{Run}
 use Rattle.mxf_catalogue.specs.Content.{reduced_union}
 use Rattle.mxf_catalogue.specs.Covers.{IsCover}
 use Rattle.mxf_catalogue.specs.Runs.{LiesIn}
-use Rattle.mxf_read.specs.Given.{Differ, IsAtHand, IsDiffering, IsGivenAs, SourceParts, bytes_between}
-use Rattle.mxf_read.specs.Noting.{cut_heads, packet_notes}
+use Rattle.mxf_hand.specs.Given.{Differ, IsAtHand, IsDiffering, IsGivenAs, SourceParts, bytes_between}
+use Rattle.mxf_hand.specs.Noting.{cut_heads, packet_notes}
 use Rattle.mxf_places.specs.AtHand.{has_offset, has_offsets}
 use Rattle.mxf_places.proofs.AtHandLaws.{has_offset-says, has_offsets-says}
 use Rattle.mxf_restore.specs.Plan.{start_of}

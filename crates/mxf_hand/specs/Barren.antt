@@ -2,7 +2,7 @@
 use Rattle.std.specs.Prelude.{ℕ, List, [], Option}
 use Rattle.std.specs.List.{AllByRecursion}
 use Rattle.mxf_klv.specs.Parts.{NoteParts}
-use Rattle.mxf_read.specs.Noting.{IsReading}
+use Rattle.mxf_hand.specs.Noting.{IsReading}
 use Rattle.mxf_hand.specs.Hand.{HandBytes, read_bytes}
 use Rattle.mxf_hand.specs.declared.barren.BarrenReadings.{BarrenReadings}
 

@@ -6,10 +6,10 @@ use Rattle.mxf_klv.specs.Parts.{NoteParts, packet_parts}
 use Rattle.mxf_klv.specs.Note.{covered_end, end_of, note_of}
 use Rattle.mxf_catalogue.specs.declared.run.Run.{Run}
 use Rattle.mxf_catalogue.specs.Runs.{LiesIn}
-use Rattle.mxf_read.specs.declared.given.Extent.{Extent}
-use Rattle.mxf_read.specs.Given.{AreAtHand, AreTold, IsGivenAs, SourceParts, bytes_between}
-use Rattle.mxf_read.specs.Places.{GivenParts}
-use Rattle.mxf_read.specs.Noting.{cut_heads, packet_notes}
+use Rattle.mxf_hand.specs.declared.given.Extent.{Extent}
+use Rattle.mxf_hand.specs.Given.{AreAtHand, AreTold, IsGivenAs, SourceParts, bytes_between}
+use Rattle.mxf_hand.specs.Places.{GivenParts}
+use Rattle.mxf_hand.specs.Noting.{cut_heads, packet_notes}
 use Rattle.mxf_places.specs.AtHand.{has_offsets, up_to_bound}
 
 -- Bytes at hand: where they lie, as maximal runs, and the byte of each of these offsets.

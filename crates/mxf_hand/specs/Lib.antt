@@ -6,3 +6,9 @@ pub mod Barren
 pub mod Finding
 pub mod File
 pub mod Settling
+pub mod Given
+pub mod Places
+pub mod Differing
+pub mod Outside
+pub mod Noting
+pub mod InMemory

@@ -1,14 +1,14 @@
 //! Readings that found no packet. They aren't repeated in the next round: what is at hand stays, so they would find the
 //! same.
 ghost use Rattle.std.specs.Prelude.{◌≡◌, IfOk, IfSome, OnOk};
-ghost use Rattle.mxf_read.specs.Noting.{IsReading};
+ghost use Rattle.mxf_hand.specs.Noting.{IsReading};
 ghost use Rattle.mxf_hand.specs.Barren.{AreBarren};
 ghost use Rattle.mxf_hand.specs.Hand.{AreToldIn, HandBytes, read_bytes};
 
+use crate::given::{Reading, SourceFault, Sources};
 use crate::hand::Hand;
 use mxf_catalogue::Catalogue;
 use mxf_klv::{Note, OutOfMemory};
-use mxf_read::{Reading, SourceFault, Sources};
 use std::alloc::Global;
 use std::collections::BTreeMap;
 use std::mem::replace;

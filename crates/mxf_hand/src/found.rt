@@ -3,15 +3,15 @@ ghost use Rattle.std.specs.Prelude.{◌≡◌, ◌↔◌, ◌⊎◌, ◌++◌, �
 ghost use Rattle.mxf_klv.specs.Parts.{NoteParts};
 ghost use Rattle.mxf_catalogue.specs.Content.{reduced_union};
 ghost use Rattle.mxf_catalogue.specs.Runs.{LiesIn};
-ghost use Rattle.mxf_read.specs.Noting.{option_list};
+ghost use Rattle.mxf_read.specs.Feeding.{option_list};
 ghost use Rattle.mxf_hand.specs.Finding.{Finds, Grows, IsStart, read_notes};
 ghost use Rattle.mxf_hand.specs.Rounds.{is_taken};
 ghost use Rattle.mxf_hand.specs.declared.found.CutHead.{CutHead};
 
+use crate::given::Reading;
 use crate::section::ends_within;
 use mxf_catalogue::{Catalogue, Cover};
 use mxf_klv::{Note, OutOfMemory};
-use mxf_read::Reading;
 use std::alloc::Global;
 
 /// A head that was read, and the end of the hole in which it was, in bytes.

@@ -2,16 +2,16 @@
 ghost use Rattle.std.specs.Prelude.{◌≡◌, ◌≤◌, ◌<◌, ℕ, List, Option, IfOk, true, false};
 ghost use Rattle.mxf_klv.specs.Note.{covered_end, end_of};
 ghost use Rattle.mxf_catalogue.specs.Runs.{LiesIn};
-ghost use Rattle.mxf_read.specs.Given.{AreAtHand, AreTold, SourceParts};
-ghost use Rattle.mxf_read.specs.Noting.{IsReading};
+ghost use Rattle.mxf_hand.specs.Given.{AreAtHand, AreTold, SourceParts};
+ghost use Rattle.mxf_hand.specs.Noting.{IsReading};
 ghost use Rattle.mxf_hand.specs.Hand.{AreToldIn, HandBytes, is_value_at_hand, packet_of, read_bytes, read_to, run_end};
 ghost use Rattle.mxf_hand.specs.Heads.{fits};
 
+use crate::given::{Given, Reading, SourceFault, Sources};
 use crate::head::{key_and_length, stand_at};
 use mxf_catalogue::Cover;
 use mxf_klv::Note;
 use mxf_places::{AtHand, up_to_bound};
-use mxf_read::{Given, Reading, SourceFault, Sources};
 use std::alloc::Global;
 use std::marker::Model;
 

@@ -7,7 +7,7 @@ ghost use Rattle.mxf_catalogue.specs.Content.{AreReduced, IsContent, has_note, r
 ghost use Rattle.mxf_catalogue.specs.Disputes.{IsClear};
 ghost use Rattle.mxf_catalogue.specs.History.{Hands, History, content};
 ghost use Rattle.mxf_views.specs.WellFormed.{IsWellFormed};
-ghost use Rattle.mxf_read.specs.Given.{SourceParts};
+ghost use Rattle.mxf_hand.specs.Given.{SourceParts};
 ghost use Rattle.mxf_hand.specs.File.{AreBytesOfFile, AreOfFile, BeginAtPackets, HeadsHaveValues, IsAllAtHand};
 ghost use Rattle.mxf_hand.specs.Hand.{AreOf, HandBytes};
 ghost use Rattle.mxf_hand.specs.Rounds.{put_together, round, rounds};

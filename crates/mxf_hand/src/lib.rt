@@ -6,6 +6,8 @@
 //! where a packet begins, and the value of a head. It goes on in rounds, since what is put together names further
 //! places.
 //!
+//! What sources give of the file is a [`Given`], and [`Sources`] are read again at its offsets.
+//!
 //! What is proved: the answer is its function of the content and of the bytes at hand, whichever source they are read
 //! of. Laws: the order of sources doesn't matter ([`one_content_of_sources`]), what is held stays
 //! ([`what_is_held_stays`]), and what is clear stays clear ([`what_is_clear_stays_clear`]). If what packs say of places
@@ -29,6 +31,7 @@
 
 mod barren;
 mod found;
+mod given;
 mod hand;
 mod head;
 mod laws;
@@ -36,6 +39,7 @@ mod putting;
 mod section;
 mod settling;
 
+pub use given::{BytesAt, Extent, Given, InMemory, Reading, SourceFault, Sources};
 pub use laws::{
     one_content_of_sources, only_packets_of_the_file, put_together_is_a_history,
     saved_beside_its_sources, the_whole_file_is_put_together, what_is_clear_stays_clear,

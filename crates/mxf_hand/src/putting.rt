@@ -3,7 +3,7 @@ ghost use Rattle.std.specs.Prelude.{◌≡◌, ◌⊎◌, ℕ, List, IfOk, OnOk,
 ghost use Rattle.mxf_klv.specs.Parts.{NoteParts};
 ghost use Rattle.mxf_klv.specs.Rising.{In};
 ghost use Rattle.mxf_catalogue.specs.Content.{has_note, reduced_union};
-ghost use Rattle.mxf_read.specs.Given.{AreTold, SourceParts};
+ghost use Rattle.mxf_hand.specs.Given.{AreTold, SourceParts};
 ghost use Rattle.mxf_hand.specs.Barren.{AreBarren};
 ghost use Rattle.mxf_hand.specs.Finding.{Finds};
 ghost use Rattle.mxf_hand.specs.Hand.{AreOf, AreToldIn, HandBytes};
@@ -12,13 +12,13 @@ ghost use Rattle.mxf_restore.specs.Sections.{sections_of};
 
 use crate::barren::BarrenReadings;
 use crate::found::Found;
+use crate::given::{Given, SourceFault, Sources};
 use crate::hand::Hand;
 use crate::head::Heads;
 use crate::section::add_section;
 use mxf_catalogue::Catalogue;
 use mxf_klv::OutOfMemory;
 use mxf_places::{AtHand, Holdings, claims};
-use mxf_read::{Given, SourceFault, Sources};
 use mxf_restore::{Section, sections};
 use mxf_views::Views;
 use std::alloc::Global;

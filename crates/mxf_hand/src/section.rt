@@ -11,10 +11,10 @@ ghost use Rattle.mxf_hand.specs.Sections.{ends_within, made_by, only, read_from}
 
 use crate::barren::BarrenReadings;
 use crate::found::Found;
+use crate::given::{SourceFault, Sources};
 use crate::hand::Hand;
 use crate::head::{HeadNote, Heads};
 use mxf_klv::Note;
-use mxf_read::{SourceFault, Sources};
 use mxf_restore::Section;
 use std::alloc::Global;
 

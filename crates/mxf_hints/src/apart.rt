@@ -2,12 +2,13 @@
 use crate::offsets::{is_contradicted, tell_offsets, views_of};
 use crate::telling::tell_on_screen;
 use mxf_catalogue::Catalogue;
+use mxf_findings::{Target, resolved};
 use mxf_forms::hex_text;
 use mxf_klv::Stop;
 use mxf_read::PieceReport;
 use mxf_saving::Source;
 use mxf_sets::{PackPart, Package};
-use mxf_views::{RipView, Target, Views};
+use mxf_views::{RipView, Views};
 use std::alloc::{AllocError, Global};
 use std::fmt;
 use std::rt::Files;
@@ -242,7 +243,7 @@ fn describing<'a, R: Files + AllocGlobal>(
 /// The identifier of the first package that a source describes, in its front or in its catalogue; none without memory.
 fn package_of<R: Files + AllocGlobal>(rt: &R, source: &Source<'_>) -> Option<String> {
     let views = views_of(rt, source)?;
-    let resolved = views.resolved(rt.alloc()).ok()??;
+    let resolved = resolved(rt.alloc(), &views).ok()??;
     let packages = resolved.packages.as_slice().iter();
     let mut offsets = packages.filter_map(|package| match package.target {
         Target::Found(offset) => Some(offset),

@@ -4,10 +4,10 @@ use Rattle.std.proofs.Common.{arith, ap, sym, refl, decimal, drop, length, lengt
 use Rattle.std.proofs.lemmas.Fmt.{decimal_step_wide}
 use Rattle.std.proofs.lemmas.List.{drop_all, length-drop, take_min}
 use Rattle.mxf_places.specs.AtHand.{KnownParts}
-use Rattle.mxf_restore.specs.Extents.{standing_at}
-use Rattle.mxf_restore.specs.declared.map.Mark.{Mark}
-use Rattle.mxf_restore.specs.declared.map.extent.MapExtent.{MapExtent}
-use Rattle.mxf_restore.proofs.ExtentLaws.{one_list_of_extents}
+use Rattle.mxf_map.specs.Extents.{standing_at}
+use Rattle.mxf_map.specs.declared.map.Mark.{Mark}
+use Rattle.mxf_map.specs.declared.extent.MapExtent.{MapExtent}
+use Rattle.mxf_map.proofs.ExtentLaws.{one_list_of_extents}
 use Rattle.mxf_lines.specs.MapLines.{AreToldExtents, row_line, rows_by, rows_of}
 
 -- A number of two digits or more has one more than its tenth.

@@ -8,8 +8,8 @@ use Rattle.mxf_catalogue.specs.Content.{IsLocated}
 use Rattle.mxf_catalogue.specs.History.{HandsSame, Read}
 use Rattle.mxf_views.specs.Headline.{IsTheRun}
 use Rattle.mxf_places.specs.AtHand.{KnownParts}
-use Rattle.mxf_restore.specs.Map.{MapParts}
-use Rattle.mxf_restore.proofs.MarkLaws.{one_map}
+use Rattle.mxf_map.specs.Map.{MapParts}
+use Rattle.mxf_map.proofs.MarkLaws.{one_map}
 use Rattle.mxf_partial.specs.Orders.{UnitPlanParts}
 use Rattle.mxf_partial.proofs.UnitPlanLaws.{one_plan}
 use Rattle.mxf_verify.specs.Fixities.{VerifiedUnitsParts, is_verified, units_in}

@@ -7,9 +7,9 @@ use Rattle.mxf_klv.specs.declared.piece.Stop.{Stop}
 use Rattle.mxf_klv.specs.declared.piece.Stop.TheVariants.{End}
 use Rattle.mxf_klv.specs.declared.writing.WriteFault.{WriteFault}
 use Rattle.mxf_catalogue.specs.Disputes.{disputed_notes}
-use Rattle.mxf_views.specs.Findings.{findings_of}
+use Rattle.mxf_findings.specs.Findings.{findings_of}
 use Rattle.mxf_views.specs.Places.{greatest_unit, place_of, segments_of}
-use Rattle.mxf_views.specs.declared.finding.Finding.{Finding}
+use Rattle.mxf_findings.specs.declared.finding.Finding.{Finding}
 use Rattle.mxf_views.specs.declared.index.place.Place.{Place}
 use Rattle.mxf_views.specs.declared.index.place.Place.TheVariants.{At}
 use Rattle.mxf_places.specs.AtHand.{AtHandParts}

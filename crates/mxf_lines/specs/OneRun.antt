@@ -4,8 +4,8 @@ use Rattle.std.specs.Prelude.{ℕ, ◌≡◌, ◌*◌, Bool, List, ◌∷◌, �
 use Rattle.mxf_klv.specs.Parts.{NoteParts}
 use Rattle.mxf_places.specs.AtHand.{AtHandParts}
 use Rattle.mxf_read.specs.declared.gathering.report.PieceReport.{PieceReport}
-use Rattle.mxf_restore.specs.Map.{IsMap, MapParts}
-use Rattle.mxf_restore.specs.declared.map.extent.MapExtent.{MapExtent}
+use Rattle.mxf_map.specs.Map.{IsMap, MapParts}
+use Rattle.mxf_map.specs.declared.extent.MapExtent.{MapExtent}
 use Rattle.mxf_units.specs.declared.range.UnitRange.{UnitRange}
 use Rattle.mxf_partial.specs.Orders.{IsUnitPlan, UnitPlanParts}
 use Rattle.mxf_verify.specs.Fixities.{AreVerifiedUnits, VerifiedUnitsParts}

@@ -4,8 +4,8 @@ use Rattle.sha2.specs.Sha256.{sha256}
 use Rattle.mxf_klv.specs.Note.{keeps_value}
 use Rattle.mxf_klv.specs.Parts.{NoteParts}
 use Rattle.mxf_catalogue.specs.Disputes.{DisputedParts, disputed_notes}
-use Rattle.mxf_verify.specs.Readings.{all_notes, counts_of, sources_of}
-use Rattle.mxf_verify.specs.declared.readings.SourceCounts.{SourceCounts}
+use Rattle.mxf_readings.specs.Readings.{all_notes, counts_of, sources_of}
+use Rattle.mxf_readings.specs.declared.readings.SourceCounts.{SourceCounts}
 use Rattle.mxf_forms.specs.Forms.{Absent, Characters, PrintedLine, Value, field, line, number, numbers, word}
 use Rattle.mxf_forms.specs.Hexadecimal.{hex_of}
 use Rattle.mxf_lines.specs.Lines.{note_fields}

@@ -8,14 +8,7 @@ pub mod SavedLaws
 pub mod Starts
 pub mod RangeLaws
 pub mod WindowLaws
-pub mod ReadBytes
-pub mod NotingLaws
 pub mod Tellings
 pub mod GatheringLaws
-pub mod PlaceLaws
-pub mod PlacingLaws
-pub mod DifferingLaws
-pub mod ComparingLaws
-pub mod OutsideLaws
-mod ComingLaws
+pub mod ComingLaws
 mod Walks

@@ -71,3 +71,8 @@ begun_heads None (Some v) = head_parts v.offset v.key v.ber.width v.ber.value �
 pub record Tells (offset : ℕ) (bytes : List ℕ) (p : Piece) : Type 0 where
   pub knows : Knows offset bytes p
   pub head : begun_heads p.stop p.value ≡ heads_at p.at (rest_in offset bytes)
+
+-- None or one.
+abbrev pub option_list : {X : Type 0} → Option X → List X
+option_list None = []
+option_list (Some x) = x ∷ []

@@ -6,9 +6,3 @@ pub mod Absorbs
 pub mod Ranges
 pub mod Levels
 pub mod Gathering
-pub mod Given
-pub mod Places
-pub mod Differing
-pub mod Outside
-pub mod Noting
-pub mod InMemory

@@ -20,7 +20,7 @@ pub(crate) enum ValueSoFar {
 ///
 /// A value that a note keeps is gathered, in room that is taken at the start. Another is digested as it passes.
 #[derive(Drop)]
-pub(crate) struct ComingValue {
+pub struct ComingValue {
     offset: u64,
     key: Ul,
     ber: Ber,
@@ -38,12 +38,7 @@ impl ComingValue {
     ghost use Rattle.mxf_read.specs.Coming.{HasTaken, IsSamePacket};
 
     /// No byte of the value has come.
-    pub(crate) fn of(
-        alloc: Global,
-        offset: u64,
-        key: Ul,
-        ber: Ber,
-    ) -> Result<ComingValue, OutOfMemory>
+    pub fn of(alloc: Global, offset: u64, key: Ul, ber: Ber) -> Result<ComingValue, OutOfMemory>
         requires { offset + 16 + ber.width + ber.value ≤ greatest_end }
         ensures offset { IfOk result (λ v. v.offset ≡ offset) }
         ensures key { IfOk result (λ v. v.key ≡ key) }
@@ -66,7 +61,7 @@ impl ComingValue {
     }
 
     /// The number of bytes that are to come.
-    pub(crate) fn left(&self) -> u64
+    pub fn left(&self) -> u64
         ensures { result ≡ self.now.left }
     {
         self.left
@@ -80,7 +75,7 @@ impl ComingValue {
     }
 
     /// Takes the next bytes of the value.
-    pub(crate) fn take(&mut self, bytes: &[u8]) -> Result<(), OutOfMemory>
+    pub fn take(&mut self, bytes: &[u8]) -> Result<(), OutOfMemory>
         requires { length bytes.now ≤ self.old.left }
         ensures same { IsSamePacket self.old self.new }
         ensures taken { OnOk result ((m : List ℕ) → HasTaken self.old m → HasTaken self.new (m ++ bytes.now)) }
@@ -95,7 +90,7 @@ impl ComingValue {
 
     /// The note of the packet, whose value has come whole. The digest of no byte is at hand, since many packets have no
     /// value.
-    pub(crate) fn into_note(self, of_nothing: [u8; 32]) -> Note
+    pub fn into_note(self, of_nothing: [u8; 32]) -> Note
         requires left { self.left ≡ 0 }
         requires of_nothing { of_nothing ≡ sha256 [] }
         ensures { (m : List ℕ) → HasTaken self m

@@ -35,7 +35,7 @@ use std::alloc::Global;
 use std::io::Read;
 
 /// The greatest number of bytes that is read of one piece or range.
-pub(crate) const GREATEST_PIECE: u64 = 1_099_511_627_776;
+pub const GREATEST_PIECE: u64 = 1_099_511_627_776;
 
 /// The greatest number of bytes of a range that are searched for its start.
 const GREATEST_WINDOW: u64 = 33_554_432;

@@ -16,8 +16,10 @@
 //! [`gather`] takes any number of pieces, ranges and saved catalogues, from readers: what they hold together is exactly
 //! what they hand, and a fault names the part that it is of. A range is bytes whose first may lie inside a packet:
 //! [`start_of`] says where its piece begins, and [`each_range_has_one_start`] that this is the one place. It is looked
-//! for in the first 33,554,432 bytes, and [`each_start_in_the_window_is_found`] says that none is missed there. Each
-//! read, also by callers that read otherwise, is a [`read_step`].
+//! for in the first 33,554,432 bytes, and [`each_start_in_the_window_is_found`] says that none is missed there.
+//!
+//! Callers that read otherwise feed a [`Piece`], or a [`ComingValue`] after a known key and length. Each read is a
+//! [`read_step`].
 //!
 //! That memory is there, and that a call succeeds with it, is tested.
 //!
@@ -44,7 +46,6 @@
 mod absorbing;
 mod coming;
 mod gathering;
-mod given;
 mod piece;
 mod range;
 mod reading;
@@ -55,9 +56,12 @@ pub use absorbing::{
     PieceNotes, absorb, absorb_from, going_on_after_a_fault_completes_a_piece,
     going_on_completes_a_piece, notes_from, packets_of_a_piece_stand_apart,
 };
-pub use gathering::{GatherFault, Gathered, Part, PartFault, PieceReport, PieceReports, gather};
-pub use given::{BytesAt, Extent, Given, InMemory, Reading, SourceFault, Sources};
+pub use coming::ComingValue;
+pub use gathering::{
+    GREATEST_PIECE, GatherFault, Gathered, Part, PartFault, PieceReport, PieceReports, gather,
+};
 pub use mxf_klv::Stop;
+pub use piece::Piece;
 pub use range::{each_range_has_one_start, each_start_in_the_window_is_found, start_of};
 pub use reading::{GREATEST_INTERRUPTIONS, Step, read_step};
 pub use report::{AbsorbFault, Report};

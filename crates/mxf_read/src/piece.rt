@@ -19,7 +19,7 @@ const GREATEST_HEAD: usize = 25;
 ///
 /// Of that one it holds no more than the key and the length, and the value if it is kept.
 #[derive(Drop)]
-pub(crate) struct Piece {
+pub struct Piece {
     alloc: Global,
     notes: Catalogue,
     at: u64,
@@ -36,13 +36,11 @@ pub(crate) struct Piece {
 impl Piece {
     ghost use Rattle.mxf_read.specs.Coming.{HasCome};
     ghost use Rattle.mxf_read.specs.Feeding.{Fails, Fed, Feeds, IsFed, Knows, NotesNone, TakesFront, Tells};
-    ghost use Rattle.mxf_read.specs.Feeding.{begun_heads};
-    ghost use Rattle.mxf_read.specs.Feeding.{waits_for_more};
-    ghost use Rattle.mxf_read.specs.Noting.{option_list};
+    ghost use Rattle.mxf_read.specs.Feeding.{begun_heads, option_list, waits_for_more};
     ghost use Rattle.mxf_read.specs.Absorbs.{report_of};
 
     /// No byte of the piece at a file offset.
-    pub(crate) fn new(alloc: Global, offset: u64) -> Piece
+    pub fn new(alloc: Global, offset: u64) -> Piece
         ensures { Fed offset [] result }
     {
         Piece {
@@ -74,7 +72,7 @@ impl Piece {
     }
 
     /// Whether any of the last `left` bytes is wanted: none is after a stop, nor inside a value that they don't end.
-    pub(crate) fn wants(&self, left: u64) -> bool
+    pub fn wants(&self, left: u64) -> bool
         ensures more { IsTrue result → 0 < left }
         ensures enough { result ≡ false → (o : ℕ) (m x : List ℕ) → length x ≡ left → Fed o m self.now
             → Tells o (m ++ x) self.now }
@@ -118,7 +116,7 @@ impl Piece {
     }
 
     /// The head of the next packet, if its value has begun and the piece hasn't stopped.
-    pub(crate) fn cut_head(&self) -> Option<Note>
+    pub fn cut_head(&self) -> Option<Note>
         ensures { option_list result ≡ begun_heads self.now.stop self.now.value }
     {
         if self.has_stopped() {
@@ -143,14 +141,14 @@ impl Piece {
     }
 
     /// The notes of the packets that have come whole.
-    pub(crate) fn into_notes(self) -> Catalogue
+    pub fn into_notes(self) -> Catalogue
         ensures { result ≡ self.notes }
     {
         self.notes
     }
 
     /// The next bytes of the piece, however many.
-    pub(crate) fn feed(&mut self, bytes: &[u8]) -> Result<(), OutOfMemory>
+    pub fn feed(&mut self, bytes: &[u8]) -> Result<(), OutOfMemory>
         requires { IsFed self.old }
         ensures fed { OnOk result (Feeds self.old self.new bytes.now) }
         ensures err { OnErr result (Fails self.old self.new bytes.now) }

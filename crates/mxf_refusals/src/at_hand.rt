@@ -1,7 +1,7 @@
 //! Packets put together of bytes at hand.
 use crate::files::M;
-use mxf_hand::put_together;
-use mxf_read::{AbsorbFault, BytesAt, Extent, Given, InMemory, SourceFault, absorb};
+use mxf_hand::{BytesAt, Extent, Given, InMemory, SourceFault, put_together};
+use mxf_read::{AbsorbFault, absorb};
 use mxf_views::{Chain, Views};
 use std::alloc::Global;
 

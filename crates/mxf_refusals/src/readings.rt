@@ -2,7 +2,7 @@
 use crate::additions::{add, essence};
 use mxf_catalogue::Catalogue;
 use mxf_klv::{Note, OutOfMemory};
-use mxf_verify::{Readings, SourceCounts};
+use mxf_readings::{Readings, SourceCounts};
 use std::alloc::Global;
 
 /// What the sources hold beside each other, even if one growth is refused.

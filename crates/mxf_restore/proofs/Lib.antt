@@ -4,10 +4,6 @@ pub mod HeadLaws
 pub mod DisputedPlaceLaws
 pub mod OrderLaws
 pub mod PlanLaws
-pub mod LayerLaws
-pub mod MapLaws
-pub mod MarkLaws
-pub mod FitLaws
 pub mod HoleLaws
 pub mod ClaimedPlaces
 pub mod SectionCover
@@ -23,5 +19,4 @@ pub mod StartLaws
 pub mod AskedLaws
 pub mod PartLaws
 pub mod MissingLaws
-pub mod ExtentLaws
 pub mod DisputesLaws

@@ -15,7 +15,7 @@ use Rattle.mxf_places.proofs.EndLaws.{in_file_says}
 use Rattle.mxf_places.proofs.FirstLaws.{names_say}
 use Rattle.mxf_places.proofs.HeldLaws.{is_disputed_at-says, is_held-says}
 use Rattle.mxf_places.proofs.OverLaws.{alone, among, moved}
-use Rattle.mxf_restore.specs.Map.{BeginsHead, IsMissing, IsMissingPlace, is_missing, missing_places}
+use Rattle.mxf_restore.specs.Missing.{BeginsHead, IsMissing, IsMissingPlace, is_missing, missing_places}
 
 module _ (notes : List NoteParts) (x : ℕ) where
   head_says : IsTrue (begins_clear_head notes x) ↔ BeginsHead notes x

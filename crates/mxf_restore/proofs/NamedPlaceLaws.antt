@@ -20,7 +20,7 @@ use Rattle.mxf_places.specs.Claims.{claims_of, named_place}
 use Rattle.mxf_places.specs.declared.claim.Claim.{Claim}
 use Rattle.mxf_places.specs.declared.reason.Reason.{Reason}
 use Rattle.mxf_places.specs.declared.reason.Reason.TheVariants.{Header}
-use Rattle.mxf_restore.specs.Map.{is_missing}
+use Rattle.mxf_restore.specs.Missing.{is_missing}
 use Rattle.mxf_restore.specs.NamedPlaces.{AreFirst, IsNamedPlace, NamesPlace, entry_place, is_header, named_place_of}
 use Rattle.mxf_restore.specs.NamedPlaces.{place_cmp, source_in}
 use Rattle.mxf_restore.specs.declared.named.NamedPlace.{NamedPlace}

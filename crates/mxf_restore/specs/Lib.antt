@@ -5,11 +5,8 @@ pub mod Orders
 pub mod WholeFiles
 pub mod DisputedPlaces
 pub mod Fronts
+pub mod Missing
 pub mod NamedPlaces
-pub mod Map
-pub mod Layers
 pub mod Steps
 pub mod Heads
 pub mod Disputes
-pub mod Extents
-pub mod Words

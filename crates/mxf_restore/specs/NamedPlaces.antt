@@ -12,7 +12,7 @@ use Rattle.mxf_places.specs.Claims.{claims_of, named_place}
 use Rattle.mxf_places.specs.declared.claim.Claim.{Claim}
 use Rattle.mxf_places.specs.declared.reason.Reason.{Reason}
 use Rattle.mxf_places.specs.declared.reason.Reason.TheVariants.{Header}
-use Rattle.mxf_restore.specs.Map.{is_missing}
+use Rattle.mxf_restore.specs.Missing.{is_missing}
 use Rattle.mxf_restore.specs.declared.named.NamedPlace.{NamedPlace}
 
 -- The claim names the place, and isn't that of the header partition, which no pack names.

@@ -1,16 +1,17 @@
 //! The places that packs name and that are missing.
-ghost use Rattle.std.specs.Prelude.{◌≡◌, ◌↔◌, IfOk, map};
+ghost use Rattle.std.specs.Prelude.{◌≡◌, ◌↔◌, ℕ, IfOk, IsTrue, List, map};
 ghost use Rattle.std.specs.List.{filter_map};
 ghost use Rattle.std.specs.List.Sorted.{IsStrictlySortedBy};
 ghost use Rattle.std.specs.Map.{keys_of};
 ghost use Rattle.std.specs.Ordering.{nat_cmp};
+ghost use Rattle.mxf_klv.specs.Parts.{NoteParts};
 ghost use Rattle.mxf_klv.specs.Rising.{In, IsRising};
 ghost use Rattle.mxf_places.specs.Claims.{claims_of};
+ghost use Rattle.mxf_restore.specs.Missing.{IsMissing, IsMissingPlace, is_missing, missing_places};
 ghost use Rattle.mxf_restore.specs.NamedPlaces.{AreFirst, IsNamedPlace, entry_place, is_header, named_place_of};
 ghost use Rattle.mxf_restore.specs.NamedPlaces.{place_cmp};
 ghost use Rattle.mxf_restore.specs.declared.named.NamedPlace.{NamedPlace};
 
-use crate::map::is_missing;
 use mxf_klv::{Keyed, OutOfMemory};
 use mxf_places::{Claim, Holdings, Reason};
 use std::alloc::Global;
@@ -118,3 +119,19 @@ fn places_in(
     });
     Ok(places.collect(alloc)?)
 }
+
+/// Whether an offset, in bytes, may lie in the file, and what begins there isn't held whole.
+pub fn is_missing(holdings: &Holdings<'_>, offset: u64) -> bool
+    ensures { result ≡ is_missing holdings.now offset }
+{
+    holdings.is_in_file(offset)
+        && !holdings.is_disputed_at(offset)
+        && (holdings.begins_clear_head(offset) || !holdings.is_held(offset))
+}
+
+/// A law of [`is_missing`] and [`named_places`]: a missing place is one that a pack names and that may lie in the file,
+/// that no disputed packet covers, and where not all that begins there is held.
+pub fn missing_places_by_definition()
+    ensures test { (notes : List NoteParts) (x : ℕ) → IsTrue (is_missing notes x) ↔ IsMissing notes x }
+    ensures places { (notes : List NoteParts) (x : ℕ) → In x (missing_places notes) ↔ IsMissingPlace notes x }
+{}

@@ -31,7 +31,7 @@ pub struct Section {
 
 /// The holes of a file, rising. They take memory.
 #[tactic(auto, unfolding(crate::specs::Sections::holes_of))]
-pub(crate) fn holes(alloc: Global, holdings: &Holdings<'_>) -> Result<Vec<OffsetRange>, OutOfMemory>
+pub fn holes(alloc: Global, holdings: &Holdings<'_>) -> Result<Vec<OffsetRange>, OutOfMemory>
     ensures { IfOk result (λ v. v.items ≡ holes_of holdings.now) }
 {
     let mut holes = holes_below(alloc, holdings)?;

@@ -2,15 +2,14 @@
 use crate::opened::{Opened, open_sources, ungathered};
 use crate::reopened::Reopened;
 use crate::system::System;
-use mxf_hand::{PutTogether, put_together, settle};
+use mxf_hand::{Extent, Given, PutTogether, SourceFault, put_together, settle};
 use mxf_hints::RunFault;
 use mxf_places::AtHand;
-use mxf_read::{
-    Extent, GatherFault, Gathered, Given, PartFault, PieceReports, SourceFault, gather,
-};
+use mxf_read::{GatherFault, Gathered, PartFault, PieceReports, gather};
 use mxf_saving::{LastFault, Source};
 use mxf_views::Views;
 use mxf_watching::Screen;
+use std::alloc::Global;
 use std::io::Read;
 
 /// What sources hold together, which of their bytes are at hand, and where they lie.
@@ -47,32 +46,39 @@ pub fn hold_opened<'r, 'a, R: System, F: Read + Drop>(
 }
 
 /// The same, with the stops of pieces as ends that what is held makes up for.
-pub fn settled(held: HeldBySources, sources: &[Source<'_>]) -> HeldBySources {
+pub fn settled<'a>(
+    alloc: Global,
+    held: HeldBySources,
+    sources: &[Source<'_>],
+) -> Result<HeldBySources, RunFault<'a>> {
     let HeldBySources {
         gathered,
         at_hand,
         extents,
     } = held;
     let Gathered { views, reports } = gathered;
-    let reports = settled_reports(&views, &extents, reports, sources);
-    HeldBySources {
+    let reports = settled_reports(alloc, &views, &extents, reports, sources)?;
+    Ok(HeldBySources {
         gathered: Gathered { views, reports },
         at_hand,
         extents,
-    }
+    })
 }
 
 /// The reports of pieces, with the stops as ends that what is held makes up for, if one of the sources is a range.
-pub fn settled_reports(
+pub fn settled_reports<'a>(
+    alloc: Global,
     views: &Views,
     extents: &[Extent],
     reports: PieceReports,
     sources: &[Source<'_>],
-) -> PieceReports {
-    if has_range(sources) {
-        settle(views, extents, reports)
-    } else {
-        reports
+) -> Result<PieceReports, RunFault<'a>> {
+    if !has_range(sources) {
+        return Ok(reports);
+    }
+    match settle(alloc, views, extents, reports) {
+        Ok(settled) => Ok(settled),
+        Err(_) => Err(RunFault::OutOfMemory),
     }
 }
 

@@ -2,8 +2,9 @@
 use crate::lists::unread;
 use crate::reopened::extent_of;
 use crate::system::System;
+use mxf_hand::Extent;
 use mxf_hints::{RunFault, part_of};
-use mxf_read::{Extent, GatherFault, Part};
+use mxf_read::{GatherFault, Part};
 use mxf_saving::{LastFault, Source};
 use mxf_watching::{Screen, Watched};
 use std::fs::{self, File};

@@ -1,17 +1,17 @@
 //! What is renewed, and what it is renewed by.
 ghost use Rattle.std.specs.Prelude.{◌≡◌, IfOk};
-ghost use Rattle.mxf_verify.specs.Readings.{all_notes};
+ghost use Rattle.mxf_readings.specs.Readings.{all_notes};
 
 use crate::held::{HeldBySources, completed, hold_opened, settled, settled_reports};
 use crate::opened::{Opened, open_sources, ungathered};
 use crate::system::System;
 use mxf_catalogue::Catalogue;
-use mxf_hand::PutTogether;
+use mxf_hand::{Extent, PutTogether};
 use mxf_hints::{Contents, RunFault, Shift, gather_each};
 use mxf_klv::OutOfMemory;
-use mxf_read::{Extent, PieceReports};
+use mxf_read::PieceReports;
+use mxf_readings::joined;
 use mxf_saving::{LastFault, Source};
-use mxf_verify::joined;
 use mxf_views::Views;
 use mxf_watching::Screen;
 use std::alloc::Global;
@@ -42,10 +42,8 @@ pub fn hold_both<'a, R: System>(
     let last = LastFault::new();
     let earlier = open_sources(rt, screen, earlier_sources, &last)?;
     let later = open_sources(rt, screen, later_sources, &last)?;
-    let earlier = settled(
-        hold_opened(rt, earlier, earlier_sources, &last)?,
-        earlier_sources,
-    );
+    let earlier = hold_opened(rt, earlier, earlier_sources, &last)?;
+    let earlier = settled(rt.alloc(), earlier, earlier_sources)?;
     let later = hold_later(rt, later, later_sources, &last)?;
     Ok(Sides { earlier, later })
 }
@@ -83,7 +81,8 @@ fn later_of<'r, 'a, R: System>(
     };
     drop(contents);
     let PutTogether { views, .. } = completed(rt, views, &extents, sources, last)?;
-    let reports = settled_reports(&views, &extents, PieceReports::of(reports), sources);
+    let reports = PieceReports::of(reports);
+    let reports = settled_reports(rt.alloc(), &views, &extents, reports, sources)?;
     Ok(Later {
         views,
         reports,

@@ -21,12 +21,13 @@ use mxf_lines::{
     print_unit_plan, print_verification,
 };
 use mxf_read::{Gathered, PieceReport};
+use mxf_readings::Readings;
 use mxf_saving::{
     BUFFER_BYTES, LastFault, Reservation, SaveFault, Source, SystemFault, WatchedWriter, refusal_of,
 };
 use mxf_sources::{HeldBySources, Lists, System, hold_sources, read_lists, settled, sources_of};
 use mxf_units::UnitRange;
-use mxf_verify::{Readings, Renewed};
+use mxf_verify::Renewed;
 use mxf_views::Views;
 use mxf_watching::Screen;
 use renewing::print_renewal;
@@ -202,7 +203,7 @@ fn print_told<'a, R: System>(
     let held = hold_sources(rt, inputs.telling.screen, inputs.sources)?;
     let held = match asked {
         Told::Answer(Ask::Show) => held,
-        _ => settled(held, inputs.sources),
+        _ => settled(rt.alloc(), held, inputs.sources)?,
     };
     print_held(rt, inputs, asked, &held)
 }
@@ -345,10 +346,8 @@ fn join_at<'a, 'r, R: System>(
     out: &'a str,
     place: Reservation<'r, R>,
 ) -> Result<HeldBySources, RunFault<'a>> {
-    let held = settled(
-        hold_sources(rt, inputs.telling.screen, inputs.sources)?,
-        inputs.sources,
-    );
+    let held = hold_sources(rt, inputs.telling.screen, inputs.sources)?;
+    let held = settled(rt.alloc(), held, inputs.sources)?;
     match place.save(rt, held.gathered.views.catalogue()) {
         Ok(()) => Ok(held),
         Err(fault) => Err(unsaved(out, fault)),

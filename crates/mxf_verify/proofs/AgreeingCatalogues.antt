@@ -10,7 +10,7 @@ use Rattle.mxf_catalogue.specs.Content.{AreReduced, IsCatalogue, has_note, reduc
 use Rattle.mxf_catalogue.proofs.HeadLaws.{AreReduced-reduced_union, IsContent-reduced_union, has-reduced_union, one_reduced}
 use Rattle.mxf_verify.specs.Comparing.{IsHeadOf, SharesHeldByte, is_head_of}
 use Rattle.mxf_verify.specs.Opposing.{is_had}
-use Rattle.mxf_verify.specs.Readings.{all_notes}
+use Rattle.mxf_readings.specs.Readings.{all_notes}
 use Rattle.mxf_verify.specs.Verifications.{IsVerification, VerificationParts}
 use Rattle.mxf_verify.specs.Verifying.{DiffersIn, IsByteOf, IsDiffering, IsHeldBy, Source}
 use Rattle.mxf_verify.specs.Verifying.{Saved}

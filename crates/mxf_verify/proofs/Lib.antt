@@ -1,14 +1,11 @@
 pub mod AgreeingCatalogues
 pub mod AgreementLaws
-pub mod AllNotesLaws
-pub mod AloneLaws
 pub mod ByteLaws
 pub mod CandidateLaws
 pub mod ComparedLaws
 pub mod ComparingLaws
 pub mod FinishingLaws
 pub mod FixityLaws
-pub mod HoldingLaws
 pub mod KnownLaws
 pub mod OneByteLaws
 pub mod OpposingLaws
@@ -21,7 +18,6 @@ pub mod RenewalLaws
 pub mod RenewalSteps
 pub mod SaidLaws
 pub mod SeenLaws
-pub mod SourceLaws
 pub mod TakingLaws
 pub mod ToldLaws
 pub mod TouchCounts

@@ -22,15 +22,16 @@ use Rattle.mxf_views.proofs.NumbersLaws.{count_mapped}
 use Rattle.mxf_verify.specs.Comparing.{Contradicts, is_held_byte_shared}
 use Rattle.mxf_verify.specs.Opposing.{is_had}
 use Rattle.mxf_verify.specs.Others.{is_headed, is_touched, others_of}
-use Rattle.mxf_verify.specs.Readings.{is_held}
+use Rattle.mxf_readings.specs.Readings.{is_held}
 use Rattle.mxf_verify.specs.Telling.{AreThose, TellsOf, notes_at}
 use Rattle.mxf_verify.specs.Verifying.{DiffersIn, IsSameIn, Saved, TouchesIn}
 use Rattle.mxf_verify.specs.declared.told.Told.{Told}
 use Rattle.mxf_verify.proofs.ComparingLaws.{holds_first, share-by_test}
-use Rattle.mxf_verify.proofs.HoldingLaws.{rising_mapped}
+use Rattle.mxf_readings.proofs.HoldingLaws.{rising_mapped}
 use Rattle.mxf_verify.proofs.OpposingLaws.{had-by_test}
-use Rattle.mxf_verify.proofs.SourceLaws.{held_says}
-use Rattle.mxf_verify.proofs.TouchCounts.{count-alike, count-both, count-front, count-some, some-count, touching-count}
+use Rattle.mxf_readings.proofs.SourceLaws.{held_says}
+use Rattle.mxf_verify.proofs.TouchCounts.{touching-count}
+use Rattle.mxf_readings.proofs.CountLaws.{count-alike, count-both, count-front, count-some, some-count}
 
 -- ---- heads in the order of notes
 

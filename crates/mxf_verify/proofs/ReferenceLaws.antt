@@ -15,15 +15,15 @@ use Rattle.mxf_catalogue.specs.Disputes.{IsDisputed, SharesByte, is_disputed}
 use Rattle.mxf_catalogue.specs.ReducedLaws.{rising-filter}
 use Rattle.mxf_catalogue.proofs.DisputeLaws.{is_disputed-IsDisputed}
 use Rattle.mxf_catalogue.proofs.SpanLaws.{offset_le}
-use Rattle.mxf_verify.specs.Readings.{is_held}
+use Rattle.mxf_readings.specs.Readings.{is_held}
 use Rattle.mxf_verify.specs.References.{AreCandidates, is_crowded}
 use Rattle.mxf_verify.specs.Candidates.{offset_of}
 use Rattle.mxf_verify.specs.SourceReads.{AreApart}
 use Rattle.mxf_verify.specs.Verifying.{is_digested}
 use Rattle.mxf_verify.specs.Compared.{fresh}
 use Rattle.mxf_verify.specs.declared.candidate.Candidate.{Candidate}
-use Rattle.mxf_verify.proofs.HoldingLaws.{rising_mapped}
-use Rattle.mxf_verify.proofs.SourceLaws.{held_says}
+use Rattle.mxf_readings.proofs.HoldingLaws.{rising_mapped}
+use Rattle.mxf_readings.proofs.SourceLaws.{held_says}
 
 -- a note with a digest is crowded where it is one of the disputed notes
 pub crowded_disputed : (n : NoteParts) (notes : List NoteParts) (b : Bool) → is_digested n ≡ true

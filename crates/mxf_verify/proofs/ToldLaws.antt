@@ -20,7 +20,7 @@ use Rattle.mxf_catalogue.proofs.Fronts.{rising_front}
 use Rattle.mxf_verify.specs.Candidates.{notes_of, offset_of}
 use Rattle.mxf_verify.specs.Compared.{ComparesBytes}
 use Rattle.mxf_verify.specs.Comparing.{SharesHeldByte}
-use Rattle.mxf_verify.specs.Readings.{is_held}
+use Rattle.mxf_readings.specs.Readings.{is_held}
 use Rattle.mxf_verify.specs.References.{AreCandidates, is_crowded}
 use Rattle.mxf_verify.specs.Telling.{AreThose, TellsOf, notes_at}
 use Rattle.mxf_verify.specs.ToldBytes.{is_met, is_told_differing, is_told_same}

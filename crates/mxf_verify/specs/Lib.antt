@@ -4,12 +4,9 @@ pub mod Compared
 pub mod Comparing
 pub mod Finishing
 pub mod Fixities
-pub mod HoldingOrder
-pub mod Holdings
 pub mod Opposing
 pub mod Others
 pub mod Reaching
-pub mod Readings
 pub mod References
 pub mod Renewing
 pub mod Seen

@@ -6,7 +6,7 @@ use Rattle.mxf_klv.specs.Note.{head_note}
 use Rattle.mxf_catalogue.specs.Disputes.{is_same_note}
 use Rattle.mxf_verify.specs.Comparing.{is_held_byte_shared}
 use Rattle.mxf_verify.specs.Opposing.{is_had}
-use Rattle.mxf_verify.specs.Readings.{is_held}
+use Rattle.mxf_readings.specs.Readings.{is_held}
 
 -- Those of the saved notes that the reference hasn't, in their order.
 unfoldable pub others_of : List NoteParts → List NoteParts → List NoteParts

@@ -4,7 +4,7 @@ use Rattle.std.specs.List.{AllWithin}
 use Rattle.mxf_klv.specs.Parts.{NoteParts}
 use Rattle.mxf_catalogue.specs.Content.{AreReduced, IsCatalogue}
 use Rattle.mxf_catalogue.specs.Disputes.{is_disputed}
-use Rattle.mxf_verify.specs.Readings.{is_held}
+use Rattle.mxf_readings.specs.Readings.{is_held}
 use Rattle.mxf_verify.specs.Verifying.{is_digested}
 use Rattle.mxf_verify.specs.declared.candidate.Candidate.{Candidate}
 

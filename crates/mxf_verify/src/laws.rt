@@ -9,7 +9,7 @@ ghost use Rattle.mxf_klv.specs.Rising.{In, SameMembers};
 ghost use Rattle.mxf_klv.specs.declared.piece.Stop.TheVariants as stops;
 ghost use Rattle.mxf_catalogue.specs.Content.{AreReduced, IsCatalogue, reduced_union};
 ghost use Rattle.mxf_catalogue.specs.Runs.{LiesIn};
-ghost use Rattle.mxf_verify.specs.Readings.{all_notes};
+ghost use Rattle.mxf_readings.specs.Readings.{all_notes};
 ghost use Rattle.mxf_verify.specs.VerificationLaws.{AreAllClear, AreOneByteApart, HasNoEmptyHead, IsWholeReference, SaysSame, SaysWhole};
 ghost use Rattle.mxf_verify.specs.Verifications.{DifferingParts, IsVerification, VerificationParts};
 ghost use Rattle.mxf_verify.specs.Verifying.{IsSaidBy, front_size, held_size, is_digested};

@@ -1,8 +1,6 @@
-//! Readings of a recording beside each other (this project's profile).
+//! A reading of a recording beside an earlier one, and sources beside a reference (this project's profile).
 //!
 //! What is proved, and where it is said:
-//! - which of several contents holds which note, and what all of them hold: [`Readings`], [`sources_by_definition`],
-//!   [`all_notes_by_definition`];
 //! - which notes can't be of one reading, and which notes a catalogue hasn't and contradicts: [`Opposing`],
 //!   [`contradictions_by_definition`], [`oppositions_by_definition`];
 //! - what stays and what is dropped of an earlier catalogue that a later reading renews: [`renew`],
@@ -27,14 +25,12 @@ mod comparing;
 mod comparison;
 mod finishing;
 mod fixity;
-mod holding;
 mod laws;
 mod note_set;
 mod opposing;
 mod others;
 mod ranges;
 mod reading;
-mod readings;
 mod reference;
 mod renewal;
 mod saved;
@@ -54,9 +50,6 @@ pub use laws::{
     one_verification, verifications_are_of_a_set_of_sources, verifications_tell_what_is_so,
 };
 pub use opposing::{Opposing, oppositions_by_definition};
-pub use readings::{
-    Readings, SourceCounts, all_notes_by_definition, joined, sources_by_definition,
-};
 pub use reference::Reference;
 pub use renewal::{
     DroppedNote, DroppedNotes, Renewed, other_recordings_by_definition, renew,

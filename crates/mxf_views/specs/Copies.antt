@@ -55,6 +55,10 @@ is_set kinds.SourcePackage = true
 is_set kinds.RawSet = true
 is_set _ = false
 
+-- The kinds of header metadata: primer packs, metadata sets and raw sets.
+abbrev pub IsMetadataKind : Kind → Type 0
+IsMetadataKind kind = (kind ≡ kinds.Primer) ⊎ IsSetKind kind
+
 -- A readable primer pack (ST 377-1, Primer Pack).
 unfoldable pub is_readable_primer : NoteParts → Bool
 is_readable_primer n = is_primer (kind_of n.key) && is_some (read_as primer_at n)

@@ -13,7 +13,7 @@ use super::lines::{Each, Line, Printer, Series, Then, print_with_status};
 use mxf_catalogue::DisputedNotes;
 use mxf_forms::{FieldWriter, Form, HexDigits};
 use mxf_klv::{Held, Note};
-use mxf_verify::{Readings, SourceCounts};
+use mxf_readings::{Readings, SourceCounts};
 use sha2::{Digest, Sha256};
 use std::alloc::{AllocError, Global};
 use std::io::Write;

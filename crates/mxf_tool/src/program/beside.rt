@@ -3,8 +3,8 @@ use super::{Inputs, Printed, print_answer, told};
 use mxf_catalogue::Catalogue;
 use mxf_forms::Form;
 use mxf_hints::{Contents, Exit, RunFault};
+use mxf_readings::Readings;
 use mxf_sources::{System, names_of, read_each};
-use mxf_verify::Readings;
 
 /// Prints what each source holds, and which source has which disputed note.
 pub fn print_beside<'a, R: System>(rt: &R, inputs: Inputs<'_, 'a>) -> Result<Exit, RunFault<'a>> {

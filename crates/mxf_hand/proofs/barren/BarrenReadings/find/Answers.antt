@@ -1,6 +1,6 @@
 use Rattle.std.proofs.Common.{Option, IfSome, subst}
-use Rattle.mxf_read.specs.declared.given.noting.Reading.{Reading}
-use Rattle.mxf_read.specs.Noting.{IsReading}
+use Rattle.mxf_hand.specs.declared.given.noting.Reading.{Reading}
+use Rattle.mxf_hand.specs.Noting.{IsReading}
 use Rattle.mxf_hand.specs.Hand.{read_bytes}
 use Rattle.mxf_hand.proofs.barren.BarrenReadings.find.Goals as goal
 

@@ -1,6 +1,6 @@
 use Rattle.std.proofs.Common.{◌≡◌, List, [], subst, sym}
 use Rattle.mxf_klv.specs.Parts.{NoteParts}
-use Rattle.mxf_read.specs.Noting.{IsReading}
+use Rattle.mxf_hand.specs.Noting.{IsReading}
 use Rattle.mxf_hand.specs.Barren.{AreAllBarren, IsBarren}
 use Rattle.mxf_hand.specs.Hand.{read_bytes}
 use Rattle.mxf_hand.proofs.BarrenLaws.{kept_barren}

@@ -2,7 +2,7 @@ use Rattle.std.proofs.Common.{◌∙◌, ◌+◌, [], map, refl, subst, sym, Opt
 use Rattle.mxf_klv.specs.Parts.{NoteParts}
 use Rattle.mxf_catalogue.specs.Covers.{with_run}
 use Rattle.mxf_catalogue.specs.Runs.{run}
-use Rattle.mxf_read.specs.Noting.{option_list}
+use Rattle.mxf_read.specs.Feeding.{option_list}
 use Rattle.mxf_hand.specs.Finding.{Grows}
 use Rattle.mxf_hand.specs.declared.found.CutHead.{CutHead}
 use Rattle.mxf_hand.specs.declared.found.Found.{Found}

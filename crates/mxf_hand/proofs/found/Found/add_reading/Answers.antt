@@ -1,6 +1,6 @@
 use Rattle.std.proofs.Common.{◌++◌, List, [], append-nil, map, refl}
 use Rattle.mxf_hand.specs.declared.found.CutHead.{CutHead}
-use Rattle.mxf_read.specs.Noting.{option_list}
+use Rattle.mxf_read.specs.Feeding.{option_list}
 use Rattle.mxf_hand.proofs.FindingLaws.{grow_twice, same_growth}
 use Rattle.mxf_hand.proofs.found.Found.add_reading.Goals as goal
 

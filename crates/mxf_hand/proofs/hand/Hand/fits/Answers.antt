@@ -3,7 +3,7 @@ use Rattle.std.proofs.Common.{◌≢◌}
 use Rattle.mxf_klv.specs.Rising.{In}
 use Rattle.mxf_catalogue.specs.declared.run.Run.{Run}
 use Rattle.mxf_catalogue.specs.Runs.{LiesIn}
-use Rattle.mxf_read.specs.Given.{AreTold, bytes_between}
+use Rattle.mxf_hand.specs.Given.{AreTold, bytes_between}
 use Rattle.mxf_hand.specs.Hand.{HandParts}
 use Rattle.mxf_hand.specs.Heads.{key_and_length}
 use Rattle.mxf_hand.proofs.FitLaws.{between_lies, between_part, stands, unfit}

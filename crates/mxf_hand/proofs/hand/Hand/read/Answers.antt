@@ -1,8 +1,8 @@
 use Rattle.std.proofs.Common.{◌≡◌, ◌∙◌, ◌<◌, ℕ, List, ap, subst, sym}
 use Rattle.std.specs.Result.{IfOk}
 use Rattle.mxf_catalogue.specs.declared.run.Run.{Run}
-use Rattle.mxf_read.specs.Given.{bytes_between}
-use Rattle.mxf_read.specs.Noting.{IsReading}
+use Rattle.mxf_hand.specs.Given.{bytes_between}
+use Rattle.mxf_hand.specs.Noting.{IsReading}
 use Rattle.mxf_hand.specs.Hand.{AreToldIn, HandBytes, HandParts, read_bytes, read_to}
 use Rattle.mxf_hand.proofs.HandLaws.{read_lies}
 use Rattle.mxf_hand.proofs.hand.Hand.read.Goals as goal

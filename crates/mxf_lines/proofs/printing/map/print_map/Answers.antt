@@ -3,9 +3,9 @@ use Rattle.std.proofs.KnownBytes.{Appends-nil}
 use Rattle.std.proofs.lemmas.Result.{err_from_is_err_and}
 use Rattle.mxf_klv.specs.Written.{Writes}
 use Rattle.mxf_places.specs.AtHand.{KnownParts}
-use Rattle.mxf_restore.specs.Map.{IsMap, MapParts}
-use Rattle.mxf_restore.specs.declared.map.extent.MapExtent.{MapExtent}
-use Rattle.mxf_restore.proofs.MarkLaws.{one_map}
+use Rattle.mxf_map.specs.Map.{IsMap, MapParts}
+use Rattle.mxf_map.specs.declared.extent.MapExtent.{MapExtent}
+use Rattle.mxf_map.proofs.MarkLaws.{one_map}
 use Rattle.mxf_lines.specs.MapLines.{AreToldExtents, map_lines}
 use Rattle.mxf_lines.specs.Printing.{Prints}
 use Rattle.mxf_lines.proofs.MapLineLaws.{one_told}

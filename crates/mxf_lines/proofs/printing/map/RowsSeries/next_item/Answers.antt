@@ -1,6 +1,6 @@
 use Rattle.std.proofs.Common.{◌∙◌, ◌≡◌, ◌+◌, ◌-◌, ◌*◌, ◌<◌, ◌∷◌, List, ℕ, ap, arith, decimal, drop, length, min, sym, take}
 use Rattle.std.proofs.lemmas.List.{length-drop}
-use Rattle.mxf_restore.specs.declared.map.Mark.{Mark}
+use Rattle.mxf_map.specs.declared.map.Mark.{Mark}
 use Rattle.mxf_lines.specs.MapLines.{row_line, rows_of}
 use Rattle.mxf_lines.proofs.MapLineLaws.{first_row, some_left}
 use Rattle.mxf_lines.proofs.printing.map.RowsSeries.next_item.Goals as goal

@@ -1,0 +1,5 @@
+pub mod LayerLaws
+pub mod MapLaws
+pub mod MarkLaws
+pub mod FitLaws
+pub mod ExtentLaws

@@ -1,0 +1,10 @@
+-- The bytes so far, with those of the runs that are to come.
+use Rattle.std.proofs.Common.{◌≡◌, ◌+◌}
+use Rattle.std.specs.List.{AllByRecursion}
+use Rattle.mxf_catalogue.specs.Covers.{IsRun}
+use Rattle.mxf_places.specs.Held.{bytes_of}
+use Rattle.mxf_map.proofs.map.bytes_of.Given as goal
+
+abbrev pub invariant-loop-run : goal.invariant-loop-run
+invariant-loop-run l =
+    (l.bytes + bytes_of l.run-iterator ≡ bytes_of l.set) × AllByRecursion IsRun l.run-iterator

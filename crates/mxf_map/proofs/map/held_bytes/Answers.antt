@@ -1,0 +1,13 @@
+use Rattle.std.proofs.Common.{◌∙◌, List, subst}
+use Rattle.mxf_klv.specs.Parts.{NoteParts}
+use Rattle.mxf_catalogue.specs.NoteLists.{Covers}
+use Rattle.mxf_map.proofs.MapLaws.{held_is}
+use Rattle.mxf_map.proofs.map.held_bytes.Goals as goal
+
+pub returns : goal.returns
+returns c =
+    let same = c.catalogue.ensures ∙ c.views.ensures ∙ c.holdings.ensures in
+    c.bytes_of.ensures.bytes
+    ∙ held_is c.args.layers.now c.spans.result.now
+    (subst (λ (notes : List NoteParts). Covers c.spans.result.now notes) same c.spans.ensures.spans)
+    c.bytes_of.ensures.cover

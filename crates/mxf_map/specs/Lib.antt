@@ -1,0 +1,4 @@
+pub mod Map
+pub mod Layers
+pub mod Extents
+pub mod Words

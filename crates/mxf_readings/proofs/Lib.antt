@@ -1,0 +1,5 @@
+pub mod CountLaws
+pub mod SourceLaws
+pub mod HoldingLaws
+pub mod AllNotesLaws
+pub mod AloneLaws

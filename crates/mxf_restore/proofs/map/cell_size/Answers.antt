@@ -1,5 +1,0 @@
-use Rattle.mxf_restore.proofs.MapLaws.{rounded_up}
-use Rattle.mxf_restore.proofs.map.cell_size.Goals as goal
-
-pub returns-clause-size : goal.returns-clause-size
-returns-clause-size c = rounded_up c.args.end c.args.cells c.requires.some c.requires.cells

@@ -1,9 +1,0 @@
--- The set, with the offsets that are to come.
-use Rattle.std.proofs.Common.{◌≡◌, [], drop, map}
-use Rattle.mxf_catalogue.specs.Covers.{union_of_runs}
-use Rattle.mxf_restore.proofs.LayerLaws.{first_byte}
-use Rattle.mxf_restore.proofs.map.offsets.set_of.Given as goal
-
-abbrev pub invariant-loop-offset : goal.invariant-loop-offset
-invariant-loop-offset l =
-    union_of_runs l.set (map first_byte (drop l.offset-index l.offsets)) ≡ union_of_runs [] (map first_byte l.offsets)
