@@ -29,7 +29,7 @@ LIBRARIES = (
     "mxf_lines",
 )
 # What the program is made of beside them.
-PROGRAM = ("mxf_asked", "mxf_saving", "mxf_watching", "mxf_commands", "mxf_hints", "mxf_tool")
+PROGRAM = ("mxf_asked", "mxf_saving", "mxf_watching", "mxf_commands", "mxf_hints", "mxf_sources", "mxf_tool")
 IMPORT = re.compile(r"^ghost use Rattle\.(mxf_\w+)\.specs\.(\w+)\.\{([^}]*)\};", re.MULTILINE)
 # Modules of small files alone, of which docs/MODEL.md names the file.
 EXAMPLES = re.compile(r"Worked\w+|RefusedFiles")

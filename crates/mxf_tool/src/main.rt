@@ -3,7 +3,6 @@
 
 mod answered;
 mod program;
-mod reopened;
 
 use mxf_watching::Screen;
 use std::io::IsTerminal;

@@ -2,10 +2,7 @@
 ghost use Rattle.std.specs.Prelude.{◌≡◌, IfOk};
 ghost use Rattle.mxf_tool.specs.Verifying.{AreAskedBy, AreToldOf, open_of};
 
-use super::{
-    HeldBySources, Inputs, Printed, System, hold_opened, open_sources, print_answer, told,
-    ungathered,
-};
+use super::{Inputs, Printed, print_answer, told};
 use mxf_asked::{IndexedUnits, Verifying};
 use mxf_forms::Form;
 use mxf_hints::{Exit, RunFault, range_of, tell_foreign, tell_index, tell_offsets, tell_on_screen};
@@ -14,6 +11,7 @@ use mxf_lines::Verified;
 use mxf_places::AtHand;
 use mxf_read::{Gathered, Part};
 use mxf_saving::LastFault;
+use mxf_sources::{HeldBySources, System, hold_opened, open_sources, ungathered};
 use mxf_units::{UnitRange, Units};
 use mxf_verify::{Verification, VerifiedUnits, VerifyFault, verify};
 use mxf_views::Views;

@@ -1,8 +1,8 @@
 //! Sources that are read again: their files are opened once more, by their paths.
 ghost use Rattle.std.specs.Prelude.{◌≤◌, IfOk, length};
 
-use mxf_klv::MAX;
 use mxf_hand::{Extent, Sources};
+use mxf_klv::MAX;
 use mxf_read::Step;
 use mxf_saving::{LastFault, Source};
 use std::fs::{self, File};
