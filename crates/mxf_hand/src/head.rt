@@ -7,11 +7,9 @@ ghost use Rattle.mxf_hand.specs.Heads.{heads_to, key_and_length};
 
 use mxf_catalogue::Catalogue;
 use mxf_klv::{Ber, Encode, Keyed, Note, OutOfMemory, below};
+use mxf_places::KEY_AND_LENGTH;
 use std::alloc::Global;
 use std::marker::Model;
-
-/// The bytes that key and length of a packet can have at most (ST 336: a key of 16 bytes, a length of 9).
-const KEY_AND_LENGTH: u64 = 25;
 
 /// A head: a packet whose key and length alone are held.
 #[derive(Clone, Copy)]

@@ -1,4 +1,4 @@
-//! Laws of what is put together.
+//! The laws of what is put together: functions that do nothing, whose clauses hold of all values.
 ghost use Rattle.std.specs.Prelude.{◌≡◌, ℕ, List};
 ghost use Rattle.mxf_klv.specs.Parts.{NoteParts, PacketParts};
 ghost use Rattle.mxf_klv.specs.Piece.{notes_from};
@@ -11,6 +11,8 @@ ghost use Rattle.mxf_hand.specs.Given.{SourceParts};
 ghost use Rattle.mxf_hand.specs.File.{AreBytesOfFile, AreOfFile, BeginAtPackets, HeadsHaveValues, IsAllAtHand};
 ghost use Rattle.mxf_hand.specs.Hand.{AreOf, HandBytes};
 ghost use Rattle.mxf_hand.specs.Rounds.{put_together, round, rounds};
+
+pub use crate::settling::whole_stops_by_definition;
 
 /// A law of [`put_together`](crate::put_together): it is a function of the content and of the set of sources. The order
 /// and the repeats of sources don't matter, nor does it which of those that give a byte is read.

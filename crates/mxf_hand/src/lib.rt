@@ -9,15 +9,16 @@
 //! What sources give of the file is a [`Given`], and [`Sources`] are read again at its offsets.
 //!
 //! What is proved: the answer is its function of the content and of the bytes at hand, whichever source they are read
-//! of. Laws: the order of sources doesn't matter ([`one_content_of_sources`]), what is held stays
-//! ([`what_is_held_stays`]), and what is clear stays clear ([`what_is_clear_stays_clear`]). If what packs say of places
-//! is right in each round, only packets of a file are made of that file's bytes ([`only_packets_of_the_file`]). If all
-//! bytes of a well-formed file are at hand as well, all of its packets are ([`the_whole_file_is_put_together`]). If one
-//! more round changes nothing, what was saved changes nothing beside the same sources ([`saved_beside_its_sources`]).
-//! What is said of histories of calls is said of it ([`put_together_is_a_history`]).
+//! of. Laws: the order of sources doesn't matter ([`laws::one_content_of_sources`]), what is held stays
+//! ([`laws::what_is_held_stays`]), and what is clear stays clear ([`laws::what_is_clear_stays_clear`]). If what packs
+//! say of places is right in each round, only packets of a file are made of that file's bytes
+//! ([`laws::only_packets_of_the_file`]). If all bytes of a well-formed file are at hand as well, all of its packets are
+//! ([`laws::the_whole_file_is_put_together`]). If one more round changes nothing, what was saved changes nothing beside
+//! the same sources ([`laws::saved_beside_its_sources`]). What is said of histories of calls is said of it
+//! ([`laws::put_together_is_a_history`]).
 //!
 //! A range that ends inside a packet, or lies in one, then has nothing missing: [`settle`] takes such a piece for whole
-//! ([`whole_stops_by_definition`]).
+//! ([`laws::whole_stops_by_definition`]).
 //!
 //! What two ranges hold together with what is put together of their bytes:
 //!
@@ -34,16 +35,11 @@ mod found;
 mod given;
 mod hand;
 mod head;
-mod laws;
+pub mod laws;
 mod putting;
 mod section;
 mod settling;
 
 pub use given::{BytesAt, Extent, Given, InMemory, Reading, SourceFault, Sources};
-pub use laws::{
-    one_content_of_sources, only_packets_of_the_file, put_together_is_a_history,
-    saved_beside_its_sources, the_whole_file_is_put_together, what_is_clear_stays_clear,
-    what_is_held_stays,
-};
 pub use putting::{PutTogether, put_together};
-pub use settling::{settle, whole_stops_by_definition};
+pub use settling::settle;

@@ -1,7 +1,7 @@
 -- What is held of a file, as a picture of cells (this project's profile).
-use Rattle.std.specs.Prelude.{◌≡◌, ◌⊎◌, ℕ, ◌+◌, ◌-◌, ◌/◌, ◌<◌, ◌≤◌, Bool, false, ◌&&◌, ◌||◌, not, nat_lt, max, min}
+use Rattle.std.specs.Prelude.{◌≡◌, ℕ, ◌+◌, ◌-◌, ◌/◌, ◌<◌, ◌≤◌, ◌&&◌, not, nat_lt, max, min}
 use Rattle.std.specs.Prelude.{List, [], ◌∷◌, count_by, filter, length, map}
-use Rattle.std.specs.List.{filter_map, range_with_len}
+use Rattle.std.specs.List.{range_with_len}
 use Rattle.mxf_klv.specs.declared.kinds.Kind.{Kind}
 use Rattle.mxf_klv.specs.declared.kinds.Kind.TheVariants as kinds
 use Rattle.mxf_klv.specs.Parts.{NoteParts}
@@ -13,13 +13,11 @@ use Rattle.mxf_sets.specs.declared.pack.part.PackPart.TheVariants as parts
 use Rattle.mxf_catalogue.specs.Disputes.{IsClear, disputed_notes}
 use Rattle.mxf_views.specs.Copies.{IsMetadataKind}
 use Rattle.mxf_views.specs.Partitions.{PartitionParts, partitions_of}
-use Rattle.mxf_places.specs.Held.{IsDisputedAt, IsHeld, begins_clear_head, is_disputed_at, is_held, is_in_file}
+use Rattle.mxf_places.specs.Held.{IsDisputedAt, IsHeld, is_held}
 use Rattle.mxf_places.specs.AtHand.{KnownParts, edge_of, has_offset}
 use Rattle.mxf_catalogue.specs.declared.run.Run.{Run}
 use Rattle.mxf_catalogue.specs.Runs.{LiesIn}
-use Rattle.mxf_places.specs.Claims.{claims_of, named_place}
-use Rattle.mxf_places.specs.Named.{IsInFile, Names, StandsAlone}
-use Rattle.mxf_places.specs.declared.claim.Claim.{Claim}
+use Rattle.mxf_restore.specs.Missing.{missing_places}
 use Rattle.mxf_restore.specs.Sections.{holes_of}
 use Rattle.mxf_map.specs.declared.map.Mark.{Mark}
 use Rattle.mxf_map.specs.declared.map.Mark.TheVariants as marks

@@ -4,9 +4,10 @@
 //! Both are functions of the content of a catalogue and of the bytes at hand. What is held and where the file ends is
 //! asked of mxf_places, the holes and the places that are missing of mxf_restore.
 //!
-//! What is proved: [`Map::of`] and [`extents`] answer these functions. Each cell of a map has one mark ([`one_mark`]),
-//! and of a content two maps of as many cells are one ([`one_map`]). The bytes of a map are cut into the maximal ranges
-//! that stand alike ([`byte_standings_by_definition`], [`extents_by_definition`]).
+//! What is proved: [`Map::of`] and [`extents`] answer these functions. Each cell of a map has one mark
+//! ([`laws::one_mark`]), and of a content two maps of as many cells are one ([`laws::one_map`]). The bytes of a map are
+//! cut into the maximal ranges that stand alike ([`laws::byte_standings_by_definition`],
+//! [`laws::extents_by_definition`]).
 //!
 //! That memory is there, and that a call succeeds with it, is tested.
 //!
@@ -21,9 +22,8 @@
 #![tactic(auto)]
 
 mod extent;
+pub mod laws;
 mod map;
 
-pub use extent::{
-    ByteStanding, MapExtent, byte_standings_by_definition, extents, extents_by_definition,
-};
-pub use map::{Map, Mark, one_map, one_mark};
+pub use extent::{ByteStanding, MapExtent, extents};
+pub use map::{Map, Mark};

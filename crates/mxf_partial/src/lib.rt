@@ -6,9 +6,10 @@
 //! first: footer partitions and index table segments whole, and the fronts of sections in which partitions may stand.
 //! Then it orders the bytes of the units that are known, less what is held or at hand.
 //!
-//! What is proved: [`UnitPlan::of`] answers the one plan for some units ([`one_unit_plan`]). Each byte that is wanted
-//! of a unit is held, at hand or ordered, so if nothing is ordered, all of them are there ([`wanted_bytes_are_there`]);
-//! and an order of bytes of units has none that is held or at hand ([`orders_of_units_are_missing`]).
+//! What is proved: [`UnitPlan::of`] answers the one plan for some units ([`laws::one_unit_plan`]). Each byte that is
+//! wanted of a unit is held, at hand or ordered, so if nothing is ordered, all of them are there
+//! ([`laws::wanted_bytes_are_there`]); and an order of bytes of units has none that is held or at hand
+//! ([`laws::orders_of_units_are_missing`]).
 //!
 //! It isn't promised that units without an index, or after packs that nothing names, are found. It is tested that no
 //! order is left in the end, if what was ordered is handed in again and again.
@@ -28,9 +29,10 @@
 
 mod asks;
 mod between;
-mod finding;
 mod greatest;
 mod in_streams;
+pub mod laws;
+mod leads;
 mod named;
 mod near;
 mod place_streams;
@@ -40,4 +42,4 @@ mod streams;
 mod wanted;
 mod ways;
 
-pub use plan::{UnitPlan, one_unit_plan, orders_of_units_are_missing, wanted_bytes_are_there};
+pub use plan::UnitPlan;

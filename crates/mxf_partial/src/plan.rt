@@ -18,7 +18,7 @@ ghost use Rattle.mxf_partial.specs.Orders.{known_end, unit_order};
 ghost use Rattle.mxf_partial.specs.Wanted.{IsWantedByte, WantedParts, are_indexed, is_indexed};
 
 use crate::asks::asked_places;
-use crate::finding::{add_fronts, helping_orders};
+use crate::leads::{add_fronts, helping_orders};
 use crate::wanted::{add_extent, wanted_bytes};
 use mxf_catalogue::{Cover, Semilattice};
 use mxf_klv::{MAX, OutOfMemory, sort_once};
@@ -134,11 +134,18 @@ fn finding_orders(
 {
     let is_described = is_described(units, range);
     let sections = sections(alloc, units.holdings(), claims)?;
-    let pieces = SectionOrders::of(alloc, units.holdings(), units.at_hand(), claims)?;
-    let mut orders = helping_orders(alloc, &pieces, &sections, is_described)?;
+    let section_orders = SectionOrders::of(alloc, units.holdings(), units.at_hand(), claims)?;
+    let mut orders = helping_orders(alloc, &section_orders, &sections, is_described)?;
     let is_index_sought = is_none(&orders);
     let asked = asked_places(alloc, units, range, named, is_index_sought)?;
-    add_fronts(alloc, &mut orders, &pieces, &sections, is_described, &asked)?;
+    add_fronts(
+        alloc,
+        &mut orders,
+        &section_orders,
+        &sections,
+        is_described,
+        &asked,
+    )?;
     Ok(orders)
 }
 

@@ -23,11 +23,12 @@
 //! | What do packs say of offsets? | [`claims`] | each [`Claim`] with its [`Reason`], by reason and then source |
 //!
 //! What is proved: each call answers its function of the notes of the catalogue. The laws say what these are in the
-//! words of the standards: [`held_by_definition`], what is held and what is disputed, where the file ends, what may lie
-//! in it, and at which offsets it isn't known what begins; [`edges_by_definition`], how far it reaches;
-//! [`lacking_by_definition`], which ranges a set of offsets lacks; [`fills_by_definition`], where one comes to by going
-//! on over fills; [`zones_by_definition`], where the stretches lie that a partition counts; [`claims_by_definition`],
-//! what packs claim of offsets; and [`claims_in_order`], in which order, and which claim of an offset goes first.
+//! words of the standards: [`laws::held_by_definition`], what is held and what is disputed, where the file ends, what
+//! may lie in it, and at which offsets it isn't known what begins; [`laws::edges_by_definition`], how far it reaches;
+//! [`laws::lacking_by_definition`], which ranges a set of offsets lacks; [`laws::fills_by_definition`], where one comes
+//! to by going on over fills; [`laws::zones_by_definition`], where the stretches lie that a partition counts;
+//! [`laws::claims_by_definition`], what packs claim of offsets; and [`laws::claims_in_order`], in which order, and
+//! which claim of an offset goes first.
 //!
 //! The places that packs name and that aren't held:
 //!
@@ -47,14 +48,12 @@ mod at_hand;
 mod claim;
 mod fills;
 mod held;
+pub mod laws;
 mod reason;
 mod stretch;
 
-pub use at_hand::{
-    AtHand, KEY_AND_LENGTH, OffsetRange, lacking_by_definition, ranges_lacking, up_to_bound,
-};
-pub use claim::{Claim, claims, claims_by_definition, claims_in_order};
-pub use fills::fills_by_definition;
-pub use held::{Holdings, edges_by_definition, held_by_definition};
+pub use at_hand::{AtHand, KEY_AND_LENGTH, OffsetRange, ranges_lacking, up_to_bound};
+pub use claim::{Claim, claims};
+pub use held::Holdings;
 pub use reason::Reason;
-pub use stretch::{Stretch, Zone, behind_metadata, zone_of, zones_by_definition};
+pub use stretch::{Stretch, Zone, behind_metadata, zone_of};

@@ -38,7 +38,7 @@ use std::io::Read;
 pub const GREATEST_PIECE: u64 = 1_099_511_627_776;
 
 /// The greatest number of bytes of a range that are searched for its start.
-const GREATEST_WINDOW: u64 = 33_554_432;
+pub const GREATEST_WINDOW: u64 = 33_554_432;
 
 /// The greatest number of bytes of the file of a catalogue.
 const GREATEST_SAVED: u64 = 1_073_741_824;

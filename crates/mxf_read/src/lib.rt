@@ -6,17 +6,19 @@
 //!
 //! What is proved: after [`absorb`] the views hold what they held and the notes of the piece: those of its packets, and
 //! the head of the packet that its end cuts. The report gives the number of packets and why they end. Out of memory,
-//! the views hold what they held and the notes of the packets that the fault counts, and [`going_on_completes_a_piece`]
-//! says that the rest completes the piece; [`going_on_after_a_fault_completes_a_piece`] says it of what a reader gave.
-//! [`packets_of_a_piece_stand_apart`] says how the notes of a piece lie.
+//! the views hold what they held and the notes of the packets that the fault counts, and
+//! [`laws::going_on_completes_a_piece`] says that the rest completes the piece;
+//! [`laws::going_on_after_a_fault_completes_a_piece`] says it of what a reader gave.
+//! [`laws::packets_of_a_piece_stand_apart`] says how the notes of a piece lie.
 //!
 //! [`notes_from`] makes a catalogue of the notes of a piece, if no views are wanted; [`absorb_from`] does that and
 //! moves them into views.
 //!
 //! [`gather`] takes any number of pieces, ranges and saved catalogues, from readers: what they hold together is exactly
 //! what they hand, and a fault names the part that it is of. A range is bytes whose first may lie inside a packet:
-//! [`start_of`] says where its piece begins, and [`each_range_has_one_start`] that this is the one place. It is looked
-//! for in the first 33,554,432 bytes, and [`each_start_in_the_window_is_found`] says that none is missed there.
+//! [`start_of`] says where its piece begins, and [`laws::each_range_has_one_start`] that this is the one place. It is
+//! looked for in the first 33,554,432 bytes, and [`laws::each_start_in_the_window_is_found`] says that none is missed
+//! there.
 //!
 //! Callers that read otherwise feed a [`Piece`], or a [`ComingValue`] after a known key and length. Each read is a
 //! [`read_step`].
@@ -46,23 +48,22 @@
 mod absorbing;
 mod coming;
 mod gathering;
+pub mod laws;
 mod piece;
 mod range;
 mod reading;
 mod report;
 mod ticks;
 
-pub use absorbing::{
-    PieceNotes, absorb, absorb_from, going_on_after_a_fault_completes_a_piece,
-    going_on_completes_a_piece, notes_from, packets_of_a_piece_stand_apart,
-};
+pub use absorbing::{PieceNotes, absorb, absorb_from, notes_from};
 pub use coming::ComingValue;
 pub use gathering::{
-    GREATEST_PIECE, GatherFault, Gathered, Part, PartFault, PieceReport, PieceReports, gather,
+    GREATEST_PIECE, GREATEST_WINDOW, GatherFault, Gathered, Part, PartFault, PieceReport,
+    PieceReports, gather,
 };
 pub use mxf_klv::Stop;
 pub use piece::Piece;
-pub use range::{each_range_has_one_start, each_start_in_the_window_is_found, start_of};
+pub use range::start_of;
 pub use reading::{GREATEST_INTERRUPTIONS, Step, read_step};
 pub use report::{AbsorbFault, Report};
 pub use ticks::ReadTicks;

@@ -2,8 +2,8 @@
 //! (this project's profile).
 //!
 //! What is proved: [`Readings`] and [`joined`] answer functions of the contents of the sources. The sources of a note are
-//! those that have it ([`sources_by_definition`]). What all of them hold is the reduced union of their contents
-//! ([`all_notes_by_definition`]).
+//! those that have it ([`laws::sources_by_definition`]). What all of them hold is the reduced union of their contents
+//! ([`laws::all_notes_by_definition`]).
 //!
 //! That memory is there, and that a call succeeds with it, is tested.
 //!
@@ -18,8 +18,7 @@
 #![tactic(auto)]
 
 mod holding;
+pub mod laws;
 mod readings;
 
-pub use readings::{
-    Readings, SourceCounts, all_notes_by_definition, joined, sources_by_definition,
-};
+pub use readings::{Readings, SourceCounts, joined};

@@ -1,7 +1,7 @@
 //! What to restore next of a file that is held in parts: the plan, and what is disputed (this project's profile).
 //!
-//! It is a function of the content of a catalogue, what packs name and count, and which offsets no packet covers; and of
-//! the bytes at hand. What is there in sources, and in no noted packet, isn't ordered.
+//! It is a function of the content of a catalogue, what packs name and count, and which offsets no packet covers; and
+//! of the bytes at hand. What is there in sources, and in no noted packet, isn't ordered.
 //!
 //! What is held, where the file ends and what packs claim of offsets is asked of mxf_places. Whoever needs only some of
 //! the bytes asks what is ordered of a single section, or of its front, where a partition may begin
@@ -9,13 +9,13 @@
 //!
 //! What is proved: [`Plan::of`], [`SectionOrders`] and [`named_places`] answer these functions. Laws
 //! (`.._by_definition`) say what they are made of, beside those of mxf_places: the holes and their sections, what is
-//! asked for of a section ([`asked_by_definition`]) and what is ordered ([`orders_by_definition`]), the disputed and
-//! the missing places, and the front of a section. Each missing byte below the end is at hand or lies in an order
-//! ([`gaps_are_ordered`]). No byte of an order is held but for the key and length of a head at its start
-//! ([`orders_are_missing`]). No two orders begin at one offset ([`starts_are_apart`]). If nothing is at hand, all that
-//! is asked for is ordered ([`orders_where_nothing_is_at_hand`]). Nothing of a whole file is ordered
-//! ([`whole_files_have_no_order`]). How many packets are disputed, and where, is by the disputed notes
-//! ([`Disputes::of`], [`disputes_by_definition`]).
+//! asked for of a section ([`laws::asked_by_definition`]) and what is ordered ([`laws::orders_by_definition`]), the
+//! disputed and the missing places, and the front of a section. Each missing byte below the end is at hand or lies in
+//! an order ([`laws::gaps_are_ordered`]). No byte of an order is held but for the key and length of a head at its start
+//! ([`laws::orders_are_missing`]). No two orders begin at one offset ([`laws::starts_are_apart`]). If nothing is at
+//! hand, all that is asked for is ordered ([`laws::orders_where_nothing_is_at_hand`]). Nothing of a whole file is
+//! ordered ([`laws::whole_files_have_no_order`]). How many packets are disputed, and where, is by the disputed notes
+//! ([`Disputes::of`], [`laws::disputes_by_definition`]).
 //!
 //! That no order is left in the end, if what was ordered is handed in again and again, is tested.
 //!
@@ -34,17 +34,14 @@ mod disputed_place;
 mod disputes;
 mod first;
 mod head;
+pub mod laws;
 mod named;
 mod order;
 mod plan;
 mod section;
 
-pub use disputes::{Disputes, disputes_by_definition};
-pub use named::{NamedPlace, is_missing, missing_places_by_definition, named_places};
-pub use order::{SectionOrders, asked_by_definition, fronts_by_definition, is_again};
-pub use plan::{
-    DisputedPlace, Order, Plan, disputed_places_by_definition, gaps_are_ordered,
-    orders_are_missing, orders_by_definition, orders_where_nothing_is_at_hand, starts_are_apart,
-    whole_files_have_no_order,
-};
-pub use section::{Section, holes, holes_by_definition, sections, sections_by_definition};
+pub use disputes::Disputes;
+pub use named::{NamedPlace, missing_places_by_definition, named_places};
+pub use order::{SectionOrders, is_again};
+pub use plan::{DisputedPlace, Order, Plan};
+pub use section::{Section, holes, sections};

@@ -26,14 +26,15 @@
 //! its key.
 //!
 //! What is proved: each answer is its definition over the notes of the catalogue and what is at hand beside them
-//! (`unit_of`, `index_sids_of`, `named_index_sids_of`). The laws say more: [`standings_by_definition`], that each
-//! standing has its cause, and a unit one standing; [`extents_by_definition`], where the bytes of a unit lie, and for
-//! which units that is given; [`entries_by_definition`], what its entry says; [`held_units_are_held`], that a unit
-//! which stands as held has each byte held, and [`units_at_hand_are_known`], that one which stands as at hand has each
-//! held or at hand; [`units_of_whole_files_are_held`], that the units of a file held whole stand as held;
-//! [`next_by_definition`], [`first_packets_by_definition`] and [`limits_by_definition`], what next places, first
-//! packets and limits are; [`index_sids_by_definition`] and [`named_index_sids_by_definition`], which indexes there
-//! are; [`one_last_unit`], that an index has one last unit at most.
+//! (`unit_of`, `index_sids_of`, `named_index_sids_of`). The laws say more: [`laws::standings_by_definition`], that each
+//! standing has its cause, and a unit one standing; [`laws::extents_by_definition`], where the bytes of a unit lie, and
+//! for which units that is given; [`laws::entries_by_definition`], what its entry says; [`laws::held_units_are_held`],
+//! that a unit which stands as held has each byte held, and [`laws::units_at_hand_are_known`], that one which stands as
+//! at hand has each held or at hand; [`laws::units_of_whole_files_are_held`], that the units of a file held whole stand
+//! as held; [`laws::next_by_definition`], [`laws::first_packets_by_definition`] and [`laws::limits_by_definition`],
+//! what next places, first packets and limits are; [`laws::index_sids_by_definition`] and
+//! [`laws::named_index_sids_by_definition`], which indexes there are; [`laws::one_last_unit`], that an index has one
+//! last unit at most.
 //!
 //! The units from `from` up to `to` of an index, whose bytes are all held:
 //!
@@ -57,6 +58,7 @@ mod first_packet;
 mod indexes;
 mod intervals;
 mod last;
+pub mod laws;
 mod location;
 mod next_places;
 mod range;
@@ -66,19 +68,13 @@ mod stream;
 mod unit;
 mod units;
 
+pub use essence_zone::EssenceZone;
 pub use essence_zone::part::StreamPart;
-pub use essence_zone::{EssenceZone, limits_by_definition};
-pub use first_packet::{behind_index, first_packets_by_definition};
-pub use indexes::{
-    index_sids, index_sids_by_definition, named_index_sids, named_index_sids_by_definition,
-};
-pub use last::{last_unit, one_last_unit};
+pub use first_packet::behind_index;
+pub use indexes::{index_sids, named_index_sids};
+pub use last::last_unit;
 pub use location::Location;
 pub use range::{UnitRange, UnitsLeft};
-pub use segments::next_by_definition;
 pub use standing::UnitStanding;
 pub use unit::{EditUnit, Extent};
-pub use units::{
-    Units, entries_by_definition, extents_by_definition, held_units_are_held,
-    standings_by_definition, units_at_hand_are_known, units_of_whole_files_are_held,
-};
+pub use units::Units;

@@ -1,4 +1,5 @@
-//! Laws of what is said of a reference beside sources.
+//! The laws of references beside sources, of renewals and of fixities: functions that do nothing, whose clauses hold of
+//! all values.
 ghost use Rattle.std.specs.Prelude.{◌≡◌, ◌↔◌, ◌⊎◌, ◌+◌, ◌++◌, ◌<◌, ◌≤◌, [], ◌∷◌, ℕ, IsTrue, List, drop, length, map};
 ghost use Rattle.sha2.specs.Sha256.{sha256};
 ghost use Rattle.mxf_klv.specs.Bytes.{AreBytes};
@@ -15,6 +16,16 @@ ghost use Rattle.mxf_verify.specs.Verifications.{DifferingParts, IsVerification,
 ghost use Rattle.mxf_verify.specs.Verifying.{IsSaidBy, front_size, held_size, is_digested};
 ghost use Rattle.mxf_verify.specs.Verifying.{DiffersIn, IsAmong, IsCut, IsDiffering, IsHeldBy, IsSameIn, IsUnknownByte};
 ghost use Rattle.mxf_verify.specs.Verifying.{IsUnverifiedByte, IsVerified, Source, Bytes, Saved};
+
+pub use crate::comparing::contradictions_by_definition;
+pub use crate::fixity::one_fixity;
+pub use crate::opposing::oppositions_by_definition;
+pub use crate::renewal::{
+    other_recordings_by_definition, renewals_by_definition, renewals_drop_what_was_read_anew,
+    renewals_have_what_was_read_anew, renewals_join_what_agrees,
+};
+pub use crate::unit_places::touched_units_by_definition;
+pub use crate::verified_units::{one_account_of_units, verified_units_have_verified_bytes};
 
 /// A law of [`verify`](crate::verify): of a reference beside sources there is one verification.
 pub fn one_verification()

@@ -14,13 +14,10 @@ use crate::seen::Seen;
 use crate::verification::Verification;
 use mxf_catalogue::Catalogue;
 use mxf_klv::{MAX, OutOfMemory};
-use mxf_read::{GatherFault, Part, PartFault, gather};
+use mxf_read::{GREATEST_PIECE, GatherFault, Part, PartFault, gather};
 use std::alloc::Global;
 use std::io::{BufReader, Read};
 use thiserror::Error;
-
-/// The greatest number of bytes that is read of one piece or range.
-const GREATEST_PIECE: u64 = 1_099_511_627_776;
 
 /// The bytes that are read of a piece or range at once, if less is asked for.
 const BUFFER: usize = 65_536;

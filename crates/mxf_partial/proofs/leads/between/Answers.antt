@@ -3,7 +3,7 @@ use Rattle.std.proofs.lemmas.Bool.{le-leb, lt-leb}
 use Rattle.std.specs.Option.{option_map_or}
 use Rattle.mxf_klv.proofs.Windows.{window}
 use Rattle.mxf_restore.specs.declared.named.NamedPlace.{NamedPlace}
-use Rattle.mxf_partial.proofs.finding.between.Goals as goal
+use Rattle.mxf_partial.proofs.leads.between.Goals as goal
 
 pub returns : goal.returns
 returns c =

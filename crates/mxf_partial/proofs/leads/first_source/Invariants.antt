@@ -1,7 +1,7 @@
 -- The first so far, with the places to come.
 use Rattle.std.proofs.Common.{◌≡◌, None, drop, filter}
 use Rattle.mxf_partial.specs.Fronts.{first_of, lies_between}
-use Rattle.mxf_partial.proofs.finding.first_source.Given as goal
+use Rattle.mxf_partial.proofs.leads.first_source.Given as goal
 
 abbrev pub invariant-loop-place : goal.invariant-loop-place
 invariant-loop-place l =

@@ -16,20 +16,20 @@ use std::alloc::Global;
 /// aren't. It takes memory.
 fn helping_of(
     alloc: Global,
-    pieces: &SectionOrders<'_>,
+    section_orders: &SectionOrders<'_>,
     section: Section,
     is_described: bool,
 ) -> Result<Vec<Order>, OutOfMemory>
-    ensures { IfOk result (λ v. v.items ≡ helping_of is_described pieces.now.at pieces.now.notes section) }
+    ensures { IfOk result (λ v. v.items ≡ helping_of is_described section_orders.now.at section_orders.now.notes section) }
 {
-    let Some(claim) = pieces.claim_of(section) else {
+    let Some(claim) = section_orders.claim_of(section) else {
         return Ok(Vec::new(alloc));
     };
     match claim.reason {
-        Reason::Footer | Reason::Index => pieces.orders_of(alloc, section),
+        Reason::Footer | Reason::Index => section_orders.orders_of(alloc, section),
         Reason::Metadata if is_described => Ok(Vec::new(alloc)),
-        Reason::Metadata if !claim.is_open => pieces.orders_of(alloc, section),
-        Reason::Header | Reason::Metadata => front_alone(alloc, pieces, section),
+        Reason::Metadata if !claim.is_open => section_orders.orders_of(alloc, section),
+        Reason::Header | Reason::Metadata => front_alone(alloc, section_orders, section),
         _ => Ok(Vec::new(alloc)),
     }
 }
@@ -37,13 +37,13 @@ fn helping_of(
 /// The front of a section, if it has one. It takes memory.
 fn front_alone(
     alloc: Global,
-    pieces: &SectionOrders<'_>,
+    section_orders: &SectionOrders<'_>,
     section: Section,
 ) -> Result<Vec<Order>, OutOfMemory>
-    ensures { IfOk result (λ v. v.items ≡ option_to_list (front_of pieces.now.at pieces.now.notes section)) }
+    ensures { IfOk result (λ v. v.items ≡ option_to_list (front_of section_orders.now.at section_orders.now.notes section)) }
 {
     let mut orders = Vec::new(alloc);
-    if let Some(front) = pieces.front_of(alloc, section)? {
+    if let Some(front) = section_orders.front_of(alloc, section)? {
         orders.push(front)?;
     }
     Ok(orders)
@@ -52,16 +52,16 @@ fn front_alone(
 /// What is restored first of all sections. It takes memory.
 pub(crate) fn helping_orders(
     alloc: Global,
-    pieces: &SectionOrders<'_>,
+    section_orders: &SectionOrders<'_>,
     sections: &[Section],
     is_described: bool,
 ) -> Result<Vec<Order>, OutOfMemory>
     ensures { IfOk result (λ v. v.items
-        ≡ flat_map (helping_of is_described pieces.now.at pieces.now.notes) sections.now) }
+        ≡ flat_map (helping_of is_described section_orders.now.at section_orders.now.notes) sections.now) }
 {
     let mut orders = Vec::new(alloc);
     for section in sections {
-        add_helping(alloc, &mut orders, pieces, *section, is_described)?;
+        add_helping(alloc, &mut orders, section_orders, *section, is_described)?;
     }
     Ok(orders)
 }
@@ -70,14 +70,14 @@ pub(crate) fn helping_orders(
 fn add_helping(
     alloc: Global,
     orders: &mut Vec<Order>,
-    pieces: &SectionOrders<'_>,
+    section_orders: &SectionOrders<'_>,
     section: Section,
     is_described: bool,
 ) -> Result<(), OutOfMemory>
     ensures { OnOk result (orders.new.items
-        ≡ orders.old.items ++ helping_of is_described pieces.now.at pieces.now.notes section) }
+        ≡ orders.old.items ++ helping_of is_described section_orders.now.at section_orders.now.notes section) }
 {
-    for order in helping_of(alloc, pieces, section, is_described)? {
+    for order in helping_of(alloc, section_orders, section, is_described)? {
         orders.push(order)?;
     }
     Ok(())
@@ -87,17 +87,17 @@ fn add_helping(
 pub(crate) fn add_fronts(
     alloc: Global,
     orders: &mut Vec<Order>,
-    pieces: &SectionOrders<'_>,
+    section_orders: &SectionOrders<'_>,
     sections: &[Section],
     is_described: bool,
     asked: &[NamedPlace],
 ) -> Result<(), OutOfMemory>
     requires { IsNonDecreasingBy (λ n. n.place) asked.now }
     ensures { OnOk result (orders.new.items ≡ orders.old.items
-        ++ filter_map (front_order is_described pieces.now.at pieces.now.notes asked.now) sections.now) }
+        ++ filter_map (front_order is_described section_orders.now.at section_orders.now.notes asked.now) sections.now) }
 {
     for section in sections {
-        if let Some(front) = front_order(alloc, pieces, *section, is_described, asked)? {
+        if let Some(front) = front_order(alloc, section_orders, *section, is_described, asked)? {
             orders.push(front)?;
         }
     }
@@ -107,23 +107,23 @@ pub(crate) fn add_fronts(
 /// The front of a section of which nothing is restored first, if a place is asked for in it. It takes memory.
 fn front_order(
     alloc: Global,
-    pieces: &SectionOrders<'_>,
+    section_orders: &SectionOrders<'_>,
     section: Section,
     is_described: bool,
     asked: &[NamedPlace],
 ) -> Result<Option<Order>, OutOfMemory>
     requires { IsNonDecreasingBy (λ n. n.place) asked.now }
     ensures { IfOk result (λ front. front
-        ≡ front_order is_described pieces.now.at pieces.now.notes asked.now section) }
+        ≡ front_order is_described section_orders.now.at section_orders.now.notes asked.now section) }
 {
-    let helping = helping_of(alloc, pieces, section, is_described)?;
+    let helping = helping_of(alloc, section_orders, section, is_described)?;
     if !helping.is_empty() {
         return Ok(None);
     }
-    let Some(source) = first_source(asked, pieces.start_of(section), section.end) else {
+    let Some(source) = first_source(asked, section_orders.start_of(section), section.end) else {
         return Ok(None);
     };
-    match pieces.front_of(alloc, section)? {
+    match section_orders.front_of(alloc, section)? {
         Some(front) => Ok(Some(front_by(front, source))),
         None => Ok(None),
     }
