@@ -266,9 +266,9 @@ def verdicts_of_promises(document):
 
 
 def calls_with_memory():
-    """The public calls that can answer that they are out of memory, by the pages of docs/api: the type of each, which a
-    function hasn't, and its name."""
-    for page in sorted(api_pages.PAGES.glob("*.md")):
+    """The public calls of the libraries that can answer that they are out of memory, by the pages of docs/api: the type
+    of each, which a function hasn't, and its name."""
+    for page in (api_pages.PAGES / f"{name}.md" for name in LIBRARIES):
         owner = None
         for line in text_of(page).splitlines():
             heading = re.match(r"#+ `(\w+)`", line)
