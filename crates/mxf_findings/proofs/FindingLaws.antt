@@ -1,11 +1,11 @@
 -- Findings by their definition.
-use Rattle.mxf_findings.proofs.Common.{ℕ, List, ◌↔◌, NoteParts, In, IsContent, Code, F01, F03, F04, F09, F12, F13, Finding}
-use Rattle.mxf_findings.proofs.Common.{findings_of, offsets_for}
+use Rattle.mxf_findings.proofs.Common.{ℕ, List, ◌↔◌, NoteParts, In, IsContent, Code, F01, F03, F04, F09, F12, F13}
+use Rattle.mxf_findings.proofs.Common.{Finding, findings_of, offsets_for, inl, inr, is_no_unreadable_pack, link_of, not}
+use Rattle.mxf_findings.proofs.Common.{not_equal, partitions_of}
 use Rattle.mxf_findings.specs.declared.finding.Code.TheVariants.{F02, F05, F06, F07, F08, F10, F11, F14}
 use Rattle.mxf_findings.specs.FindingCauses.{IsFinding, IsFoundAt}
-use Rattle.mxf_findings.specs.Findings.{is_misplaced, is_open_footer, is_unfit, is_unreadable_segment, is_unreadable_set}
-use Rattle.mxf_findings.specs.Findings.{lacks_footer}
-use Rattle.mxf_findings.proofs.Common.{inl, inr, is_no_unreadable_pack, link_of, not, not_equal, partitions_of}
+use Rattle.mxf_findings.specs.Findings.{is_misplaced, is_open_footer, is_unfit, is_unreadable_segment}
+use Rattle.mxf_findings.specs.Findings.{is_unreadable_set, lacks_footer}
 use Rattle.mxf_findings.proofs.CauseLaws.{at_clear, at_disputed, at_partition, footer_lacks, gap_starts, open_footer}
 use Rattle.mxf_findings.proofs.CauseLaws.{unlinked, unreadable_pack}
 use Rattle.mxf_findings.proofs.HeaderCauses.{lost_references, partial_copies, unreadable_segment, unreadable_set}

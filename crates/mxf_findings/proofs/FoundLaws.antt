@@ -1,11 +1,12 @@
 -- Sets found by their instance identifiers, and what references lead to.
 use Rattle.mxf_findings.proofs.Common.{◌≡◌, ℕ, Bool, true, false, List, [], ◌∷◌, Result, Ok, Err, refl, ap, subst, ◌∙◌}
-use Rattle.mxf_findings.proofs.Common.{inl, inr, ◌↔◌, ◌&&◌, not, if◌then◌else◌, filter, bytes_eq-Decides, Kind, NoteParts}
-use Rattle.mxf_findings.proofs.Common.{keeps_value, kind_of, In, storage_at, AreApart, AreApart-filter, Wanted, Storage}
-use Rattle.mxf_findings.proofs.Common.{Identification, Package, found_among, has_uid, sets_of, fits, target_among}
-use Rattle.mxf_findings.proofs.Common.{target_at, target_of, In-filter, and_from, false_from_ne_true, and_parts, IsTrue}
-use Rattle.mxf_findings.proofs.Common.{instance_uid_at, identification_at, package_at, Found, Several, Target, reads_uid}
-use Rattle.mxf_findings.proofs.Common.{is_readable, later_differs, picked_none, picked_one, picked_several}
+use Rattle.mxf_findings.proofs.Common.{inl, inr, ◌↔◌, ◌&&◌, not, if◌then◌else◌, filter, bytes_eq-Decides, Kind}
+use Rattle.mxf_findings.proofs.Common.{NoteParts, keeps_value, kind_of, In, storage_at, AreApart, AreApart-filter}
+use Rattle.mxf_findings.proofs.Common.{Wanted, Storage, Identification, Package, found_among, has_uid, sets_of, fits}
+use Rattle.mxf_findings.proofs.Common.{target_among, target_at, target_of, In-filter, and_from, false_from_ne_true}
+use Rattle.mxf_findings.proofs.Common.{and_parts, IsTrue, instance_uid_at, identification_at, package_at, Found}
+use Rattle.mxf_findings.proofs.Common.{Several, Target, reads_uid, is_readable, later_differs, picked_none, picked_one}
+use Rattle.mxf_findings.proofs.Common.{picked_several}
 use Rattle.mxf_sets.specs.declared.record.FieldFault.{FieldFault}
 use Rattle.mxf_findings.specs.declared.reference.Found.TheVariants.{Absent, One}
 use Rattle.mxf_findings.specs.References.{HasUid, IsFound, IsOnlyWith, IsSeveral}

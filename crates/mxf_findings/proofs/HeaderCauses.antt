@@ -1,12 +1,13 @@
 -- The causes of findings of the header metadata are met at the offsets that are found of them, and at no others.
 use Rattle.mxf_findings.proofs.Common.{◌≡◌, ◌≢◌, ℕ, ◌⊎◌, Bool, true, false, List, [], Option, Some, None, refl, sym, ap}
-use Rattle.mxf_findings.proofs.Common.{subst, ◌∙◌, inl, inr, eqb-true, eq-eqb, length, ◌↔◌, ◌&&◌, ◌||◌, ◌==◌, not, is_some}
-use Rattle.mxf_findings.proofs.Common.{filter, map, if◌then◌else◌, Kind, NoteParts, keeps_value, kind_of, In, primer_at}
-use Rattle.mxf_findings.proofs.Common.{items_of, left_of, storage_at, segment_at, IsContent, CopyInfo, IsCopy}
-use Rattle.mxf_findings.proofs.Common.{copies_of, is_primer, resolved_of, lost_at, is_segment, IsReadable}
-use Rattle.mxf_findings.proofs.Common.{In-append, not-true-false, not_true, either, or_cases, and_from, false_from_ne_true}
-use Rattle.mxf_findings.proofs.Common.{and_parts, preface_at, identification_at, package_at, Ref, Target, Unreadable}
-use Rattle.mxf_findings.proofs.Common.{is_set, ResolvedParts, is_partial, lost_beside, lost_by, reads_value, In-chosen}
+use Rattle.mxf_findings.proofs.Common.{subst, ◌∙◌, inl, inr, eqb-true, eq-eqb, length, ◌↔◌, ◌&&◌, ◌||◌, ◌==◌, not}
+use Rattle.mxf_findings.proofs.Common.{is_some, filter, map, if◌then◌else◌, Kind, NoteParts, keeps_value, kind_of, In}
+use Rattle.mxf_findings.proofs.Common.{primer_at, items_of, left_of, storage_at, segment_at, IsContent, CopyInfo}
+use Rattle.mxf_findings.proofs.Common.{IsCopy, copies_of, is_primer, resolved_of, lost_at, is_segment, IsReadable}
+use Rattle.mxf_findings.proofs.Common.{In-append, not-true-false, not_true, either, or_cases, and_from}
+use Rattle.mxf_findings.proofs.Common.{false_from_ne_true, and_parts, preface_at, identification_at, package_at, Ref}
+use Rattle.mxf_findings.proofs.Common.{Target, Unreadable, is_set, ResolvedParts, is_partial, lost_beside, lost_by}
+use Rattle.mxf_findings.proofs.Common.{reads_value, In-chosen}
 use Rattle.std.specs.Prelude.{is_none}
 use Rattle.mxf_findings.specs.declared.reference.target.Target.TheVariants.{Found, Missing, Several, WrongKind}
 use Rattle.mxf_views.specs.SetItems.{whole_items}

@@ -1,12 +1,12 @@
 -- The cause of a finding of a random index pack is met at the offsets that are found of it, and at no others.
 use Rattle.mxf_findings.proofs.Common.{◌≡◌, ℕ, ◌⊎◌, Bool, true, false, List, [], ◌∷◌, Some, None, refl, sym, ap, subst}
 use Rattle.mxf_findings.proofs.Common.{◌∙◌, inl, inr, eqb-true, eq-eqb, map, ◌↔◌, ◌&&◌, ◌||◌, ◌==◌, nat_lt, not, filter}
-use Rattle.mxf_findings.proofs.Common.{if◌then◌else◌, ltb-true, lt-ltb, or_cases, and_from, and_parts, NoteParts, end_of}
-use Rattle.mxf_findings.proofs.Common.{kind_of, In, RipEntry, RipParts, rip_at, IsContent, IsClear, clear_notes}
-use Rattle.mxf_findings.proofs.Common.{In-clear_notes, clear-alone, Whole, Broken, PartitionParts, chain_of, partitions_of}
-use Rattle.mxf_findings.proofs.Common.{has_other_rip, is_unfit_rip, is_rip_note, rip_in, AtClear, IsReadable, IsReadAs}
-use Rattle.mxf_findings.proofs.Common.{list_any-In, not-true-false, not_true, either, HangTogether, are_entries_of}
-use Rattle.mxf_findings.proofs.Common.{ends_above, not_equal}
+use Rattle.mxf_findings.proofs.Common.{if◌then◌else◌, ltb-true, lt-ltb, or_cases, and_from, and_parts, NoteParts}
+use Rattle.mxf_findings.proofs.Common.{end_of, kind_of, In, RipEntry, RipParts, rip_at, IsContent, IsClear, clear_notes}
+use Rattle.mxf_findings.proofs.Common.{In-clear_notes, clear-alone, Whole, Broken, PartitionParts, chain_of}
+use Rattle.mxf_findings.proofs.Common.{partitions_of, has_other_rip, is_unfit_rip, is_rip_note, rip_in, AtClear}
+use Rattle.mxf_findings.proofs.Common.{IsReadable, IsReadAs, list_any-In, not-true-false, not_true, either}
+use Rattle.mxf_findings.proofs.Common.{HangTogether, are_entries_of, ends_above, not_equal}
 use Rattle.mxf_views.specs.declared.chain.Chain.{Chain}
 use Rattle.mxf_findings.specs.Findings.{is_broken, is_index_of}
 use Rattle.mxf_findings.specs.FindingCauses.{HasOther, IsNotLast, ListsOthers, entry_of}

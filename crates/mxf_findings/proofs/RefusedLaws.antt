@@ -1,11 +1,11 @@
 -- Small files that miss one condition of well-formed files.
 use Rattle.mxf_findings.proofs.Common.{◌≡◌, ◌≢◌, ◌↔◌, ℕ, ◌+◌, ◌^◌, ◌<◌, ◌≤◌, false, true, List, [], ◌∷◌, ◌++◌, length}
 use Rattle.mxf_findings.proofs.Common.{refl, drop, AllByRecursion, sym, ◌∙◌, ap, subst, inl, inr, arith, ClosedComplete}
-use Rattle.mxf_findings.proofs.Common.{kind_of, greatest_end, IsPacket, size_of, PacketParts, item_at, items_of, left_of}
-use Rattle.mxf_findings.proofs.Common.{entries_of, Header, Body, Footer, RipEntry, is_fill, is_primer, read_pack, read_rip}
-use Rattle.mxf_findings.proofs.Common.{read_segment, HasMetadata, IsFill, IsFooterPack, IsPartitionPack, IsWellFormed}
-use Rattle.mxf_findings.proofs.Common.{total_of, numbers, pack, Place, At, NotIndexed, Ambiguous, partitions_read}
-use Rattle.mxf_findings.proofs.Common.{false≢true, end_after, IsPrimerPack, primer}
+use Rattle.mxf_findings.proofs.Common.{kind_of, greatest_end, IsPacket, size_of, PacketParts, item_at, items_of}
+use Rattle.mxf_findings.proofs.Common.{left_of, entries_of, Header, Body, Footer, RipEntry, is_fill, is_primer}
+use Rattle.mxf_findings.proofs.Common.{read_pack, read_rip, read_segment, HasMetadata, IsFill, IsFooterPack}
+use Rattle.mxf_findings.proofs.Common.{IsPartitionPack, IsWellFormed, total_of, numbers, pack, Place, At, NotIndexed}
+use Rattle.mxf_findings.proofs.Common.{Ambiguous, partitions_read, false≢true, end_after, IsPrimerPack, primer}
 use Rattle.std.specs.Prelude.{replicate}
 use Rattle.std.proofs.lemmas.List.{length-replicate}
 use Rattle.mxf_klv.specs.Parts.{packet_parts}

@@ -3,11 +3,11 @@ use Rattle.mxf_findings.proofs.Common.{◌≡◌, ℕ, ◌+◌, ◌≤◌, Bool,
 use Rattle.mxf_findings.proofs.Common.{None, refl, sym, ap, subst, ◌∙◌, inl, inr, arith, ◌↔◌, filter, find, option_map}
 use Rattle.mxf_findings.proofs.Common.{NoteParts, end_of, kind_of, In, storage_at, read_as, IsContent, AreApart}
 use Rattle.mxf_findings.proofs.Common.{AreApart-filter, CopyInfo, Wanted, Storage, Identification, Package, IsCopy}
-use Rattle.mxf_findings.proofs.Common.{copies_of, is_preface_note, preferred_of, sets_of, IsReadAs, has_uid, resolved_of}
-use Rattle.mxf_findings.proofs.Common.{storage_among, fits, target_of, find-only, none_some, same_Some, PrefaceParts}
-use Rattle.mxf_findings.proofs.Common.{preface_at, Ref, AreSoMany, CountsZone, IsBest, IsPreferred, IsPrefaceIn, preface}
-use Rattle.mxf_findings.proofs.Common.{ResolvedParts, packages_of, preface_in, resolved_by, resolved_from, storage_in}
-use Rattle.mxf_findings.proofs.Common.{refs_of}
+use Rattle.mxf_findings.proofs.Common.{copies_of, is_preface_note, preferred_of, sets_of, IsReadAs, has_uid}
+use Rattle.mxf_findings.proofs.Common.{resolved_of, storage_among, fits, target_of, find-only, none_some, same_Some}
+use Rattle.mxf_findings.proofs.Common.{PrefaceParts, preface_at, Ref, AreSoMany, CountsZone, IsBest, IsPreferred}
+use Rattle.mxf_findings.proofs.Common.{IsPrefaceIn, preface, ResolvedParts, packages_of, preface_in, resolved_by}
+use Rattle.mxf_findings.proofs.Common.{resolved_from, storage_in, refs_of}
 use Rattle.mxf_sets.specs.Storage.{StorageParts}
 use Rattle.mxf_findings.specs.Resolved.{resolved_in}
 use Rattle.mxf_findings.specs.ResolvedView.{AreNamedBy, ArePackages, AreRefsOf, IsOnlyPreface, IsRefOf, IsResolved}

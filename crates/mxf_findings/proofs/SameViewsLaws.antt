@@ -69,7 +69,8 @@ module _ (a b : List NoteParts) (e : clear_notes a ≡ clear_notes b) where
   unfolding rips_of
   rips = ap (filter is_rip_note) e
 
-  rip_by : (offset : ℕ) (r : Option RipParts) → rip_view_by (partitions_of a) offset r ≡ rip_view_by (partitions_of b) offset r
+  rip_by : (offset : ℕ) (r : Option RipParts)
+      → rip_view_by (partitions_of a) offset r ≡ rip_view_by (partitions_of b) offset r
   rip_by offset None = refl
   rip_by offset (Some r) = λ i. One record {
     offset = offset;

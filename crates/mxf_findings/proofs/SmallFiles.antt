@@ -1,12 +1,13 @@
 -- Which of the small files are well-formed.
 use Rattle.mxf_findings.proofs.Common.{◌≡◌, ◌<◌, length, Bool, false, List, [], ◌∷◌, ◌++◌, Some, refl, ◌||◌, drop, take}
-use Rattle.mxf_findings.proofs.Common.{map, IfSome, AllByRecursion, list_any, sym, ◌∙◌, ap, subst, inl, inr, arith, Status}
-use Rattle.mxf_findings.proofs.Common.{OpenIncomplete, ClosedComplete, kind_of, PacketParts, item_at, items_of, left_of}
-use Rattle.mxf_findings.proofs.Common.{entries_of, Footer, SegmentAtParts, is_rip, place_by_segment, segments_read}
-use Rattle.mxf_findings.proofs.Common.{partitions_read, read_pack, read_rip, read_segment, Agree, EndsWithFooter}
-use Rattle.mxf_findings.proofs.Common.{HasMetadata, IsFooterPack, IsPartitionPack, IsWellFormed, IsFill, numbers, pack}
-use Rattle.mxf_findings.proofs.Common.{PartitionParts, false≢true, or_parts, status_rank, IsHeaderPack, IsRandomIndexPack}
-use Rattle.mxf_findings.proofs.Common.{EndsWithRandomIndex, entry_of, primer, are_packets, is_pack_kind}
+use Rattle.mxf_findings.proofs.Common.{map, IfSome, AllByRecursion, list_any, sym, ◌∙◌, ap, subst, inl, inr, arith}
+use Rattle.mxf_findings.proofs.Common.{Status, OpenIncomplete, ClosedComplete, kind_of, PacketParts, item_at, items_of}
+use Rattle.mxf_findings.proofs.Common.{left_of, entries_of, Footer, SegmentAtParts, is_rip, place_by_segment}
+use Rattle.mxf_findings.proofs.Common.{segments_read, partitions_read, read_pack, read_rip, read_segment, Agree}
+use Rattle.mxf_findings.proofs.Common.{EndsWithFooter, HasMetadata, IsFooterPack, IsPartitionPack, IsWellFormed, IsFill}
+use Rattle.mxf_findings.proofs.Common.{numbers, pack, PartitionParts, false≢true, or_parts, status_rank, IsHeaderPack}
+use Rattle.mxf_findings.proofs.Common.{IsRandomIndexPack, EndsWithRandomIndex, entry_of, primer, are_packets}
+use Rattle.mxf_findings.proofs.Common.{is_pack_kind}
 use Rattle.mxf_klv.specs.declared.kinds.Status.TheVariants.{ClosedIncomplete, OpenComplete}
 use Rattle.mxf_findings.specs.WorkedFiles.{h_file, n_file, preface, r_file, w_file}
 use Rattle.mxf_sets.proofs.PackKinds.{is_footer_kind, is_header_kind, packs}

@@ -2,7 +2,6 @@
 use Rattle.std.specs.Prelude.{◌≡◌, ℕ, ◌⊎◌, Bool, true, false, not, ◌&&◌, if◌then◌else◌, List, [], ◌∷◌, map, filter}
 use Rattle.std.specs.Prelude.{is_ok}
 use Rattle.mxf_klv.specs.declared.kinds.Kind.{Kind}
-use Rattle.mxf_klv.specs.declared.kinds.Kind.TheVariants as kinds
 use Rattle.mxf_klv.specs.Parts.{NoteParts}
 use Rattle.mxf_klv.specs.Note.{keeps_value}
 use Rattle.mxf_klv.specs.Kind.{kind_of}
@@ -12,12 +11,14 @@ use Rattle.mxf_sets.specs.Package.{package_at}
 use Rattle.mxf_findings.specs.declared.reference.target.Wanted.{Wanted}
 use Rattle.mxf_findings.specs.declared.reference.target.Wanted.TheVariants.{Storage, Identification, Package}
 use Rattle.mxf_findings.specs.declared.reference.target.Target.{Target}
-use Rattle.mxf_findings.specs.declared.reference.target.Target.TheVariants.{Missing, Several, WrongKind, Unreadable, Found}
+use Rattle.mxf_findings.specs.declared.reference.target.Target.TheVariants.{Missing, Several, WrongKind, Unreadable}
+use Rattle.mxf_findings.specs.declared.reference.target.Target.TheVariants.{Found}
 use Rattle.mxf_findings.specs.declared.reference.target.Ref.{Ref}
 use Rattle.mxf_views.specs.Copies.{sets_of}
-use Rattle.mxf_findings.specs.declared.reference.Found.TheVariants as found
 use Rattle.mxf_views.specs.Readings.{IsReadable}
 use Rattle.mxf_findings.specs.References.{IsFound, IsOnlyWith, has_uid}
+use Rattle.mxf_klv.specs.declared.kinds.Kind.TheVariants as kinds
+use Rattle.mxf_findings.specs.declared.reference.Found.TheVariants as found
 
 -- The kind is that of the sets that such a reference names.
 abbrev pub fits : Wanted → Kind → Bool

@@ -25,8 +25,8 @@ use std::marker::Model;
 
 /// A kind of finding.
 ///
-/// A partition is a clear readable partition pack, as in [`Views::partitions`](mxf_views::Views::partitions). A packet is
-/// readable if its value is kept and is what its kind says.
+/// A partition is a clear readable partition pack, as in [`Views::partitions`](mxf_views::Views::partitions). A packet
+/// is readable if its value is kept and is what its kind says.
 #[derive(Clone, Copy, Debug, PartialEq, Eq)]
 pub enum Code {
     /// Another note has the offset of a note, which begins there.

@@ -1,7 +1,7 @@
 //! Findings and references: what views of a file show to be wrong or missing, and what its header metadata name.
 //!
-//! All of it is asked of [`Views`](mxf_views::Views), which know nothing of it. Offsets are bytes from the first byte of
-//! the header partition pack.
+//! All of it is asked of [`Views`](mxf_views::Views), which know nothing of it. Offsets are bytes from the first byte
+//! of the header partition pack.
 //!
 //! | Question | Call | Answer |
 //! |---|---|---|
@@ -14,8 +14,8 @@
 //! that function is in the words of the standards. `findings` and `resolved` take memory, and fail only if it runs out;
 //! `find` takes none.
 //!
-//! Small files stand here too, with laws of which are well-formed, of their bytes, and of what the reading from the front
-//! says of them.
+//! Small files stand here too, with laws of which are well-formed, of their bytes, and of what the reading from the
+//! front says of them.
 #![tactic(auto)]
 
 mod asked;

@@ -1,5 +1,5 @@
-use Rattle.mxf_findings.proofs.Common.{◌≡◌, ◌∙◌, List, ap, inl, refl, subst, sym, filter, NoteParts, In, sets_of, has_uid}
-use Rattle.mxf_findings.proofs.Common.{target_among, target_at, target_of, In-filter, none_some, same_Some}
+use Rattle.mxf_findings.proofs.Common.{◌≡◌, ◌∙◌, List, ap, inl, refl, subst, sym, filter, NoteParts, In, sets_of}
+use Rattle.mxf_findings.proofs.Common.{has_uid, target_among, target_at, target_of, In-filter, none_some, same_Some}
 use Rattle.mxf_findings.proofs.OnlyFound.{only_there}
 use Rattle.mxf_findings.proofs.reference.target.target_of.Goals as goal
 
