@@ -101,9 +101,6 @@ module _ (at : AtHandParts) (notes : List NoteParts) (content : IsContent notes)
 
   module _ (cover : IsCover at.given) (p : Section) (start : ℕ) (claim : Option Claim)
       (claimed : claim_at notes start ≡ claim) where
-    edge : ℕ
-    edge = edge_of at notes
-
     abbrev is_open : Bool
     is_open = option_map_or (λ c. c.is_open) claim false
 
