@@ -10,6 +10,9 @@ ghost use Rattle.mxf_find.specs.Votes.{FragmentParts, IsMostVoted, place, shift,
 ghost use Rattle.mxf_find.specs.Wholly.{LiesWholly};
 ghost use Rattle.mxf_find.specs.declared.found.Match.{Match};
 
+pub use crate::found::one_match;
+pub use crate::ranking::rankings_by_definition;
+
 /// A law of votes: which notes tell is by the fields of the notes beside them.
 pub fn telling_by_definition()
     ensures by_value { (n : NoteParts) (notes : List NoteParts) → IsCatalogue notes → In n notes
