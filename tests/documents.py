@@ -13,6 +13,7 @@ sources say of it. Looks up the names of code of docs/MODEL.md and docs/DECISION
 printed; the last line is 'N passed, M failed'.
 """
 import ast
+import collections
 import itertools
 import pathlib
 import re
@@ -212,6 +213,51 @@ def verdicts_of_layers(document):
             below = set().union(*(known.get(name, set()) for name in named))
             yield number, ", ".join(named), None if stated == below else f"crates.txt differs in {sorted(stated ^ below)}"
     yield 1, "the table of crates", None if told == set(known) else f"crates.txt differs in {sorted(told ^ set(known))}"
+
+
+# A word of a proof or a definition: its letters may be signs, and dashes join parts.
+WORD = re.compile(r"[^\s(){}\[\],.;:|]+")
+DECLARATION = re.compile(r"( *)(?:(?:pub|abbrev|unfoldable) )*(?:(?:record|data) ([\w-]\S*) |([\w-]\S*) : )")
+
+
+def declarations(file):
+    """What a file of definitions or lemmas declares: each name with the words of its own lines. These are its signature
+    and its cases, and what stands further in below them."""
+    depth, name, words, inside = 0, None, [], None
+    for line in text_of(file).splitlines():
+        if not line.strip() or line.lstrip().startswith(("use ", "--", "unfolding ")):
+            continue
+        indentation = len(line) - len(line.lstrip())
+        inside = None if inside is not None and indentation <= inside else inside
+        found = DECLARATION.match(line) if inside is None else None
+        if name and indentation <= depth and line.split()[0] not in (name, ")", "}", "]"):
+            yield name, words
+            name = None
+        if found and name is None:
+            depth, name, words = indentation, found[2] or found[3], []
+            inside = indentation if found[2] else None
+        words += WORD.findall(line)
+    if name:
+        yield name, words
+
+
+def verdicts_of_declarations(document):
+    """For each crate: the definitions and lemmas that nothing names but their own lines, or None."""
+    if document.name != "LAYERS.md":
+        return
+    files = {crate: [*(TOP / "crates" / crate).glob("specs/*.antt"), *(TOP / "crates" / crate).glob("proofs/*.antt")]
+             for crate in crates()}  # fmt: skip
+    named, own = collections.Counter(), collections.Counter()
+    for file in (file for suffix in ("rt", "antt") for file in (TOP / "crates").glob(f"*/*/**/*.{suffix}")):
+        if "/out/" not in file.as_posix():
+            lines = (line for line in text_of(file).splitlines() if not re.match(r"\s*use ", line))
+            named.update(WORD.findall("\n".join(lines)))
+    for name, words in itertools.chain.from_iterable(map(declarations, itertools.chain(*files.values()))):
+        own[name] += words.count(name)
+    for crate, known in files.items():
+        unnamed = sorted(f"{name} of {file.relative_to(TOP)}" for file in known for name, _ in declarations(file)
+                         if named[name] == own[name])  # fmt: skip
+        yield 1, f"declarations of {crate}", f"nothing names {', '.join(unnamed)}" if unnamed else None
 
 
 # What a cell of docs/PROMISES.md has that names no clause and carries a promise: the two that rest on the language, and
@@ -575,7 +621,7 @@ VERDICTS = (
     verdicts_of_promises, verdicts_of_memory,
     verdicts_of_links, verdicts_of_contracts, verdicts_of_names, verdicts_of_tables, verdicts_of_quotes,
     verdicts_of_definitions, verdicts_of_layers, verdicts_of_numbers, verdicts_of_api, verdicts_of_code,
-    verdicts_of_facts,
+    verdicts_of_facts, verdicts_of_declarations,
 )  # fmt: skip
 
 
