@@ -1,15 +1,14 @@
 -- The copies of the header metadata, once notes are there that begin where the others end, or above.
 use Rattle.mxf_views.proofs.Common.{◌≡◌, ℕ, ◌+◌, ◌-◌, ◌<◌, ◌≤◌, ◌⊎◌, true, false, cond, List, [], ◌∷◌, ◌++◌, Option}
 use Rattle.mxf_views.proofs.Common.{Some, None, refl, sym, ap, subst, ◌∙◌, inl, inr, arith, get_or, length, eqb-true}
-use Rattle.mxf_views.proofs.Common.{eq-eqb, ◌==◌, find, map, count_by, if◌then◌else◌, cons_option, filter_map}
-use Rattle.mxf_views.proofs.Common.{option_and_then, ◌^◌, false_from_ne_true, sum_by-append, NoteParts, end_of, In}
-use Rattle.mxf_views.proofs.Common.{lies_in, is_in_one, union_of, clear_notes, In-clear_notes, AreApart-clear_notes}
-use Rattle.mxf_views.proofs.Common.{CopyInfo, CopiesRise, IsStart, copies_of, copy_from, copy_of, covered_of}
-use Rattle.mxf_views.proofs.Common.{has_metadata, is_preface_note, prefaces_of, start_of, zone_of, copy_by, MeetAt}
-use Rattle.mxf_views.proofs.Common.{clear_from, counted_above, PartitionParts, partition_at, partitions_of, sizes}
-use Rattle.mxf_views.proofs.Common.{length-filter_le, In-at, count_by-le-length, or_itself, EndsBy, IsOfNone}
-use Rattle.mxf_views.proofs.Common.{IsStarting, IsUnionAt, range-le, IsContent, IsNote, all-In, ltb-true, IsUnmet}
-use Rattle.mxf_views.proofs.Common.{SameOutside}
+use Rattle.mxf_views.proofs.Common.{◌==◌, find, map, count_by, if◌then◌else◌, cons_option, filter_map, option_and_then}
+use Rattle.mxf_views.proofs.Common.{◌^◌, false_from_ne_true, sum_by-append, NoteParts, end_of, In, lies_in, is_in_one}
+use Rattle.mxf_views.proofs.Common.{union_of, clear_notes, In-clear_notes, AreApart-clear_notes, CopyInfo, CopiesRise}
+use Rattle.mxf_views.proofs.Common.{IsStart, copies_of, copy_from, copy_of, covered_of, has_metadata, is_preface_note}
+use Rattle.mxf_views.proofs.Common.{prefaces_of, start_of, zone_of, copy_by, MeetAt, clear_from, counted_above}
+use Rattle.mxf_views.proofs.Common.{PartitionParts, partition_at, partitions_of, sizes, length-filter_le, In-at}
+use Rattle.mxf_views.proofs.Common.{count_by-le-length, or_itself, EndsBy, IsOfNone, IsStarting, IsUnionAt, range-le}
+use Rattle.mxf_views.proofs.Common.{IsContent, IsNote, all-In, ltb-true, IsUnmet, SameOutside}
 use Rattle.std.specs.Prelude.{slice_get}
 use Rattle.std.proofs.lemmas.Bool.{eqb-false}
 use Rattle.std.proofs.lemmas.List.Elements.{filter_map-append}
@@ -60,13 +59,7 @@ others_before cs last r e k d from below =
 -- Nothing is counted on in a zone that ends at the boundary or below.
 pub stays_above : (notes : List NoteParts) (b : ℕ) (starting : Option ℕ) (c : CopyInfo) → EndsBy b c
     → is_of c.partition starting ≡ false → counted_above notes b starting c c.start ≡ c
-stays_above notes b starting c ends other =
-    elim (c.start) as (λ o. c.start ≡ o → counted_above notes b starting c o ≡ c) [
-      | None ↦ λ e. rw other refl
-      | Some s ↦ λ e. (
-          let l : s + c.bytes ≤ b = ends s e in
-          let none : c.bytes - (b - s) ≡ 0 = omega (arith, l) in rw (eq-eqb (c.bytes - (b - s)) 0 none) refl)
-    ] refl
+stays_above notes b starting c ends other = grind (arith)
 
 abbrev the_copy : PartitionParts → ℕ → ℕ → ℕ → CopyInfo
 the_copy p s covered prefaces = record {

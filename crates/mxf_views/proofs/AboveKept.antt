@@ -1,10 +1,8 @@
 -- What is kept of a content, once notes are there that begin where the others end, or above.
-use Rattle.mxf_views.proofs.Common.{◌≡◌, ◌+◌, ◌++◌, ◌<◌, ◌≤◌, ℕ, Bool, List, Option, None, Some, ap, arith, subst, sym}
-use Rattle.mxf_views.proofs.Common.{◌∙◌, count_by, filter_map, refl, NoteParts, clear_notes, end_of}
-use Rattle.mxf_views.proofs.Common.{PartitionParts, clear_from, IsUnionAt, kept_among, kept_partition}
-use Rattle.mxf_views.proofs.Common.{In, In-at, In-filter, In-filter_map, and_parts, get_or, leb-true, length}
-use Rattle.mxf_views.proofs.Common.{lies_in, nat_le, option_map, partition_at}
-use Rattle.mxf_views.specs.Partitions.{in_numbers}
+use Rattle.mxf_views.proofs.Common.{◌≡◌, ◌+◌, ◌++◌, ◌<◌, ◌≤◌, ℕ, Bool, List, Option, Some, ap, arith, subst, sym, ◌∙◌}
+use Rattle.mxf_views.proofs.Common.{count_by, filter_map, NoteParts, clear_notes, end_of, PartitionParts, clear_from}
+use Rattle.mxf_views.proofs.Common.{IsUnionAt, kept_among, kept_partition, In, In-at, In-filter, In-filter_map}
+use Rattle.mxf_views.proofs.Common.{and_parts, get_or, leb-true, length, lies_in, nat_le}
 use Rattle.mxf_views.proofs.CopyUpdates.{end-partition_at}
 use Rattle.mxf_views.proofs.AboveLaws.{count_of_both, taken_of_both}
 
@@ -15,13 +13,7 @@ from_boundary b notes n h =
     leb-true b n.offset (and_parts (nat_le b n.offset) (nat_le (end_of n) (b + 18446744073709551615)) t).0
 
 end-kept_partition : (n : NoteParts) (p : PartitionParts) → kept_partition n ≡ Some p → p.end ≡ end_of n
-end-kept_partition n p e =
-    elim (partition_at n) as (λ o. partition_at n ≡ o → option_map in_numbers o ≡ Some p → p.end ≡ end_of n) [
-      | None ↦ λ _ u. absurd cc
-      | Some q ↦ λ f u. (
-          let same : in_numbers q ≡ p = cc (u) in
-          ap (λ (x : PartitionParts). x.end) (sym same) ∙ end-partition_at n q f)
-    ] refl e
+end-kept_partition n p e = grind (arith, end-partition_at)
 
 module _ (b : ℕ) (notes own : List NoteParts) (u : IsUnionAt b notes own) where
   -- What is kept of the new notes follows what was kept before.

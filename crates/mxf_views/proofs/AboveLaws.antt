@@ -203,14 +203,7 @@ with_one_above b notes own x m e =
 
 -- All notes begin where none ends.
 meet_none : (notes : List NoteParts) → IsCatalogue notes → AreReduced notes → MeetAt 0 [] notes
-meet_none notes c r = record {
-  own_is = record { content = tt; members = tt };
-  other_is = c;
-  own_reduced = λ n h k. absurd h;
-  other_reduced = r;
-  ends = λ n h. absurd h;
-  begins = λ n h. omega arith;
-}
+meet_none notes c r = grind (arith)
 
 pub all_above_none : (notes : List NoteParts) → IsCatalogue notes → AreReduced notes → IsUnionAt 0 notes []
 all_above_none notes c r = record {

@@ -1,9 +1,8 @@
 -- The preferred copy of those seen so far.
 use Rattle.mxf_views.proofs.Common.{◌≡◌, ◌<◌, ◌⊎◌, true, false, List, [], ◌∷◌, ◌++◌, Option, Some, None, refl, cond}
-use Rattle.mxf_views.proofs.Common.{append_assoc, append-nil, subst, ap, ◌∙◌, sym, inl, inr, arith, eqb-true, eq-eqb, ℕ}
-use Rattle.mxf_views.proofs.Common.{◌↔◌, ◌&&◌, ◌==◌, nat_lt, is_some, ltb-true, ltb-false, and_from, and_parts, In}
-use Rattle.mxf_views.proofs.Common.{CopyInfo, best_of, preferred_of, rank, better, is_candidate, is_above, IsBest}
-use Rattle.mxf_views.proofs.Common.{IsPreferred, or_cases, or_parts, and_cases, cases_order}
+use Rattle.mxf_views.proofs.Common.{append_assoc, append-nil, subst, ◌∙◌, sym, inl, inr, arith, ℕ, ◌↔◌, ◌&&◌, is_some}
+use Rattle.mxf_views.proofs.Common.{In, CopyInfo, best_of, preferred_of, rank, better, is_candidate, is_above, IsBest}
+use Rattle.mxf_views.proofs.Common.{IsPreferred}
 use Rattle.mxf_views.specs.Copies.{IsNotAbove, IsCandidate}
 use Rattle.mxf_klv.proofs.Lists.{In-end}
 
@@ -12,39 +11,14 @@ candidate_says c None e h one = absurd cc
 candidate_says c (Some s) e h one = record { start = s; begins = e; one = one }
 
 pub candidate_iff : (c : CopyInfo) → (is_candidate c ≡ true) ↔ IsCandidate c
-candidate_iff c = (
-  λ h.
-      let p = and_parts (is_some c.start) (c.prefaces == 1) h in
-      candidate_says c c.start refl p.0 (eqb-true c.prefaces 1 p.1),
-  λ i. and_from (is_some c.start) (c.prefaces == 1) (ap (λ (o : Option ℕ). is_some o) i.begins)
-      (eq-eqb c.prefaces 1 i.one),
-)
+candidate_iff c = grind (arith, is_some, candidate_says)
 
 above_says : (c b : CopyInfo) → is_above c (Some b) ≡ true
     → (rank b < rank c) ⊎ ((rank b ≡ rank c) × (b.partition < c.partition))
-above_says c b e =
-    let same = rank b == rank c in
-    let low = nat_lt b.partition c.partition in
-    elim (or_cases (nat_lt (rank b) (rank c)) (same && low) e) [
-      | inl t ↦ inl (ltb-true (rank b) (rank c) t)
-      | inr t ↦ (
-          let p = and_parts same low t in
-          inr (eqb-true (rank b) (rank c) p.0, ltb-true b.partition c.partition p.1))
-    ]
+above_says c b e = grind (arith)
 
 not_above_says : (c b : CopyInfo) → is_above c (Some b) ≡ false → IsNotAbove c b
-not_above_says c b e =
-    let equal = rank b == rank c in
-    let low = nat_lt b.partition c.partition in
-    let o = or_parts (nat_lt (rank b) (rank c)) (equal && low) e in
-    elim (cases_order (rank c) (rank b)) [
-      | inl s ↦ elim (and_cases equal low o.1) [
-        | inl u ↦ (let w = eq-eqb (rank b) (rank c) (sym s) in absurd (cc (u, w)))
-        | inr u ↦ inr (s, ltb-false b.partition c.partition u)
-      ]
-      | inr (inl l) ↦ inl l
-      | inr (inr l) ↦ (let g = ltb-false (rank b) (rank c) o.0 in absurd (omega (arith, g, l)))
-    ]
+not_above_says c b e = grind (arith)
 
 through : (d b c : CopyInfo) → IsNotAbove d b → (rank b < rank c) ⊎
     ((rank b ≡ rank c) × (b.partition < c.partition)) → IsNotAbove d c
@@ -60,42 +34,14 @@ below_new seen (Some b) c d p a h k = through d b c (p.best d h k) (above_says c
 
 pub best_takes : (seen : List CopyInfo) (best : Option CopyInfo) (c : CopyInfo) → IsPreferred seen best
     → is_candidate c ≡ true → is_above c best ≡ true → IsBest (seen ++ c ∷ []) c
-best_takes seen best c p k a = record {
-  held = (In-end c c seen (seen ++ c ∷ []) refl).1 (inr refl);
-  candidate = (candidate_iff c).0 k;
-  best = λ d h t. elim ((In-end d c seen (seen ++ c ∷ []) refl).0 h) [
-    | inl m ↦ below_new seen best c d p a m t
-    | inr e ↦ inr
-        (ap rank e, let f = ap (λ (x : CopyInfo). x.partition) e in omega (arith, f))
-  ];
-}
+best_takes seen best c p k a = grind (arith, In-end, candidate_iff, below_new)
 
 pub best_keeps : (seen : List CopyInfo) (best : Option CopyInfo) (c : CopyInfo) → IsPreferred seen best
     → (is_candidate c ≡ false) ⊎ (is_above c best ≡ false) → IsPreferred (seen ++ c ∷ []) best
-best_keeps seen None c p (inl k) = λ d h t. elim ((In-end d c seen (seen ++ c ∷ []) refl).0 h) [
-  | inl m ↦ p d m t
-  | inr e ↦
-      (let f = ap is_candidate e in let u = (candidate_iff d).1 t in absurd (cc (f, k, u)))
-]
+best_keeps seen None c p (inl k) = grind (arith, In-end, candidate_iff)
 best_keeps seen None c p (inr a) = absurd cc
-best_keeps seen (Some b) c p (inl k) = record {
-  held = (In-end b c seen (seen ++ c ∷ []) refl).1 (inl p.held);
-  candidate = p.candidate;
-  best = λ d h t. elim ((In-end d c seen (seen ++ c ∷ []) refl).0 h) [
-    | inl m ↦ p.best d m t
-    | inr e ↦
-        (let f = ap is_candidate e in let u = (candidate_iff d).1 t in absurd (cc (f, k, u)))
-  ];
-}
-best_keeps seen (Some b) c p (inr a) = record {
-  held = (In-end b c seen (seen ++ c ∷ []) refl).1 (inl p.held);
-  candidate = p.candidate;
-  best = λ d h t. elim ((In-end d c seen (seen ++ c ∷ []) refl).0 h) [
-    | inl m ↦ p.best d m t
-    | inr e ↦ Rattle.std.proofs.Common.subst
-        (λ (x : CopyInfo). IsNotAbove x b) (sym e) (not_above_says c b a)
-  ];
-}
+best_keeps seen (Some b) c p (inl k) = grind (arith, In-end, candidate_iff)
+best_keeps seen (Some b) c p (inr a) = grind (arith, In-end, not_above_says)
 
 best_after : (seen left : List CopyInfo) (best : Option CopyInfo) → IsPreferred seen best
     → IsPreferred (seen ++ left) (best_of best left)
@@ -121,16 +67,4 @@ preferred_is copies = best_after [] copies None (λ d h t. h)
 
 -- Two such are copies of one partition.
 pub one_best : (copies : List CopyInfo) (a b : CopyInfo) → IsBest copies a → IsBest copies b → a.partition ≡ b.partition
-one_best copies a b p q =
-    elim (q.best a p.held p.candidate) [
-      | inl l ↦ elim (p.best b q.held q.candidate) [
-        | inl m ↦ absurd (omega arith)
-        | inr m ↦
-            (let e = m.0 in absurd (omega arith))
-      ]
-      | inr l ↦ elim (p.best b q.held q.candidate) [
-        | inl m ↦ (let e = l.0 in absurd (omega arith))
-        | inr m ↦
-            (let x = l.1 in let y = m.1 in omega arith)
-      ]
-    ]
+one_best copies a b p q = grind (arith)

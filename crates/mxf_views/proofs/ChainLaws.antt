@@ -1,14 +1,13 @@
 -- Whether the partitions hang together.
 use Rattle.mxf_views.proofs.Common.{◌≡◌, ◌<◌, ◌≤◌, Bool, true, false, List, [], ◌∷◌, refl, sym, ap, subst, ◌∙◌, inl}
-use Rattle.mxf_views.proofs.Common.{inr, arith, eqb-true, eq-eqb, ◌↔◌, ◌&&◌, ◌||◌, ◌==◌, nat_lt, not, if◌then◌else◌}
-use Rattle.mxf_views.proofs.Common.{is_some, count_by, list_all, ltb-true, and_from, false_from_ne_true, and_parts}
-use Rattle.mxf_views.proofs.Common.{NoteParts, kind_of, In, PackPart, Header, Footer, part_and_status, IsContent}
-use Rattle.mxf_views.proofs.Common.{IsClear, clear_notes, In-clear_notes, First, Held, Whole, Broken, PartitionParts}
-use Rattle.mxf_views.proofs.Common.{AreInOrder, chain_of, is_footer, is_greatest, is_header, is_linked}
-use Rattle.mxf_views.proofs.Common.{is_no_unreadable_pack, link_of, partition_at, partitions_of, stands_above}
-use Rattle.mxf_views.proofs.Common.{count_by-cons, tally, list_any-In, In-filter_map, all-In, In-list_all}
-use Rattle.mxf_views.proofs.Common.{not-true-false, lt-ltb, cases_lt, clear-alone, IsPartitionKind, Link, StandsAt}
-use Rattle.mxf_views.proofs.Common.{IsLink, HangTogether, count-none, list_all-In, kind_says, kind_tells}
+use Rattle.mxf_views.proofs.Common.{inr, arith, eqb-true, eq-eqb, ◌↔◌, ◌&&◌, ◌||◌, ◌==◌, not, if◌then◌else◌, is_some}
+use Rattle.mxf_views.proofs.Common.{count_by, list_all, and_from, false_from_ne_true, and_parts, NoteParts, kind_of, In}
+use Rattle.mxf_views.proofs.Common.{PackPart, Header, Footer, part_and_status, IsContent, IsClear, clear_notes}
+use Rattle.mxf_views.proofs.Common.{In-clear_notes, First, Held, Whole, PartitionParts, AreInOrder, chain_of, is_footer}
+use Rattle.mxf_views.proofs.Common.{is_greatest, is_header, is_linked, is_no_unreadable_pack, link_of, partition_at}
+use Rattle.mxf_views.proofs.Common.{partitions_of, count_by-cons, tally, list_any-In, In-filter_map, all-In}
+use Rattle.mxf_views.proofs.Common.{In-list_all, not-true-false, clear-alone, IsPartitionKind, Link, StandsAt, IsLink}
+use Rattle.mxf_views.proofs.Common.{HangTogether, count-none, list_all-In, kind_says, kind_tells}
 use Rattle.mxf_views.specs.Partitions.{IsOnly, is_first, is_held, hang_together}
 use Rattle.mxf_views.proofs.PartitionLaws.{link_iff, offset-partition_at, partitions_rise}
 use Rattle.mxf_klv.proofs.Counts.{count-one}
@@ -55,20 +54,11 @@ one-count p (y ∷ ps) x r h t only =
 
 greatest_says : (ps : List PartitionParts) (p : PartitionParts) → is_greatest ps p ≡ true → (q : PartitionParts)
     → In q ps → q.offset ≤ p.offset
-greatest_says ps p g q h = elim (cases_lt p.offset q.offset) [
-  | inl l ↦ absurd (not-true-false (stands_above p.offset ps) g
-      ((list_any-In (λ x. nat_lt p.offset x.offset) ps).1 (q, h, lt-ltb p.offset q.offset l)))
-  | inr l ↦ l
-]
+greatest_says ps p g q h = grind (arith, not-true-false, list_any-In)
 
 greatest_is : (ps : List PartitionParts) (p : PartitionParts) → ((q : PartitionParts) → In q ps → q.offset ≤ p.offset)
     → is_greatest ps p ≡ true
-greatest_is ps p f =
-    ap not (false_from_ne_true (stands_above p.offset ps) (λ t.
-    let s = (list_any-In (λ x. nat_lt p.offset x.offset) ps).0 t in
-    let l : p.offset < s.0.offset = ltb-true p.offset s.0.offset s.2 in
-    let m : s.0.offset ≤ p.offset = f s.0 s.1 in
-    omega arith))
+greatest_is ps p f = grind (arith, list_any-In)
 
 abbrev linked_by : Bool → Link → Bool
 linked_by header l = if header then is_first l else is_held l
@@ -216,11 +206,4 @@ hang_together_from notes r w =
 
 -- The chain is whole exactly where the partitions hang together.
 pub chain_iff : (notes : List NoteParts) → IsContent notes → (chain_of notes ≡ Whole) ↔ HangTogether notes
-chain_iff notes r = (
-  λ e. elim (hang_together notes) as (λ b. hang_together notes ≡ b → (if b then Whole else Broken) ≡ Whole
-      → HangTogether notes) [
-        | true ↦ λ t _. whole_says notes t
-        | false ↦ λ t q. absurd cc
-      ] refl e,
-  λ w. ap (λ (b : Bool). if b then Whole else Broken) (hang_together_from notes r w),
-)
+chain_iff notes r = grind (arith, whole_says, hang_together_from)

@@ -1,9 +1,8 @@
 -- What adding a note changes among the clear notes, and the clear notes at their offsets.
-use Rattle.mxf_views.proofs.Common.{◌≡◌, ℕ, ◌<◌, ◌≤◌, ◌⊎◌, true, false, List, [], ◌∷◌, refl, sym, subst, ◌∙◌, inl, inr}
-use Rattle.mxf_views.proofs.Common.{arith, leb-true, le-leb, ◌↔◌, ◌||◌, nat_le, nat_lt, max, ltb-true, lt-ltb}
-use Rattle.mxf_views.proofs.Common.{NoteParts, end_of, In, IsClear, SharesByte, clear_notes, In-clear_notes, IsHull}
-use Rattle.mxf_views.proofs.Common.{is_outside, cases_lt, min}
-use Rattle.mxf_views.proofs.Common.{AreReduced, has_note, reduced_with, In-reduced_with}
+use Rattle.mxf_views.proofs.Common.{◌≡◌, ℕ, ◌<◌, ◌≤◌, ◌⊎◌, true, List, [], ◌∷◌, refl, sym, subst, ◌∙◌, inl, inr, arith}
+use Rattle.mxf_views.proofs.Common.{◌↔◌, max, lt-ltb, NoteParts, end_of, In, IsClear, SharesByte, clear_notes}
+use Rattle.mxf_views.proofs.Common.{In-clear_notes, IsHull, is_outside, cases_lt, min, AreReduced, has_note}
+use Rattle.mxf_views.proofs.Common.{reduced_with, In-reduced_with}
 use Rattle.mxf_catalogue.proofs.DisputeLaws.{SharesByte-symmetric}
 use Rattle.mxf_catalogue.specs.NoteLists.{touching}
 use Rattle.mxf_catalogue.proofs.PartLaws.{In-touching}
@@ -44,19 +43,11 @@ lies_outside x n notes start end h c far =
 outside_by : (start end : ℕ) (n : NoteParts) → (end_of n ≤ start) ⊎ (end ≤ n.offset)
     → is_outside start end n.offset ≡ true
 outside_by start end n (inl l) = rw (lt-ltb n.offset start (omega arith)) refl
-outside_by start end n (inr l) =
-    elim (nat_lt n.offset start) as (λ b. (b || nat_le end n.offset) ≡ true) [
-      | true ↦ refl
-      | false ↦ le-leb end n.offset l
-    ]
+outside_by start end n (inr l) = grind (arith)
 
 -- What the test says of an offset.
 pub outside_says : (start end offset : ℕ) → is_outside start end offset ≡ true → start ≤ offset → offset < end → ⊥
-outside_says start end offset e low high =
-    elim (nat_lt offset start) as (λ b. nat_lt offset start ≡ b → (b || nat_le end offset) ≡ true → ⊥) [
-      | true ↦ λ f g. let l : offset < start = ltb-true offset start f in omega arith
-      | false ↦ λ f g. let l : end ≤ offset = leb-true end offset g in omega arith
-    ] refl e
+outside_says start end offset e low high = grind (arith)
 
 -- So by its offset alone: a clear note lies outside exactly where it shares no byte with the new one.
 pub outside_iff : (x n : NoteParts) (notes : List NoteParts) (start end : ℕ) → IsHull x notes start end
@@ -133,13 +124,7 @@ hull_with x notes start end m left h =
 
 pub hull_of_all : (x : NoteParts) (notes : List NoteParts) (start end : ℕ) → HullSoFar x notes start end []
     → IsHull x notes start end
-hull_of_all x notes start end h = record {
-  all = λ m c s. elim (h.all m c s) [ inl k ↦ absurd k | inr b ↦ b ];
-  least = h.least;
-  greatest = h.greatest;
-  low = h.low;
-  high = h.high;
-}
+hull_of_all x notes start end h = grind (arith)
 
 -- A new note that is added leaves no note clear that it shares a byte with.
 pub touched : (m n : NoteParts) (notes : List NoteParts) → AreReduced notes → (has_note notes n → ⊥) → In m notes

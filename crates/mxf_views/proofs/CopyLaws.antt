@@ -1,14 +1,14 @@
 -- Copies of the header metadata and their sets.
-use Rattle.mxf_views.proofs.Common.{◌≡◌, ℕ, ◌+◌, ◌<◌, ◌≤◌, true, List, Option, Some, None}
-use Rattle.mxf_views.proofs.Common.{refl, sym, ap, subst, ◌∙◌, arith, eqb-true, eq-eqb, leb-true, le-leb, ◌↔◌}
-use Rattle.mxf_views.proofs.Common.{◌==◌, nat_le, count_by, filter, find, range_with_len, ltb-true, lt-ltb, and_from}
-use Rattle.mxf_views.proofs.Common.{and_parts, NoteParts, end_of, kind_of, In, IsContent, AreApart, IsClear}
-use Rattle.mxf_views.proofs.Common.{clear_notes, In-clear_notes, AreApart-clear_notes, AreApart-filter, CopyInfo}
-use Rattle.mxf_views.proofs.Common.{PartitionParts, partitions_of, IsCopy, copies_of, copy_from, prefaces_of, copy_of}
-use Rattle.mxf_views.proofs.Common.{covered_of, has_metadata, is_preface_note, is_set_note, CopiesRise, sets_found}
-use Rattle.mxf_views.proofs.Common.{sets_from, sets_of, start_of, zone_of, is_in_one, lies_in, In-filter, In-map}
-use Rattle.mxf_views.proofs.Common.{found-In, none_found, same_bool, length-filter, AreSoMany, CountsZone, IsPrefaceIn}
-use Rattle.mxf_views.proofs.Common.{IsSetKind, IsStartFound, rises-map, rises-filter}
+use Rattle.mxf_views.proofs.Common.{◌≡◌, ℕ, ◌+◌, ◌<◌, ◌≤◌, true, List, Option, Some, None, refl, sym, ap, subst, ◌∙◌}
+use Rattle.mxf_views.proofs.Common.{arith, eqb-true, eq-eqb, leb-true, le-leb, ◌↔◌, ◌==◌, nat_le, count_by, filter}
+use Rattle.mxf_views.proofs.Common.{find, range_with_len, ltb-true, lt-ltb, and_from, and_parts, NoteParts, end_of}
+use Rattle.mxf_views.proofs.Common.{kind_of, In, IsContent, AreApart, IsClear, clear_notes, In-clear_notes}
+use Rattle.mxf_views.proofs.Common.{AreApart-clear_notes, AreApart-filter, CopyInfo, PartitionParts, partitions_of}
+use Rattle.mxf_views.proofs.Common.{IsCopy, copies_of, copy_from, prefaces_of, copy_of, covered_of, has_metadata}
+use Rattle.mxf_views.proofs.Common.{is_preface_note, is_set_note, CopiesRise, sets_found, sets_from, sets_of, start_of}
+use Rattle.mxf_views.proofs.Common.{zone_of, is_in_one, lies_in, In-filter, In-map, found-In, none_found, same_bool}
+use Rattle.mxf_views.proofs.Common.{length-filter, AreSoMany, CountsZone, IsPrefaceIn, IsSetKind, IsStartFound}
+use Rattle.mxf_views.proofs.Common.{rises-map, rises-filter}
 use Rattle.mxf_views.specs.Copies.{IsCopyOf, IsSetOf, sets_in}
 use Rattle.mxf_views.proofs.KindLaws.{preface_kind, set_kind}
 use Rattle.mxf_views.proofs.PartitionLaws.{one_there, partitions_rise}
@@ -273,10 +273,7 @@ sets_are notes partition n r =
 -- the copy of a partition is at its offset
 pub copy_there : (notes : List NoteParts) (p : PartitionParts) → (copy_of notes p).partition ≡ p.offset
 unfolding copy_of
-copy_there notes p = elim (start_of p.end notes) as (λ o. (copy_from notes p o).partition ≡ p.offset) [
-  | None ↦ refl
-  | Some start ↦ refl
-]
+copy_there notes p = grind (arith)
 
 pub copies_rise : (notes : List NoteParts) → IsContent notes → CopiesRise (copies_of notes)
 unfolding copies_of

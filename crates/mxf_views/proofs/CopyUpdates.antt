@@ -1,17 +1,16 @@
 -- The copies of the header metadata once a note was added: those elsewhere are counted anew where they may have
 -- changed.
 use Rattle.mxf_views.proofs.Common.{◌+◌, count_by, count_by-cons, tally, copies_among, kept_partition, option_map}
-use Rattle.mxf_views.proofs.Common.{SharesByte, kept_at, outside, ◌≡◌, ℕ, suc, length, ◌-◌, ◌<◌, ◌≤◌, ◌⊎◌, Bool, true}
-use Rattle.mxf_views.proofs.Common.{false, cond, List, [], ◌∷◌, Option, Some, None, refl, sym, ap, subst, ◌∙◌, inl, inr}
-use Rattle.mxf_views.proofs.Common.{arith, eqb-true, ◌||◌, ◌==◌, nat_lt, find, filter, map, if◌then◌else◌, cons_option}
+use Rattle.mxf_views.proofs.Common.{SharesByte, kept_at, outside, ◌≡◌, ℕ, length, ◌-◌, ◌<◌, ◌≤◌, ◌⊎◌, Bool, true, false}
+use Rattle.mxf_views.proofs.Common.{cond, List, [], ◌∷◌, Option, Some, None, refl, sym, ap, subst, ◌∙◌, inl, inr, arith}
+use Rattle.mxf_views.proofs.Common.{eqb-true, ◌||◌, ◌==◌, nat_lt, find, filter, map, if◌then◌else◌, cons_option}
 use Rattle.mxf_views.proofs.Common.{filter_map, option_and_then, ltb-true, ltb-false, and_parts, NoteParts, kind_of}
 use Rattle.mxf_views.proofs.Common.{end_of, In, IsContent, reduced_with, IsClear, clear_notes, In-clear_notes, CopyInfo}
-use Rattle.mxf_views.proofs.Common.{CopiesRise, copies_of, copy_from, copy_of, has_metadata, is_fill, is_fill_note}
-use Rattle.mxf_views.proofs.Common.{is_primer, is_readable_primer, start_of, IsHull, copies_followed, copy_by}
-use Rattle.mxf_views.proofs.Common.{has_some_metadata, states_metadata, is_outside, renewed, PartitionParts}
-use Rattle.mxf_views.proofs.Common.{partition_at, partitions_of, found-In, and_cases, IsContent-reduced_with}
-use Rattle.mxf_views.proofs.Common.{can_bring_start, or_itself, with_found, rises-map, rises-filter, IsNew, clear_after}
-use Rattle.mxf_views.proofs.Common.{IsUnmet, SameOutside}
+use Rattle.mxf_views.proofs.Common.{CopiesRise, copies_of, copy_of, has_metadata, is_fill, is_fill_note, is_primer}
+use Rattle.mxf_views.proofs.Common.{is_readable_primer, start_of, IsHull, copies_followed, copy_by, has_some_metadata}
+use Rattle.mxf_views.proofs.Common.{states_metadata, is_outside, renewed, PartitionParts, partition_at, partitions_of}
+use Rattle.mxf_views.proofs.Common.{found-In, and_cases, IsContent-reduced_with, can_bring_start, or_itself, with_found}
+use Rattle.mxf_views.proofs.Common.{rises-map, rises-filter, IsNew, clear_after, IsUnmet, SameOutside}
 use Rattle.mxf_views.specs.Partitions.{in_numbers}
 use Rattle.mxf_views.proofs.KeptItems.{kept_there, renewed_follow}
 use Rattle.mxf_views.proofs.PartitionLaws.{offset-partition_at, readable_from}
@@ -29,19 +28,12 @@ use Rattle.mxf_catalogue.proofs.DisputeLaws.{is_byte_shared-SharesByte}
 
 pub start_is_found : (notes : List NoteParts) (p : PartitionParts) → (copy_of notes p).start ≡ start_of p.end notes
 unfolding copy_of
-start_is_found notes p = elim (start_of p.end notes) as (λ o. (copy_from notes p o).start ≡ o) [
-  | None ↦ refl
-  | Some start ↦ refl
-]
+start_is_found notes p = grind (arith)
 
 bytes_are_stated : (notes : List NoteParts) (p : PartitionParts)
     → (copy_of notes p).bytes ≡ p.pack.numbers.header_byte_count
 unfolding copy_of
-bytes_are_stated notes p =
-    elim (start_of p.end notes) as (λ o. (copy_from notes p o).bytes ≡ p.pack.numbers.header_byte_count) [
-      | None ↦ refl
-      | Some start ↦ refl
-    ]
+bytes_are_stated notes p = grind (arith)
 
 pub end-partition_at : (n : NoteParts) (p : PartitionParts) → partition_at n ≡ Some p → p.end ≡ end_of n
 end-partition_at n p e = (readable_from n p e).end
@@ -183,21 +175,7 @@ kept_copies_rise notes start end brings cs r =
 copies_each : (clear ns : List NoteParts)
     → filter_map (copy_by clear) ns ≡ map (copy_of clear) (filter has_metadata (filter_map partition_at ns))
 copies_each clear [] = refl
-copies_each clear (n ∷ ns) =
-    let ih = copies_each clear ns in
-    elim (partition_at n) as (λ o.
-    cons_option (option_and_then (λ p. if has_metadata p then Some (copy_of clear p) else None) o)
-    (filter_map (copy_by clear) ns)
-    ≡ map (copy_of clear) (filter has_metadata (cons_option o (filter_map partition_at ns)))) [
-      | None ↦ ih
-      | Some p ↦ elim (has_metadata p) as (λ b.
-          cons_option (if b then Some (copy_of clear p) else None) (filter_map (copy_by clear) ns)
-          ≡ map (copy_of clear) (cond b (p ∷ filter has_metadata (filter_map partition_at ns))
-          (filter has_metadata (filter_map partition_at ns)))) [
-            | true ↦ ap (λ l. copy_of clear p ∷ l) ih
-            | false ↦ ih
-          ]
-    ]
+copies_each clear (n ∷ ns) = grind (arith, copies_each clear ns)
 
 -- A copy is the same by what its partition states in numbers.
 pub copy_in_numbers : (clear : List NoteParts) (p : PartitionParts) → copy_of clear (in_numbers p) ≡ copy_of clear p
@@ -209,21 +187,7 @@ pub kept_copies : (clear ns : List NoteParts)
     → copies_among clear (filter_map kept_partition ns) ≡ filter_map (copy_by clear) ns
 unfolding copy_of
 kept_copies clear [] = refl
-kept_copies clear (n ∷ ns) =
-    let ih = kept_copies clear ns in
-    let rest = filter_map kept_partition ns in
-    elim (partition_at n) as (λ o.
-    map (copy_of clear) (filter has_metadata (cons_option (option_map in_numbers o) rest))
-    ≡ cons_option (option_and_then (λ p. if has_metadata p then Some (copy_of clear p) else None) o)
-    (filter_map (copy_by clear) ns)) [
-      | None ↦ ih
-      | Some p ↦ elim (has_metadata p) as (λ b.
-          map (copy_of clear) (cond b (in_numbers p ∷ filter has_metadata rest) (filter has_metadata rest))
-          ≡ cons_option (if b then Some (copy_of clear p) else None) (filter_map (copy_by clear) ns)) [
-            | true ↦ ap (λ l. copy_of clear p ∷ l) ih
-            | false ↦ ih
-          ]
-    ]
+kept_copies clear (n ∷ ns) = grind (arith, kept_copies clear ns)
 
 pub counted_copies : (ns : List NoteParts)
     → count_by has_metadata (filter_map kept_partition ns) ≡ count_by states_metadata ns
@@ -246,19 +210,7 @@ copies_by_notes notes = copies_each (clear_notes notes) (clear_notes notes)
 -- ---- all copies
 
 own_copy : (clear : List NoteParts) (n : NoteParts) (c : CopyInfo) → copy_by clear n ≡ Some c → c.partition ≡ n.offset
-own_copy clear n c e =
-    elim (partition_at n) as (λ o. partition_at n ≡ o
-    → option_and_then (λ p. if has_metadata p then Some (copy_of clear p) else None) o ≡ Some c
-    → c.partition ≡ n.offset) [
-      | None ↦ λ f q. absurd cc
-      | Some p ↦ λ f. elim (has_metadata p) as (λ b. (if b then Some (copy_of clear p) else None) ≡ Some c
-          → c.partition ≡ n.offset) [
-            | false ↦ λ q. absurd cc
-            | true ↦ λ q. (
-                let same : copy_of clear p ≡ c = cc (q) in
-                ap (λ (y : CopyInfo). y.partition) (sym same) ∙ copy_there clear p ∙ offset-partition_at n p f)
-          ]
-    ] refl e
+own_copy clear n c e = grind (arith, copy_there, offset-partition_at)
 
 -- They follow an arrival as what is kept of the notes does.
 pub copies_follow : (x : NoteParts) (notes : List NoteParts) (start end : ℕ) → IsContent notes → IsNew x notes
@@ -296,20 +248,7 @@ copies_follow x notes start end r new h =
 length-copies_each : (clear ns : List NoteParts)
     → length (filter_map (copy_by clear) ns) ≡ length (filter states_metadata ns)
 length-copies_each clear [] = refl
-length-copies_each clear (n ∷ ns) =
-    let ih = length-copies_each clear ns in
-    elim (partition_at n) as (λ o.
-    length (cons_option (option_and_then (λ p. if has_metadata p then Some (copy_of clear p) else None) o)
-    (filter_map (copy_by clear) ns))
-    ≡ length (cond (has_some_metadata o) (n ∷ filter states_metadata ns) (filter states_metadata ns))) [
-      | None ↦ ih
-      | Some p ↦ elim (has_metadata p) as (λ b.
-          length (cons_option (if b then Some (copy_of clear p) else None) (filter_map (copy_by clear) ns))
-          ≡ length (cond b (n ∷ filter states_metadata ns) (filter states_metadata ns))) [
-            | true ↦ ap suc ih
-            | false ↦ ih
-          ]
-    ]
+length-copies_each clear (n ∷ ns) = grind (arith, length-copies_each clear ns)
 
 pub length-copies_of : (notes : List NoteParts)
     → length (copies_of notes) ≡ length (filter states_metadata (clear_notes notes))

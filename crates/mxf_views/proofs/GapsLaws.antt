@@ -11,12 +11,7 @@ use Rattle.mxf_catalogue.proofs.RunLaws.{AreMaximal-lower}
 use Rattle.mxf_catalogue.proofs.RunBounds.{length_maximal}
 
 maximal_from : (notes : List NoteParts) (reached top : ℕ) → AreMaximal reached (gaps_from reached top notes)
-maximal_from [] reached top =
-    elim (nat_lt reached top) as (λ b. nat_lt reached top ≡ b
-    → AreMaximal reached (cond b (record { start = reached; end = top } ∷ []) [])) [
-      | true ↦ λ t. (omega arith, ltb-true reached top t, tt)
-      | false ↦ λ t. tt
-    ] refl
+maximal_from [] reached top = grind (arith)
 maximal_from (n ∷ notes) reached top =
     let high = max reached (covered_end n) in
     let rest = gaps_from high (max top (end_of n)) notes in
@@ -59,25 +54,7 @@ fewer n notes reached top offset g =
 before_or_after : (n : NoteParts) (notes : List NoteParts) (reached top offset : ℕ)
     → IsGapAbove reached top (n ∷ notes) offset
     → (offset < n.offset) ⊎ IsGapAbove (max reached (covered_end n)) (max top (end_of n)) notes offset
-before_or_after n notes reached top offset g =
-    let a : reached ≤ offset = g.above in
-    elim (cases_lt offset n.offset) [
-      | inl t ↦ inl t
-      | inr l ↦ elim (cases_lt offset (covered_end n)) [
-        | inl r ↦ absurd (g.in_none n (inl refl) (record { from = l; before = omega (arith, r) }))
-        | inr r ↦ inr (record {
-          above = omega arith;
-          below = elim g.below [
-            | inl k ↦ inl (omega (arith, k))
-            | inr s ↦ elim s.1 [
-              | inl e ↦ (let f = ap end_of e in inl (omega (arith, f, s.2)))
-              | inr k ↦ inr (s.0, k, s.2)
-            ]
-          ];
-          in_none = λ m h s. g.in_none m (inr h) s;
-        })
-      ]
-    ]
+before_or_after n notes reached top offset g = grind (arith)
 
 -- before the first note of a content is none
 before_first : (n : NoteParts) (notes : List NoteParts) (reached top offset : ℕ) → IsContent (n ∷ notes)

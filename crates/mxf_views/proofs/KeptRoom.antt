@@ -1,9 +1,10 @@
 -- How much room is wanted for what is kept of two contents.
-use Rattle.mxf_views.proofs.Common.{◌≡◌, ◌≤◌, ◌+◌, ℕ, Bool, List, [], ◌∷◌, not, sym, subst, ap, ◌∙◌, arith, length}
-use Rattle.mxf_views.proofs.Common.{count_by, NoteParts, AreReduced, IsContent, clear_notes}
-use Rattle.mxf_views.proofs.Common.{copies_of, count_by-le-length, is_disputed, KeptParts}
-use Rattle.mxf_views.proofs.Common.{states_metadata, kept_of, length-filter_le, reduced_union, reduced_with, MeetAt}
-use Rattle.mxf_views.proofs.Common.{clear_from, HasRoom, kept_in, nothing_kept}
+use Rattle.mxf_views.proofs.Common.{◌≡◌, ◌≤◌, ◌+◌, ℕ, Bool, List, [], ◌∷◌, not, sym, ap, ◌∙◌, arith, length, count_by}
+use Rattle.mxf_views.proofs.Common.{NoteParts, AreReduced, IsContent, clear_notes, copies_of, count_by-le-length}
+use Rattle.mxf_views.proofs.Common.{is_disputed, states_metadata, kept_of, length-filter_le, reduced_union}
+use Rattle.mxf_views.proofs.Common.{reduced_with, MeetAt, clear_from, HasRoom, kept_in, nothing_kept, count_by-cons}
+use Rattle.mxf_views.proofs.Common.{Option, None, Some, refl, cons_option, filter_map, is_some, tally, is_kept}
+use Rattle.mxf_views.proofs.Common.{kept_partition, kept_random_index_pack, kept_segment, kept_unreadable_pack}
 use Rattle.mxf_catalogue.specs.Disputes.{undisputed_notes}
 use Rattle.mxf_views.specs.declared.kept.KeptLists.{KeptLists}
 use Rattle.mxf_views.specs.Kept.{HasRoomForOne}
@@ -11,8 +12,6 @@ use Rattle.mxf_views.proofs.AboveLaws.{new_are_clear, union_is_reduced}
 use Rattle.mxf_views.proofs.CopyUpdates.{length-copies_of}
 use Rattle.mxf_views.proofs.ReachLaws.{length-reaches_from}
 use Rattle.mxf_catalogue.proofs.ClearLaws.{count_in_union, count_is_length}
-use Rattle.mxf_views.proofs.Common.{count_by-cons, Option, None, Some, refl, cons_option, filter_map, is_some, tally, is_kept}
-use Rattle.mxf_views.proofs.Common.{kept_partition, kept_random_index_pack, kept_segment, kept_unreadable_pack}
 
 -- There are as many as notes of which something is kept.
 length-kept : {A : Type 0} (take : NoteParts → Option A) (ns : List NoteParts)
@@ -54,18 +53,4 @@ pub room_for_both : (own other : List NoteParts) (k : KeptLists) → IsContent o
     → AreReduced other → kept_in k ≡ kept_of own → HasRoom (kept_in k) (clear_notes other) k
     → HasRoom nothing_kept (clear_notes (reduced_union own other)) k
 room_for_both own other k r s p q keeps room =
-    let there = subst (λ (parts : KeptParts). HasRoom parts (clear_notes other) k) keeps room in
-    let copies = length-kept_copies own in
-    let reaches = length-reaches_from 0 (copies_of own) in
-    record {
-      partitions = omega (arith, both (is_kept kept_partition), length-kept kept_partition (clear_notes own), there.partitions);
-      segments = omega (arith, both (is_kept kept_segment), length-kept kept_segment (clear_notes own), there.segments);
-      rips = omega (arith, both (is_kept kept_random_index_pack), length-kept kept_random_index_pack (clear_notes own), there.rips);
-      unreadable = omega (arith, both (is_kept kept_unreadable_pack), length-kept kept_unreadable_pack (clear_notes own), there.unreadable);
-      copies = omega (arith, both states_metadata, copies, there.copies);
-      reaches = omega (arith, both states_metadata, copies, reaches, there.reaches);
-    }
-  where
-    both : (test : NoteParts → Bool) → count_by test (clear_notes (reduced_union own other))
-        ≤ count_by test (clear_notes own) + count_by test (clear_notes other)
-    both test = count_in_union test own other r s p q
+    grind (arith, length-kept_copies, length-reaches_from, length-kept, count_in_union)

@@ -1,10 +1,10 @@
 -- The links of partitions that rise, each of which names the one before it: they are those of a reading from the front.
 use Rattle.mxf_views.proofs.Common.{◌≡◌, ℕ, ◌+◌, ◌<◌, ◌≤◌, Bool, true, false, cond, not, ◌||◌, ◌==◌, nat_lt, List, []}
 use Rattle.mxf_views.proofs.Common.{◌∷◌, ◌++◌, ◌⊎◌, find, count_by, Option, None, Some, is_some, refl, AllByRecursion}
-use Rattle.mxf_views.proofs.Common.{list_all, option_map, option_and_then, sym, ◌∙◌, ap, subst, inl, inr, arith, eq-eqb}
-use Rattle.mxf_views.proofs.Common.{ltb-true, and_from, false_from_ne_true, sum_by-append, In, First, Held}
-use Rattle.mxf_views.proofs.Common.{PartitionParts, is_footer, is_greatest, is_header, is_linked, link_at, link_of}
-use Rattle.mxf_views.proofs.Common.{stands_above, count_by-cons, tally, list_any-In, In-list_all, all-In, all_from_In}
+use Rattle.mxf_views.proofs.Common.{list_all, option_map, sym, ◌∙◌, ap, subst, inl, inr, arith, eq-eqb, ltb-true}
+use Rattle.mxf_views.proofs.Common.{and_from, false_from_ne_true, sum_by-append, In, First, Held, PartitionParts}
+use Rattle.mxf_views.proofs.Common.{is_footer, is_greatest, is_header, is_linked, link_at, link_of, stands_above}
+use Rattle.mxf_views.proofs.Common.{count_by-cons, tally, list_any-In, In-list_all, all-In, all_from_In}
 use Rattle.mxf_views.proofs.Common.{IsGreatestBelow, link_read_at, links_read, count-none}
 use Rattle.std.proofs.lemmas.Bool.{or_right}
 use Rattle.mxf_views.specs.Reading.{ends_with_footer, link_read}
@@ -124,20 +124,7 @@ held-after : (all : List PartitionParts) (q : PartitionParts) (post : List Parti
     → NameTheOneBefore q.offset post → AllByRecursion (λ p. link_of all p ≡ Held) post
 held-after all q [] h i near r n = tt
 held-after all q (p ∷ ps) h i near r n =
-    let low : q.offset + 1 ≤ p.offset = r.0 in (
-      held all q p h (omega arith) n.0 (λ x k l. elim (near x k) [
-        | inl a ↦ a
-        | inr b ↦ let o : p.offset ≤ x.offset = at_or_above p.offset (p ∷ ps) x (omega arith, r.1) b in
-            absurd (omega (arith, l, o))
-      ]),
-      held-after all p ps (i p (inl refl)) (λ x k. i x (inr k)) (λ x k. elim (near x k) [
-        | inl a ↦ inl (omega arith)
-        | inr b ↦ elim b [
-          | inl e ↦ let o = offset-same x p e in inl (omega (arith, o))
-          | inr m ↦ inr m
-        ]
-      ]) r.1 n.1,
-    )
+    grind (arith, held, at_or_above, offset-same, held-after all p ps (i p (inl refl)) (λ x k. i x (inr k)))
 
 -- What is read of each partition is its link, after a partition at an offset or none.
 abbrev AreRead : List PartitionParts → Option ℕ → List PartitionParts → Type 0
@@ -156,14 +143,7 @@ found_read : (all : List PartitionParts) (offset : ℕ) (before : Option ℕ) (p
     → AreRead all before ps
     → option_map (link_of all) (find (λ p. p.offset == offset) ps) ≡ link_read_at offset (links_read before ps)
 found_read all offset before [] a = refl
-found_read all offset before (p ∷ ps) a =
-    let links = links_read (Some p.offset) ps in
-    elim (p.offset == offset) as (λ b.
-    option_map (link_of all) (cond b (Some p) (find (λ q. q.offset == offset) ps))
-    ≡ option_and_then (λ l. l.1) (cond b (Some (p.offset, link_read before p)) (find (λ l. l.0 == offset) links))) [
-      | true ↦ sym a.0
-      | false ↦ found_read all offset (Some p.offset) ps a.1
-    ]
+found_read all offset before (p ∷ ps) a = grind (arith, found_read all offset (Some p.offset) ps a.1)
 
 -- A link is read of each.
 all_some : (all : List PartitionParts) (before : Option ℕ) (ps : List PartitionParts) → AreRead all before ps

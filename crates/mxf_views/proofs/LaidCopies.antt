@@ -1,16 +1,16 @@
 -- The copies of a well-formed file are those of its reading.
 use Rattle.mxf_views.proofs.Common.{◌≡◌, ℕ, ◌+◌, ◌-◌, ◌<◌, ◌≤◌, true, false, cond, ◌&&◌, nat_le, ◌==◌, List, [], ◌∷◌}
 use Rattle.mxf_views.proofs.Common.{◌++◌, map, filter, find, count_by, Some, None, is_some, IfSome, refl}
-use Rattle.mxf_views.proofs.Common.{AllByRecursion, cons_option, list_all, option_and_then, option_map, option_map_or}
-use Rattle.mxf_views.proofs.Common.{sym, ◌∙◌, ap, subst, arith, and_from, eq-eqb, le-leb, lt-ltb, ltb-true, end_of}
-use Rattle.mxf_views.proofs.Common.{note_of, size_of, NoteParts, PacketParts, notes_from, primer_at, PartitionPackParts}
-use Rattle.mxf_views.proofs.Common.{copies_of, copy_from, copy_of, covered_of, has_metadata, is_fill_note, is_filled}
-use Rattle.mxf_views.proofs.Common.{is_preface_note, is_primer, is_readable_primer, is_set_note, is_start, preferred_of}
-use Rattle.mxf_views.proofs.Common.{sets_found, sets_from, sets_of, start_of, zone_of, PartitionParts, partitions_read}
-use Rattle.mxf_views.proofs.Common.{read_pack, sizes, HasMetadata, IsFill, IsWellFormed, is_readable_as, total_of}
-use Rattle.mxf_views.proofs.Common.{lt-leb, copies_among, CopyRead, after_fills, copies_alone, copies_read, copy_read}
-use Rattle.mxf_views.proofs.Common.{taken, whole_copy, value_as, IsPrimerPack, HasCopiesOf, clear-laid, all-right}
-use Rattle.std.proofs.lemmas.Bool.{and_left, and_right}
+use Rattle.mxf_views.proofs.Common.{AllByRecursion, cons_option, list_all, option_and_then, option_map, sym, ◌∙◌, ap}
+use Rattle.mxf_views.proofs.Common.{subst, arith, and_from, eq-eqb, le-leb, lt-ltb, ltb-true, end_of, note_of, size_of}
+use Rattle.mxf_views.proofs.Common.{NoteParts, PacketParts, notes_from, primer_at, PartitionPackParts, copies_of}
+use Rattle.mxf_views.proofs.Common.{copy_from, copy_of, covered_of, has_metadata, is_fill_note, is_filled}
+use Rattle.mxf_views.proofs.Common.{is_preface_note, is_primer, is_readable_primer, is_set_note, is_start, sets_found}
+use Rattle.mxf_views.proofs.Common.{sets_from, sets_of, start_of, zone_of, PartitionParts, partitions_read, read_pack}
+use Rattle.mxf_views.proofs.Common.{sizes, HasMetadata, IsFill, IsWellFormed, is_readable_as, total_of, copies_among}
+use Rattle.mxf_views.proofs.Common.{CopyRead, after_fills, copies_alone, copies_read, copy_read, taken, whole_copy}
+use Rattle.mxf_views.proofs.Common.{value_as, IsPrimerPack, HasCopiesOf, clear-laid, all-right}
+use Rattle.std.proofs.lemmas.Bool.{and_left}
 use Rattle.mxf_views.specs.Reading.{sets_read}
 use Rattle.mxf_views.specs.WellFormed.{IsReadable, MetadataFollow}
 use Rattle.mxf_views.proofs.Laid.{LastFrom, covered-laid, last_all, last_next, last_past, partitions_of-laid}
@@ -41,13 +41,7 @@ taken-all bytes (x ∷ xs) ys e =
 find_past : (end : ℕ) (notes before rest : List NoteParts) → AllByRecursion (λ n. end_of n ≤ end) before
     → find (is_start end notes) (before ++ rest) ≡ find (is_start end notes) rest
 find_past end notes [] rest a = refl
-find_past end notes (n ∷ ns) rest a =
-    let b : end_of n ≤ end = a.0 in
-    let e : nat_le end n.offset ≡ false = lt-leb end n.offset (omega arith) in
-    let f : is_start end notes n ≡ false =
-    and_left (is_readable_primer n && nat_le end n.offset) (is_filled end (n.offset - end) notes)
-    (and_right (is_readable_primer n) (nat_le end n.offset) e) in
-    rw f (find_past end notes ns rest a.1)
+find_past end notes (n ∷ ns) rest a = grind (arith, find_past end notes ns rest a.1)
 
 -- A fill is no readable primer.
 no_primer : (at : ℕ) (p : PacketParts) → IsFill p → is_readable_primer (note_of at p) ≡ false
@@ -227,13 +221,7 @@ sets-read : (notes : List NoteParts) (qs : List PartitionParts) (reads : List Co
 sets-read notes [] [] a offset = refl
 sets-read notes (q ∷ qs) [] a offset = absurd a
 sets-read notes [] (r ∷ rs) a offset = absurd a
-sets-read notes (q ∷ qs) (r ∷ rs) a offset =
-    elim (r.copy.partition == offset) as (λ b.
-    sets_found notes (cond b (Some r.copy) (find (λ c. c.partition == offset) (copies_alone rs)))
-    ≡ option_map_or (λ r. r.sets) (cond b (Some r) (find (λ r. r.copy.partition == offset) rs)) []) [
-      | true ↦ a.0.sets
-      | false ↦ sets-read notes qs rs a.1 offset
-    ]
+sets-read notes (q ∷ qs) (r ∷ rs) a offset = grind (arith, sets-read notes qs rs a.1 offset)
 
 -- The copies of a file, with their sets, are what was read.
 laid : (l : List PacketParts) → IsWellFormed l
@@ -255,8 +243,4 @@ sets_of-laid l w offset =
 
 -- The copies, the sets of each and the preferred copy of a well-formed file.
 pub copies-laid : (l : List PacketParts) → IsWellFormed l → HasCopiesOf (notes_from 0 l) l
-copies-laid l w = record {
-  copies = copies_of-laid l w;
-  sets = sets_of-laid l w;
-  preferred = ap preferred_of (copies_of-laid l w) ∙ preferred-rising (copies_alone (copies_read 0 l)) (rise-read 0 l);
-}
+copies-laid l w = grind (arith, copies_of-laid, sets_of-laid, preferred-rising, rise-read)

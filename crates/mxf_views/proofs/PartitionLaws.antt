@@ -1,13 +1,11 @@
 -- The partitions, and how each names the one before it.
-use Rattle.mxf_views.proofs.Common.{◌≡◌, ℕ, ◌<◌, ◌≤◌, Bool, true, false, List, Some, None, refl, sym, ap, subst, ◌∙◌}
-use Rattle.mxf_views.proofs.Common.{inl, inr, arith, eqb-true, eq-eqb, leb-true, ◌↔◌, ◌&&◌, ◌==◌, nat_le, nat_lt, find}
-use Rattle.mxf_views.proofs.Common.{not, if◌then◌else◌, option_map, ltb-true, lt-ltb, and_from, and_parts, NoteParts}
-use Rattle.mxf_views.proofs.Common.{end_of, kind_of, In, pack_at, PartitionPackParts, IsContent, clear_notes}
+use Rattle.mxf_views.proofs.Common.{◌≡◌, ℕ, ◌<◌, Bool, true, false, List, Some, None, refl, sym, ap, subst, ◌∙◌, inl}
+use Rattle.mxf_views.proofs.Common.{inr, arith, eqb-true, eq-eqb, ◌↔◌, ◌==◌, find, not, if◌then◌else◌, option_map}
+use Rattle.mxf_views.proofs.Common.{NoteParts, end_of, kind_of, In, pack_at, PartitionPackParts, IsContent, clear_notes}
 use Rattle.mxf_views.proofs.Common.{In-clear_notes, First, Held, PartitionParts, AreInOrder, pack_of, partition_at}
 use Rattle.mxf_views.proofs.Common.{partitions_of, link_of, link_at, list_any-In, found-In, find-only, In-filter_map}
-use Rattle.mxf_views.proofs.Common.{cases_lt, leb-false, Link, Skips, Missing, Wrong, StandsAt, IsGreatestBelow, IsLink}
-use Rattle.mxf_views.proofs.Common.{stands_at, stands_between, one_by_key, keeps_value, none_some, pack_under}
-use Rattle.mxf_views.proofs.Common.{part_and_status, result_ok}
+use Rattle.mxf_views.proofs.Common.{Link, Skips, Missing, Wrong, StandsAt, IsGreatestBelow, IsLink, stands_at}
+use Rattle.mxf_views.proofs.Common.{stands_between, one_by_key, none_some, part_and_status}
 use Rattle.mxf_views.specs.Partitions.{IsReadablePack, IsPartition, IsLinkAt, previous_of}
 use Rattle.mxf_views.proofs.KeptItems.{kept_rise}
 use Rattle.mxf_views.proofs.ReadingLaws.{reads}
@@ -34,20 +32,11 @@ offset-partition_at n p e = (readable_from n p e).offset
 
 readable_to : (n : NoteParts) (p : PartitionParts) → IsReadablePack n p → partition_at n ≡ Some p
 unfolding partition_at
-readable_to n p a =
-    let r = (reads (pack_at (kind_of n.key)) n p.pack).1 a.read in
-    let o = a.offset in
-    let e = a.end in
-    ap (option_map (placed n)) r ∙ (λ i. Some record { offset = sym o i; end = sym e i; pack = p.pack })
+readable_to n p a = grind (arith, reads, placed)
 
 -- A note whose kind isn't that of a partition pack is no partition.
 pub no_pack : (n : NoteParts) → part_and_status (kind_of n.key) ≡ None → pack_of n ≡ None
-no_pack n e =
-    elim (keeps_value n) as (λ k.
-    (if k then result_ok (pack_under (part_and_status (kind_of n.key)) n.held) else None) ≡ None) [
-      | false ↦ refl
-      | true ↦ ap (λ o. result_ok (pack_under o n.held)) e
-    ]
+no_pack n e = grind (arith)
 
 pub not_partition : (n : NoteParts) (p : PartitionParts) → part_and_status (kind_of n.key) ≡ None
     → partition_at n ≡ Some p → ⊥
@@ -91,59 +80,15 @@ there_says ps o t = let s = (list_any-In (λ q. q.offset == o) ps).0 t in (s.0, 
 
 between_says : (ps : List PartitionParts) (low high : ℕ) → stands_between low high ps ≡ true
     → IsGreatestBelow ps high low → ⊥
-between_says ps low high t g =
-    let s = (list_any-In (λ q. nat_lt low q.offset && nat_lt q.offset high) ps).0 t in
-    let b = and_parts (nat_lt low s.0.offset) (nat_lt s.0.offset high) s.2 in
-    let x : low < s.0.offset = ltb-true low s.0.offset b.0 in
-    let y : s.0.offset ≤ low = g.greatest s.0 s.1 (ltb-true s.0.offset high b.1) in
-    omega arith
+between_says ps low high t g = grind (arith, list_any-In)
 
 none_between : (ps : List PartitionParts) (low high : ℕ) → StandsAt ps low → low < high
     → stands_between low high ps ≡ false → IsGreatestBelow ps high low
-none_between ps low high s l f = record {
-  there = s;
-  below = l;
-  greatest = λ q h b. elim (cases_lt low q.offset) [
-    | inl t ↦ absurd (let u = (list_any-In (λ x. nat_lt low x.offset && nat_lt x.offset high) ps).1 (
-      q,
-      h,
-      and_from (nat_lt low q.offset) (nat_lt q.offset high) (lt-ltb low q.offset t)
-          (lt-ltb q.offset high b),
-    ) in
-        cc (u, f))
-    | inr t ↦ t
-  ];
-}
+none_between ps low high s l f = grind (arith, list_any-In)
 
 -- What is computed is the link.
 pub link_is : (ps : List PartitionParts) (p : PartitionParts) → IsLink ps p (link_of ps p)
-link_is ps p =
-    let v = previous_of p in
-    elim (p.offset == 0) as (λ b. (p.offset == 0) ≡ b
-    → IsLink ps p (link_by b (v == 0) (nat_le p.offset v) (stands_at v ps) (stands_between v p.offset ps))) [
-      | true ↦ λ z.
-          let at : p.offset ≡ 0 = eqb-true p.offset 0 z in
-          elim (v == 0) as (λ b. (v == 0) ≡ b → IsLink ps p (if b then First else Wrong)) [
-            | true ↦ λ t. (at, eqb-true v 0 t)
-            | false ↦ λ t. inl (at, λ e. let u = eq-eqb v 0 e in cc (t, u))
-          ] refl
-      | false ↦ λ z.
-          elim (nat_le p.offset v) as (λ b. nat_le p.offset v ≡ b
-          → IsLink ps p (link_by false (v == 0) b (stands_at v ps) (stands_between v p.offset ps))) [
-            | true ↦ λ t. inr ((λ e. let u = eq-eqb p.offset 0 e in cc (z, u)), leb-true p.offset v t)
-            | false ↦ λ t.
-                let l : v < p.offset = leb-false p.offset v t in
-                elim (stands_at v ps) as (λ b. stands_at v ps ≡ b
-                → IsLink ps p (link_by false (v == 0) false b (stands_between v p.offset ps))) [
-                  | false ↦ λ n. (l, λ s. let u = there_is ps v s in cc (n, u))
-                  | true ↦ λ n. elim (stands_between v p.offset ps) as (λ b. stands_between v p.offset ps ≡ b
-                      → IsLink ps p (if b then Skips else Held)) [
-                        | true ↦ λ s. (l, there_says ps v n, between_says ps v p.offset s)
-                        | false ↦ λ s. none_between ps v p.offset (there_says ps v n) l s
-                      ] refl
-                ] refl
-          ] refl
-    ] refl
+link_is ps p = grind (arith, stands_at, there_is, there_says, between_says, none_between)
 
 -- A partition has one link.
 pub one_link : (ps : List PartitionParts) (p : PartitionParts) (a b : Link) → IsLink ps p a → IsLink ps p b → a ≡ b

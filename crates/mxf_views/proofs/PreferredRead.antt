@@ -1,11 +1,9 @@
 -- Of copies that rise by partition, the preferred one is the same by either way of taking the better of two.
-use Rattle.mxf_views.proofs.Common.{◌≡◌, ℕ, ◌+◌, ◌<◌, ◌≤◌, true, false, cond, ◌&&◌, nat_lt, List, [], ◌∷◌, Option, Some}
-use Rattle.mxf_views.proofs.Common.{None, IfSome, refl, cons_option, option_and_then, option_map, ◌∙◌, ap, arith}
-use Rattle.mxf_views.proofs.Common.{size_of, PacketParts, notes_from, best_of, preferred_of, rank, PartitionParts}
-use Rattle.mxf_views.proofs.Common.{partition_read, read_pack, CopyInfo, better, is_above, is_candidate, CopyRead}
-use Rattle.mxf_views.proofs.Common.{after_fills, copies_alone, copies_read, copy_read, taken, whole_copy, from_lower}
+use Rattle.mxf_views.proofs.Common.{◌≡◌, ℕ, ◌+◌, ◌<◌, ◌≤◌, cond, ◌&&◌, List, [], ◌∷◌, Option, Some, None, IfSome, refl}
+use Rattle.mxf_views.proofs.Common.{cons_option, option_and_then, ◌∙◌, ap, arith, size_of, PacketParts, notes_from}
+use Rattle.mxf_views.proofs.Common.{best_of, preferred_of, rank, PartitionParts, partition_read, CopyInfo, better}
+use Rattle.mxf_views.proofs.Common.{is_candidate, CopyRead, copies_alone, copies_read, copy_read, taken, from_lower}
 use Rattle.std.specs.Prelude.{fold}
-use Rattle.std.proofs.lemmas.Option.{IfSome_then}
 use Rattle.mxf_views.specs.Reading.{better_read, preferred_read}
 use Rattle.mxf_klv.proofs.RisingBy.{IsRisingFrom}
 use Rattle.mxf_klv.proofs.NoteFilters.{one_above}
@@ -19,33 +17,17 @@ rise_one : (low high : ℕ) (o : Option CopyRead) (reads : List CopyRead) → lo
     → IfSome o (λ r. r.copy.partition ≡ low) → RiseFrom high (copies_alone reads)
     → RiseFrom low (copies_alone (cons_option o reads))
 rise_one low high None reads h e r = from_lower (λ c. c.partition) low high (copies_alone reads) (omega arith) r
-rise_one low high (Some read) reads h e r = (
-  omega (arith, e),
-  from_lower (λ c. c.partition) (read.copy.partition + 1) high (copies_alone reads) (omega
-      (arith, h, e)) r,
-)
+rise_one low high (Some read) reads h e r = grind (arith, from_lower)
 
 -- What is read of a partition is at its offset.
 copy_read_there : (ps : List PacketParts) (q : PartitionParts)
     → IfSome (copy_read ps q) (λ r. r.copy.partition ≡ q.offset)
-copy_read_there ps q =
-    let bytes : ℕ = q.pack.numbers.header_byte_count in
-    let found : ℕ × List PacketParts = after_fills q.end ps in
-    let read : CopyRead = whole_copy q found.0 (notes_from found.0 (taken bytes found.1)) in
-    elim (nat_lt 0 bytes) as (λ b. IfSome (cond b (Some read) None) (λ r. r.copy.partition ≡ q.offset)) [
-      | true ↦ refl
-      | false ↦ tt
-    ]
+copy_read_there ps q = grind (arith, notes_from, taken)
 
 -- What is read of a packet is at its offset.
 there : (at : ℕ) (p : PacketParts) (ps : List PacketParts)
     → IfSome (option_and_then (copy_read ps) (partition_read at p)) (λ r. r.copy.partition ≡ at)
-there at p ps =
-    elim (read_pack p) as (λ o. IfSome (option_and_then (copy_read ps)
-    (option_map (λ pack. record { offset = at; end = at + size_of p; pack = pack }) o)) (λ r. r.copy.partition ≡ at)) [
-      | None ↦ tt
-      | Some pack ↦ copy_read_there ps record { offset = at; end = at + size_of p; pack = pack }
-    ]
+there at p ps = grind (arith, copy_read_there)
 
 -- The copies of a file rise.
 pub rise-read : (at : ℕ) (l : List PacketParts) → RiseFrom at (copies_alone (copies_read at l))
@@ -57,11 +39,7 @@ rise-read at (p ∷ ps) =
 -- A copy in a partition above that of the best so far.
 better_same : (low : ℕ) (best : Option CopyInfo) (c : CopyInfo) → IfSome best (λ b. b.partition < low)
     → low ≤ c.partition → better best c ≡ better_read best c
-better_same low None c h l =
-    elim (is_candidate c) as (λ b. cond (b && true) (Some c) None ≡ cond b (Some c) None) [
-      | true ↦ refl
-      | false ↦ refl
-    ]
+better_same low None c h l = grind (arith)
 better_same low (Some best) c h l =
     ap (λ t. cond (is_candidate c && t) (Some c) (Some best))
     (one_above (rank best) (rank c) best.partition c.partition (omega arith))
@@ -69,12 +47,7 @@ better_same low (Some best) c h l =
 -- The better of two is below all that come later.
 best_below : (low : ℕ) (best : Option CopyInfo) (c : CopyInfo) → IfSome best (λ b. b.partition < low)
     → low ≤ c.partition → IfSome (better best c) (λ b. b.partition < c.partition + 1)
-best_below low best c h l =
-    elim (is_candidate c && is_above c best) as (λ t. IfSome (cond t (Some c) best)
-    (λ b. b.partition < c.partition + 1)) [
-      | true ↦ omega arith
-      | false ↦ IfSome_then best h (λ b k. omega (arith, k, l))
-    ]
+best_below low best c h l = grind (arith)
 
 best_same : (low : ℕ) (best : Option CopyInfo) (copies : List CopyInfo) → IfSome best (λ b. b.partition < low)
     → RiseFrom low copies → best_of best copies ≡ fold better_read best copies

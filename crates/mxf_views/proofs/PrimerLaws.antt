@@ -1,11 +1,10 @@
 -- The primer pack of a set.
-use Rattle.mxf_views.proofs.Common.{◌≡◌, ℕ, ◌+◌, ◌<◌, ◌≤◌, Bool, true, false, cond, List, [], ◌∷◌, Option, Some, None}
-use Rattle.mxf_views.proofs.Common.{refl, sym, ap, subst, ◌∙◌, inl, inr, arith, eqb-true, eq-eqb, leb-true, le-leb}
-use Rattle.mxf_views.proofs.Common.{◌↔◌, ◌==◌, nat_le, find, option_and_then, NoteParts, end_of, In, primer_at}
-use Rattle.mxf_views.proofs.Common.{read_as, IsContent, IsClear, clear_notes, In-clear_notes, CopyInfo, CopiesRise}
-use Rattle.mxf_views.proofs.Common.{IsCopy, IsStart, copies_of, is_in_copy, primer_there, find-only, found-In}
-use Rattle.mxf_views.proofs.Common.{none_found, all-In, and_from, and_parts, BatchParts, IsPrimerOf, IsStartFound}
-use Rattle.mxf_views.proofs.Common.{is_in_zone, primer_for}
+use Rattle.mxf_views.proofs.Common.{◌≡◌, ℕ, ◌<◌, ◌≤◌, Bool, true, false, cond, List, [], ◌∷◌, Option, Some, None, refl}
+use Rattle.mxf_views.proofs.Common.{sym, ap, subst, ◌∙◌, inl, inr, arith, eqb-true, eq-eqb, ◌↔◌, ◌==◌, find}
+use Rattle.mxf_views.proofs.Common.{option_and_then, NoteParts, In, primer_at, read_as, IsContent, IsClear, clear_notes}
+use Rattle.mxf_views.proofs.Common.{In-clear_notes, CopyInfo, CopiesRise, IsCopy, IsStart, copies_of, is_in_copy}
+use Rattle.mxf_views.proofs.Common.{primer_there, find-only, found-In, none_found, all-In, BatchParts, IsPrimerOf}
+use Rattle.mxf_views.proofs.Common.{IsStartFound, is_in_zone, primer_for}
 use Rattle.mxf_views.proofs.KeptItems.{one_note}
 use Rattle.mxf_views.specs.Labels.{IsFirstWith, IsInZoneOf, IsPrimerFor, primer_of}
 use Rattle.mxf_views.proofs.CopyLaws.{copies_are, copies_rise, one_named}
@@ -15,22 +14,10 @@ use Rattle.mxf_views.proofs.ReadingLaws.{reads}
 
 zone_says : (n : NoteParts) (c : CopyInfo) (o : Option ℕ) → c.start ≡ o → is_in_zone n c.bytes o ≡ true → IsInZoneOf n c
 zone_says n c None e h = absurd cc
-zone_says n c (Some s) e h =
-    let l = and_parts (nat_le s n.offset) (nat_le (end_of n) (s + c.bytes)) h in
-    record {
-      start = s;
-      begins = e;
-      from = leb-true s n.offset l.0;
-      before = leb-true (end_of n) (s + c.bytes) l.1;
-    }
+zone_says n c (Some s) e h = grind (arith)
 
 in_copy : (n : NoteParts) (c : CopyInfo) → (is_in_copy n c ≡ true) ↔ IsInZoneOf n c
-in_copy n c = (
-  λ h. zone_says n c c.start refl h,
-  λ i. ap (is_in_zone n c.bytes) i.begins
-      ∙ and_from (nat_le i.start n.offset) (nat_le (end_of n) (i.start + c.bytes)) (le-leb i.start n.offset i.from)
-      (le-leb (end_of n) (i.start + c.bytes) i.before),
-)
+in_copy n c = grind (arith, zone_says)
 
 -- what is found in copies that rise is the first
 found_first : (p : CopyInfo → Bool) (copies : List CopyInfo) (c d : CopyInfo) → CopiesRise copies
@@ -106,12 +93,7 @@ primer_is notes n r =
 -- ---- there is one
 
 same_primer : (a b : NoteParts) (x y : BatchParts) → a ≡ b → IsPrimerOf a x → IsPrimerOf b y → x ≡ y
-same_primer a b x y e i j =
-    let s = (reads primer_at a x).1 i.1 in
-    let t = (reads primer_at b y).1 j.1 in
-    let u : read_as primer_at a ≡ read_as primer_at b = ap (λ (n : NoteParts). read_as primer_at n) e in
-    let v : Some x ≡ Some y = sym s ∙ u ∙ t in
-    cc (v)
+same_primer a b x y e i j = grind (arith, reads)
 
 one_primer : (notes : List NoteParts) (n : NoteParts) (a b : Option BatchParts) → IsContent notes
     → IsPrimerFor notes n a → IsPrimerFor notes n b → a ≡ b
@@ -131,7 +113,4 @@ one_primer notes n (Some a) (Some b) r x y =
 -- The primer is that of the first copy that has the packet.
 pub primer_for_iff : (notes : List NoteParts) (n : NoteParts) (primer : Option BatchParts) → IsContent notes
     → (primer_for notes n ≡ primer) ↔ IsPrimerFor notes n primer
-primer_for_iff notes n primer r = (
-  λ e. subst (IsPrimerFor notes n) e (primer_is notes n r),
-  λ i. one_primer notes n (primer_for notes n) primer r (primer_is notes n r) i,
-)
+primer_for_iff notes n primer r = grind (arith, primer_is, one_primer)

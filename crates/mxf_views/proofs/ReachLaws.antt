@@ -1,11 +1,9 @@
 -- How far copies reach, and the first of them that has a packet.
-use Rattle.mxf_views.proofs.Common.{◌≡◌, ℕ, zero, suc, ◌+◌, ◌<◌, ◌≤◌, Bool, true, false, List, [], ◌∷◌, ◌++◌}
-use Rattle.mxf_views.proofs.Common.{Some, None, refl, sym, ap, subst, arith, drop, get_or, length, take, leb-true}
-use Rattle.mxf_views.proofs.Common.{le-leb, cond, ◌==◌, filter, find, map, max, nat_le, then_some, AllWithin}
-use Rattle.mxf_views.proofs.Common.{IsNonDecreasing, and_from, false_from_ne_true, and_parts, length-map, NoteParts}
-use Rattle.mxf_views.proofs.Common.{end_of, CopyInfo, copies_of, StartsRise, copies_followed, is_outside, reaches_from}
-use Rattle.mxf_views.proofs.Common.{reaches_of, renewed, is_in_copy, find-none, length-filter_le, all-In}
-use Rattle.mxf_views.proofs.Common.{leb-false, IsStartBelow, EndsBy, is_in_zone}
+use Rattle.mxf_views.proofs.Common.{◌≡◌, ℕ, zero, suc, ◌+◌, ◌<◌, ◌≤◌, Bool, false, List, [], ◌∷◌, ◌++◌, Some, None}
+use Rattle.mxf_views.proofs.Common.{refl, ap, arith, drop, get_or, length, take, ◌==◌, filter, find, map, max}
+use Rattle.mxf_views.proofs.Common.{then_some, AllWithin, IsNonDecreasing, length-map, NoteParts, end_of, CopyInfo}
+use Rattle.mxf_views.proofs.Common.{copies_of, StartsRise, copies_followed, is_outside, reaches_from, reaches_of}
+use Rattle.mxf_views.proofs.Common.{renewed, is_in_copy, find-none, length-filter_le, all-In, IsStartBelow, EndsBy}
 use Rattle.mxf_views.specs.Kept.{reach_from, reach_of}
 use Rattle.mxf_views.proofs.KeyedLists.{length-with_found}
 
@@ -31,13 +29,7 @@ reaches_never_fall high (c ∷ cs) (suc i) (suc j) d l h =
 -- A copy that ends below the packet's end doesn't have it.
 far_lacks : (n : NoteParts) (c : CopyInfo) → end_of n ≤ 18446744073709551615 → reach_of c < end_of n
     → is_in_copy n c ≡ false
-far_lacks n c fits l =
-    elim (c.start) as (λ o. reach_from c.bytes o < end_of n → is_in_zone n c.bytes o ≡ false) [
-      | None ↦ λ h. refl
-      | Some s ↦ λ h. false_from_ne_true (is_in_zone n c.bytes (Some s)) (λ t.
-          let m : end_of n ≤ s + c.bytes = leb-true (end_of n) (s + c.bytes)
-          (and_parts (nat_le s n.offset) (nat_le (end_of n) (s + c.bytes)) t).1 in omega (arith, fits, h, m))
-    ] l
+far_lacks n c fits l = grind (arith)
 
 -- One that reaches the packet's end and doesn't have it starts behind the packet's offset.
 record StartsBehind (n : NoteParts) (c : CopyInfo) : Type 0 where
@@ -46,33 +38,12 @@ record StartsBehind (n : NoteParts) (c : CopyInfo) : Type 0 where
   behind : n.offset < start
 
 near_lacks : (n : NoteParts) (c : CopyInfo) → end_of n ≤ reach_of c → is_in_copy n c ≡ false → StartsBehind n c
-near_lacks n c l f =
-    elim (c.start) as (λ o. c.start ≡ o → end_of n ≤ reach_from c.bytes o → is_in_zone n c.bytes o ≡ false
-    → StartsBehind n c) [
-      | None ↦ λ e h g. absurd (omega (arith, h))
-      | Some s ↦ λ e h g. record {
-        start = s;
-        begins = e;
-        behind = leb-false s n.offset (false_from_ne_true (nat_le s n.offset) (λ t.
-            let m : end_of n ≤ s + c.bytes = omega (arith, h) in
-            let has = and_from (nat_le s n.offset) (nat_le (end_of n) (s + c.bytes)) t (le-leb (end_of n)
-            (s + c.bytes) m) in
-            cc (has, g)));
-      }
-    ] refl l f
+near_lacks n c l f = grind (arith)
 
 -- So do all later ones.
 later_lacks : (n : NoteParts) (c d : CopyInfo) → StartsBehind n c → IsStartBelow c.start d.start
     → is_in_copy n d ≡ false
-later_lacks n c d b l =
-    let below : IsStartBelow (Some b.start) d.start = subst (λ o. IsStartBelow o d.start) b.begins l in
-    let behind : n.offset < b.start = b.behind in
-    elim (d.start) as (λ o. IsStartBelow (Some b.start) o → is_in_zone n d.bytes o ≡ false) [
-      | None ↦ λ h. refl
-      | Some t ↦ λ h. false_from_ne_true (is_in_zone n d.bytes (Some t)) (λ u.
-          let m : t ≤ n.offset = leb-true t n.offset
-          (and_parts (nat_le t n.offset) (nat_le (end_of n) (t + d.bytes)) u).0 in omega (arith, h, m, behind))
-    ] below
+later_lacks n c d b l = grind (arith)
 
 -- None has the packet where all end below its end.
 pub none_reaches : (n : NoteParts) (high : ℕ) (cs : List CopyInfo) (at : ℕ) → end_of n ≤ 18446744073709551615
@@ -91,14 +62,7 @@ pub first_reaches : (n : NoteParts) (high : ℕ) (cs : List CopyInfo) (at : ℕ)
     → AllWithin (λ r. r < end_of n) (reaches_from high cs) 0 at → end_of n ≤ get_or (reaches_from high cs) at 0
     → then_some (is_in_copy n (get_or cs at d)) (get_or cs at d) ≡ find (is_in_copy n) cs
 first_reaches n high [] at d fits r h l a b = absurd (omega arith)
-first_reaches n high (c ∷ cs) zero d fits r h l a b =
-    let near : end_of n ≤ reach_of c = omega (arith, b, h) in
-    elim (is_in_copy n c) as (λ t. is_in_copy n c ≡ t → then_some t c ≡ cond t (Some c) (find (is_in_copy n) cs)) [
-      | true ↦ λ t. refl
-      | false ↦ λ t. sym (find-none (is_in_copy n) cs (λ x k u.
-          let below = all-In (λ (x : CopyInfo). IsStartBelow c.start x.start) cs x r.0 k in
-          let lacks = later_lacks n c x (near_lacks n c near t) below in cc (lacks, u)))
-    ] refl
+first_reaches n high (c ∷ cs) zero d fits r h l a b = grind (arith, find-none, all-In, later_lacks, near_lacks)
 first_reaches n high (c ∷ cs) (suc at) d fits r h l a b =
     let first : max high (reach_of c) < end_of n = a 0 0 (omega arith) (omega arith) in
     let lacks : is_in_copy n c ≡ false = far_lacks n c fits (omega (arith, first)) in

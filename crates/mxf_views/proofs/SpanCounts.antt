@@ -1,8 +1,8 @@
 -- Of packets that share no byte, the bytes that they take are the offsets that lie in one of them.
-use Rattle.mxf_views.proofs.Common.{◌≡◌, ℕ, ◌+◌, ◌-◌, ◌<◌, ◌≤◌, true, false, cond, nat_le, nat_lt, List, [], ◌∷◌}
-use Rattle.mxf_views.proofs.Common.{count_by, filter, refl, range_with_len, sym, ap, subst, arith, leb-true, le-leb}
-use Rattle.mxf_views.proofs.Common.{ltb-true, lt-ltb, false_from_ne_true, and_parts, sum_by-cons, NoteParts, end_of}
-use Rattle.mxf_views.proofs.Common.{AreApart, sizes, is_in_one, lies_in, AreApart-lower, is_in_span, range-all}
+use Rattle.mxf_views.proofs.Common.{◌≡◌, ℕ, ◌+◌, ◌-◌, ◌<◌, ◌≤◌, true, false, nat_le, nat_lt, List, [], ◌∷◌, count_by}
+use Rattle.mxf_views.proofs.Common.{filter, refl, range_with_len, sym, ap, subst, arith, leb-true, le-leb, ltb-true}
+use Rattle.mxf_views.proofs.Common.{lt-ltb, false_from_ne_true, and_parts, sum_by-cons, NoteParts, end_of, AreApart}
+use Rattle.mxf_views.proofs.Common.{sizes, is_in_one, lies_in, AreApart-lower, is_in_span, range-all}
 use Rattle.mxf_views.specs.Spans.{size_of, AllEndBy}
 use Rattle.mxf_klv.proofs.Counts.{range-split, range-none, range-same}
 use Rattle.mxf_catalogue.proofs.ApartNotes.{AreApart-zone}
@@ -20,12 +20,7 @@ in_span-says o n h = let p = and_parts (nat_le n.offset o) (nat_lt o (end_of n))
 
 pub in_none-below : (o low : ℕ) (notes : List NoteParts) → AreApart low notes → o < low → is_in_one notes o ≡ false
 in_none-below o low [] a l = refl
-in_none-below o low (n ∷ notes) a l =
-    let start : low ≤ n.offset = a.0 in
-    let here : is_in_span o n ≡ false = false_from_ne_true (is_in_span o n)
-    (λ t. let s : n.offset ≤ o = (in_span-says o n t).0 in absurd (omega arith)) in
-    let e : n.offset ≤ end_of n = omega arith in
-    rw here (in_none-below o (end_of n) notes a.1 (omega arith))
+in_none-below o low (n ∷ notes) a l = grind (arith, in_span-says, in_none-below o (end_of n) notes a.1 (omega arith))
 
 -- The bytes that the packets take are the offsets of a range that lie in one of them, where they lie in the range.
 pub sizes-count : (notes : List NoteParts) (low len : ℕ) → AreApart low notes → AllEndBy (low + len) notes
@@ -67,14 +62,7 @@ sizes-count (n ∷ notes) low len a e =
 -- the packets of a zone lie in it
 AllEndBy-zone : (start len : ℕ) (notes : List NoteParts) → AllEndBy (start + len) (filter (lies_in start len) notes)
 AllEndBy-zone start len [] = tt
-AllEndBy-zone start len (n ∷ notes) =
-    let ih = AllEndBy-zone start len notes in
-    elim (lies_in start len n) as (λ b. lies_in start len n ≡ b
-    → AllEndBy (start + len) (cond b (n ∷ filter (lies_in start len) notes) (filter (lies_in start len) notes))) [
-      | true ↦ λ t. let p = and_parts (nat_le start n.offset) (nat_le (end_of n) (start + len)) t in
-          (leb-true (end_of n) (start + len) p.1, ih)
-      | false ↦ λ t. ih
-    ] refl
+AllEndBy-zone start len (n ∷ notes) = grind (arith, AllEndBy-zone start len notes)
 
 -- What is covered of a zone is the number of its offsets that lie in one of the packets that lie wholly in it.
 pub zone-count : (notes : List NoteParts) (low start len : ℕ) → AreApart low notes

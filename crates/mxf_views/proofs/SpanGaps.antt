@@ -15,12 +15,8 @@ use Rattle.mxf_catalogue.proofs.RunBounds.{covers_below_end}
 maximal_push : (low : ℕ) (runs : List Run) (r : Run) → AreMaximal low runs → low ≤ r.start → r.start < r.end
     → ((s : Run) → In s runs → s.end + 1 ≤ r.start) → AreMaximal low (runs ++ r ∷ [])
 maximal_push low [] r m l b f = (l, b, tt)
-maximal_push low (s ∷ runs) r m l b f = (
-  m.0,
-  m.1,
-  maximal_push (s.end + 1) runs r m.2 (f s (inl refl)) b (λ x h. f x
-      (inr h)),
-)
+maximal_push low (s ∷ runs) r m l b f =
+    grind (arith, maximal_push (s.end + 1) runs r m.2 (f s (inl refl)) b (λ x h. f x (inr h)))
 
 module _ (runs : List Run) (notes : List NoteParts) (reached top : ℕ) (cover : IsCover runs)
     (covers : Covers runs notes)

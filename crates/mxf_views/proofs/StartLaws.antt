@@ -1,13 +1,13 @@
 -- Where the header metadata of a partition begin.
-use Rattle.mxf_views.proofs.Common.{◌≡◌, ℕ, ◌+◌, ◌-◌, ◌<◌, ◌≤◌, true, List, Some, None, refl, sym, ap, subst}
-use Rattle.mxf_views.proofs.Common.{◌∙◌, arith, eqb-true, eq-eqb, le-leb, leb-true, ◌↔◌, ◌==◌, nat_le, find}
-use Rattle.mxf_views.proofs.Common.{is_some, count_by, option_map, list_all, range_with_len}
-use Rattle.mxf_views.proofs.Common.{and_from, and_parts, NoteParts, end_of, kind_of, In, primer_at, read_as, IsContent}
-use Rattle.mxf_views.proofs.Common.{IsClear, SharesByte, clear_notes, In-clear_notes, IsStart, covered_of, is_fill_note}
-use Rattle.mxf_views.proofs.Common.{is_filled, is_primer, is_readable_primer, is_start, start_of, zone_of, is_in_one}
-use Rattle.mxf_views.proofs.Common.{lies_in, AreApart-clear_notes, In-list_all, In-filter, list_any-In, found-In}
-use Rattle.mxf_views.proofs.Common.{none_found, inl, inr, BatchParts, IsFilled, IsPrimerOf, is_in_span, range-all}
-use Rattle.mxf_views.proofs.Common.{list_all-In, cases_order, clear_same}
+use Rattle.mxf_views.proofs.Common.{◌≡◌, ℕ, ◌+◌, ◌-◌, ◌<◌, ◌≤◌, true, List, Some, None, refl, sym, ap, subst, ◌∙◌}
+use Rattle.mxf_views.proofs.Common.{arith, eqb-true, eq-eqb, le-leb, leb-true, ◌↔◌, ◌==◌, nat_le, find, is_some}
+use Rattle.mxf_views.proofs.Common.{count_by, option_map, list_all, range_with_len, and_from, and_parts, NoteParts}
+use Rattle.mxf_views.proofs.Common.{end_of, kind_of, In, primer_at, read_as, IsContent, IsClear, SharesByte}
+use Rattle.mxf_views.proofs.Common.{clear_notes, In-clear_notes, IsStart, covered_of, is_fill_note, is_filled}
+use Rattle.mxf_views.proofs.Common.{is_primer, is_readable_primer, is_start, start_of, zone_of, is_in_one, lies_in}
+use Rattle.mxf_views.proofs.Common.{AreApart-clear_notes, In-list_all, In-filter, list_any-In, found-In, none_found}
+use Rattle.mxf_views.proofs.Common.{inl, inr, BatchParts, IsFilled, IsPrimerOf, is_in_span, range-all, list_all-In}
+use Rattle.mxf_views.proofs.Common.{cases_order, clear_same}
 use Rattle.mxf_views.proofs.KindLaws.{fill_kind, primer_kind}
 use Rattle.mxf_views.proofs.ReadingLaws.{is_some_readable}
 use Rattle.mxf_views.proofs.SpanCounts.{in_span, in_span-says, zone-count}
@@ -33,16 +33,7 @@ primer_note n =
 
 -- no start lies in a fill
 pub not_in_fill : (notes : List NoteParts) (end reached s : ℕ) → IsStart notes end s → IsFilled notes end reached s → ⊥
-not_in_fill notes end reached s a f =
-    let there : a.primer.offset ≡ s = a.there in
-    let w0 : f.fill.offset ≤ s = f.within.from in
-    let w1 : s + 1 ≤ end_of f.fill = f.within.before in
-    let shares : SharesByte a.primer f.fill =
-    (s, record { from = omega arith; before = omega arith }, record { from = w0; before = w1 }) in
-    let same : a.primer ≡ f.fill = clear_same notes a.primer f.fill a.clear f.clear shares in
-    let primer = a.readable.1.0 in
-    let fill = ap (λ (n : NoteParts). kind_of n.key) same ∙ f.kind in
-    cc (primer, fill)
+not_in_fill notes end reached s a f = grind (arith, clear_same)
 
 -- no primer stands before a start
 not_before : (notes : List NoteParts) (end s t : ℕ) → IsStart notes end s → IsStart notes end t → s < t → ⊥

@@ -32,10 +32,10 @@
 //! | Which entries are these, without standings? | [`RipAt::listed`] | [`RipEntry`](mxf_sets::RipEntry) |
 //!
 //! Each call's clause says that its answer is a function of the notes; a law of [`laws`] (`.._by_definition`) says what
-//! that function is in the words of the standards. [`laws::well_formed_files_are_read_whole`] and the laws beside it say
-//! what the answers are on a whole file. No question takes memory. The copies, what partitions and segments state in
-//! numbers, and where random index packs and unreadable partition packs stand, are kept; all else is computed when it is
-//! asked. What references lead to, and what is wrong or missing, is asked of mxf_findings.
+//! that function is in the words of the standards. [`laws::well_formed_files_are_read_whole`] and the laws beside it
+//! say what the answers are on a whole file. No question takes memory. The copies, what partitions and segments state
+//! in numbers, and where random index packs and unreadable partition packs stand, are kept; all else is computed when
+//! it is asked. What references lead to, and what is wrong or missing, is asked of mxf_findings.
 //!
 //! A piece whose first byte lies at `offset` (the whole program is the crate mxf_example):
 //!
