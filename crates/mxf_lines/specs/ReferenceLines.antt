@@ -18,7 +18,8 @@ use Rattle.mxf_catalogue.specs.Disputes.{clear_notes}
 use Rattle.mxf_findings.specs.Resolved.{ResolvedParts}
 use Rattle.mxf_findings.specs.declared.reference.target.Ref.{Ref}
 use Rattle.mxf_findings.specs.declared.reference.target.Target.{Target}
-use Rattle.mxf_findings.specs.declared.reference.target.Target.TheVariants.{Missing, Several, WrongKind, Unreadable, Found}
+use Rattle.mxf_findings.specs.declared.reference.target.Target.TheVariants.{Missing, Several, WrongKind, Unreadable}
+use Rattle.mxf_findings.specs.declared.reference.target.Target.TheVariants.{Found}
 use Rattle.mxf_lines.specs.declared.printing.line.record.Property.{Property}
 use Rattle.mxf_lines.specs.declared.printing.line.record.Property.TheVariants as properties
 use Rattle.mxf_lines.specs.declared.printing.line.record.Named.{Named}

@@ -2,11 +2,10 @@
 pub use Rattle.std.proofs.Common.{Bool, Equal, Err, Global, Greater, IfSome, Less, List, None, Ok, Option, Ordering}
 pub use Rattle.std.proofs.Common.{Result, Some, Vec, [], ap, append-nil, append_assoc, arith, cond, count_by, drop}
 pub use Rattle.std.proofs.Common.{eq-eqb, eqb-true, false, filter, filter_map, find, get_or, if◌then◌else◌, inl, inr}
-pub use Rattle.std.proofs.Common.{insert, is_ok, is_some, le-leb, le-ltb, leb-false, leb-true, length, lt-ltb}
-pub use Rattle.std.proofs.Common.{ltb-false, ltb-true, map, max, min, nat_cmp, nat_le, nat_lt, ne_eqb, not}
-pub use Rattle.std.proofs.Common.{option_and_then, option_map, refl, rules, set, subst, suc, sym, take, true}
-pub use Rattle.std.proofs.Common.{vec_capacity, vec_len, zero, ℕ, ◌&&◌, ◌++◌, ◌+◌, ◌-◌, ◌<◌, ◌==◌, ◌^◌, ◌||◌, ◌↔◌, ◌∙◌}
-pub use Rattle.std.proofs.Common.{◌∷◌, ◌≡◌, ◌≢◌, ◌≤◌, ◌⊎◌}
+pub use Rattle.std.proofs.Common.{insert, is_ok, is_some, le-leb, le-ltb, leb-true, length, lt-ltb, ltb-false, ltb-true}
+pub use Rattle.std.proofs.Common.{map, max, min, nat_cmp, nat_le, nat_lt, ne_eqb, not, option_and_then, option_map}
+pub use Rattle.std.proofs.Common.{refl, rules, set, subst, suc, sym, take, true, vec_capacity, vec_len, zero, ℕ, ◌&&◌}
+pub use Rattle.std.proofs.Common.{◌++◌, ◌+◌, ◌-◌, ◌<◌, ◌==◌, ◌^◌, ◌||◌, ◌↔◌, ◌∙◌, ◌∷◌, ◌≡◌, ◌≢◌, ◌≤◌, ◌⊎◌}
 pub use Rattle.mxf_catalogue.proofs.ApartLaws.{apart_rises, later_differs, picked_none, picked_one, picked_several}
 pub use Rattle.mxf_catalogue.proofs.ClearLaws.{IsNew, clear-laid, clear_after, clear_same}
 pub use Rattle.mxf_catalogue.proofs.ContentLaws.{In-union_of, IsContent-union_of, same_content}
@@ -45,7 +44,7 @@ pub use Rattle.mxf_sets.proofs.PackKinds.{kind_says, kind_tells}
 pub use Rattle.mxf_sets.specs.Batch.{BatchParts}
 unfoldable pub use Rattle.mxf_sets.specs.Items.{items_of, left_of}
 pub use Rattle.mxf_sets.specs.Offset.{stream_offset}
-pub use Rattle.mxf_sets.specs.PackReadings.{pack_at, pack_under, part_and_status, primer_at, rip_at}
+pub use Rattle.mxf_sets.specs.PackReadings.{pack_at, part_and_status, primer_at, rip_at}
 pub use Rattle.mxf_sets.specs.PartitionPack.{IsPartitionKind, PartitionPackParts, pack_kind}
 pub use Rattle.mxf_sets.specs.RandomIndexPack.{RipParts}
 pub use Rattle.mxf_sets.specs.Readable.{read_as}
@@ -104,7 +103,7 @@ pub use Rattle.mxf_views.specs.declared.index.place.Place.TheVariants.{Ambiguous
 pub use Rattle.mxf_views.specs.declared.kept.sums.Mark.{Mark}
 pub use Rattle.mxf_views.specs.declared.random_index.RipView.TheVariants.{Absent, One}
 pub use Rattle.std.proofs.lemmas.Bool.{and_cases, and_from, and_parts, cases_lt, cases_order, false_from_ne_true}
-pub use Rattle.std.proofs.lemmas.Bool.{lt-leb, or_cases, or_parts}
+pub use Rattle.std.proofs.lemmas.Bool.{lt-leb}
 pub use Rattle.std.proofs.lemmas.Cmp.{nat_cmp_total, tied_itself}
 pub use Rattle.std.proofs.lemmas.Fn.{filter_same}
 pub use Rattle.std.proofs.lemmas.List.{length-map}
