@@ -6,7 +6,6 @@ use Rattle.mxf_klv.specs.Parts.{NoteParts, PacketParts}
 use Rattle.mxf_klv.specs.Kind.{kind_of}
 use Rattle.mxf_klv.specs.Note.{covered_end, end_of, note_of}
 use Rattle.mxf_klv.specs.Piece.{end_after}
-use Rattle.mxf_klv.specs.declared.kinds.Kind.TheVariants as kinds
 use Rattle.mxf_catalogue.specs.Content.{IsContent}
 use Rattle.mxf_catalogue.proofs.ClearLaws.{clear_same}
 use Rattle.mxf_catalogue.proofs.DisputeLaws.{SharesByte-same_offset}

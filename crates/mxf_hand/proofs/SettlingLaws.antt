@@ -4,9 +4,9 @@ use Rattle.std.proofs.Common.{Option, Some, None, arith, ap, eq-eqb, eqb-true, f
 use Rattle.std.proofs.Common.{[], ◌∷◌, count_by, filter, length, ltb-true, map, slice_get}
 use Rattle.std.specs.List.Sorted.{IsNonDecreasingBy}
 use Rattle.std.proofs.lemmas.List.{get_or-map, length-map}
-use Rattle.std.specs.List.{list_any, range_with_len}
+use Rattle.std.specs.List.{range_with_len}
 use Rattle.std.specs.Option.{option_map_or}
-use Rattle.std.proofs.lemmas.Bool.{and_from, and_parts, cases_lt}
+use Rattle.std.proofs.lemmas.Bool.{and_from, and_parts}
 use Rattle.mxf_klv.proofs.Lists.{In-filter, In-map, found-In, list_any-In, none_found}
 use Rattle.mxf_klv.proofs.Counts.{range-all, range-full}
 use Rattle.mxf_klv.proofs.Tests.{same_bool}

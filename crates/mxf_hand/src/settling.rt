@@ -8,7 +8,7 @@ ghost use Rattle.mxf_hand.specs.Settling.{IsWholeStop, begins_whole, disputed_st
 ghost use Rattle.mxf_hand.specs.Settling.{is_source_held, is_whole_stop, settled};
 
 use crate::given::Extent;
-use mxf_catalogue::Catalogue;
+use mxf_catalogue::{Catalogue, Disputed};
 use mxf_klv::{Stop, has_key};
 use mxf_read::{PieceReport, PieceReports, Report};
 use mxf_views::Views;
@@ -29,22 +29,27 @@ pub fn settle(
 ) -> Result<PieceReports, AllocError>
     ensures { IfOk result (λ r. r ≡ map (settled views.now extents.now) reports) }
 {
-    let starts = disputed_starts(alloc, views.catalogue())?;
+    let catalogue = views.catalogue();
+    catalogue.laws();
+    let starts = disputed_starts(alloc, catalogue)?;
     let mut reports = reports.into_vec();
-    settle_each(views.catalogue(), &starts, extents, &mut reports);
+    settle_each(catalogue, &starts, extents, &mut reports);
     Ok(PieceReports::of(reports))
 }
 
 /// The offsets at which disputed whole packets begin, in bytes, in their order.
 fn disputed_starts(alloc: Global, catalogue: &Catalogue) -> Result<Vec<u64>, AllocError>
-    ensures starts { IfOk result (λ s. s.items ≡ disputed_starts catalogue.now) }
-    ensures order { IfOk result (λ s. IsNonDecreasingBy (λ n. n) s.items) }
+    ensures { IfOk result (λ s. s.items ≡ disputed_starts catalogue.now) }
 {
-    catalogue.laws();
-    let whole = catalogue
-        .disputed()
-        .filter(|disputed| !disputed.note.is_head());
+    let whole = catalogue.disputed().filter(|disputed| is_whole(disputed));
     whole.map(|disputed| disputed.note.offset()).collect(alloc)
+}
+
+/// Whether a disputed packet was read whole.
+fn is_whole(disputed: &Disputed<'_>) -> bool
+    ensures { result ≡ disputed.now.note.whole }
+{
+    !disputed.note.is_head()
 }
 
 /// The same for each report, in its place.

@@ -1,4 +1,4 @@
-use Rattle.std.proofs.Common.{◌+◌, ◌<◌, ◌≤◌, arith}
+use Rattle.std.proofs.Common.{arith}
 use Rattle.mxf_hand.proofs.SettlingLaws.{all_held-by}
 use Rattle.mxf_hand.proofs.settling.is_all_held.Goals as goal
 
