@@ -146,15 +146,6 @@ apart_same low (r ∷ places) a some p q x (inr h) (inl f) l m =
 apart_same low (r ∷ places) a some p q x (inr h) (inr k) l m =
     apart_same r.end places a.1 (λ t n. some t (inr n)) p q x h k l m
 
--- Nothing of an overlap was looked at.
-pub compared_none : (sources : List SourceParts) (places : List Place) (start source : ℕ) (noted : List Difference)
-    → IsCompared sources places (place start start source) noted noted
-compared_none sources places start source noted = record {
-  sound = λ all. all;
-  kept = λ x l. l;
-  found = λ x p l h m d. let from = l.from in let before = l.before in absurd (omega (arith, from, before));
-}
-
 -- One part more of an overlap, which lies in one place.
 pub compared_more : (sources : List SourceParts) (extents : List Extent) (places : List Place) (overlap p : Place)
     (at size : ℕ) (first old new : List Difference) → IsOverlap extents places overlap → In p places
@@ -179,9 +170,6 @@ compared_more sources extents places overlap p at size first old new is h l end 
             (subst (λ (r : Place). DifferAt sources r.source overlap.source x) same d))
       ];
 }
-
-pub all_compared_none : (sources : List SourceParts) (places : List Place) → AreCompared sources places [] []
-all_compared_none sources places = record { sound = tt; found = λ q x p h l k m d. absurd h }
 
 -- One overlap more.
 pub all_compared_more : (sources : List SourceParts) (places overlaps : List Place) (i : ℕ) (d : Place)

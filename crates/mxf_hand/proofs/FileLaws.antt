@@ -42,7 +42,7 @@ use Rattle.mxf_hand.specs.Sections.{ends_within, from_of, heads_of, made_by, mad
 use Rattle.mxf_hand.specs.declared.found.CutHead.{CutHead}
 use Rattle.mxf_hand.proofs.ClearLaws.{cut_head}
 use Rattle.mxf_hand.proofs.HandLaws.{at_fits, read_lies}
-use Rattle.mxf_hand.proofs.HeadNoteLaws.{not_whole, two_parts}
+use Rattle.mxf_hand.proofs.HeadNoteLaws.{not_whole}
 use Rattle.mxf_hand.proofs.PacketPlaces.{behind_place, first_below, front_of, laid_size}
 use Rattle.mxf_places.proofs.LaidPlaces.{ends_below}
 
@@ -461,8 +461,8 @@ module _ (l : List PacketParts) (bytes : List ℕ) (h : HandBytes) (laid : AreLa
     value_lies : (a : NoteParts) → is_value_at_hand h a ≡ true → (x : ℕ) → covered_end a ≤ x → x < end_of a
         → LiesIn h.runs x
     value_lies a t =
-        let parts = two_parts (not a.whole) _ t in
-        let value = two_parts (nat_lt 0 a.length) _ parts.1 in
+        let parts = and_parts (not a.whole) _ t in
+        let value = and_parts (nat_lt 0 a.length) _ parts.1 in
         (has_offsets-says h.runs (covered_end a) (end_of a) cover).0 value.1
 
     made_by_file : (end : Option ℕ) (heads : List NoteParts) (m : NoteParts)
@@ -474,7 +474,7 @@ module _ (l : List PacketParts) (bytes : List ℕ) (h : HandBytes) (laid : AreLa
           | true ↦ λ t j. elim j [
             | inl e ↦
                 let is = all a (inl refl) in
-                let made = made_of_file a (of a is.0) is.1 (value_lies a (two_parts _ _ t).0) in
+                let made = made_of_file a (of a is.0) is.1 (value_lies a (and_parts _ _ t).0) in
                 inl (subst (λ n. In n (notes_from 0 l)) (sym e) made)
             | inr none ↦ absurd none
           ]

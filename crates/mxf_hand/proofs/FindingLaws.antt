@@ -31,19 +31,6 @@ start-append a b x = (
   ],
 )
 
--- Nothing is found.
-pub nothing_found : (f : Found) → f.packets ≡ [] → f.made ≡ [] → f.heads.items ≡ [] → f.starts ≡ []
-    → Finds f [] [] []
-nothing_found f packets made heads starts = record {
-  read = packets;
-  put = made;
-  cut = heads;
-  starts = λ x. (
-    λ h. absurd (subst (λ (runs : List _). LiesIn runs x) starts h).1,
-    λ h. absurd h.1,
-  );
-}
-
 -- The start of one more note is added.
 pub start_added : (old new : List Run) (items left : List NoteParts) (n : NoteParts)
     → new ≡ with_run (run n.offset (n.offset + 1)) old → items ≡ n ∷ left → (x : ℕ)
@@ -119,12 +106,6 @@ same_found f p q m n h k ep em eh found = record {
   starts = λ x. subst (λ (l : List NoteParts). LiesIn f.starts x ↔ IsStart (read_notes l k) x) ep
       (subst (λ (l : List CutHead). LiesIn f.starts x ↔ IsStart (read_notes p l) x) eh (found.starts x));
 }
-
--- Nothing is added.
-pub grow_nothing : (f : Found) → Grows f f [] [] []
-grow_nothing f packets made heads found =
-    same_found f packets (packets ++ []) made (made ++ []) heads (heads ++ []) (sym (append-nil packets))
-    (sym (append-nil made)) (sym (append-nil heads)) found
 
 -- A packet that was made is added.
 pub grow_made : (old new : Found) (n : NoteParts) → new.packets ≡ old.packets → new.made ≡ reduced_with n old.made

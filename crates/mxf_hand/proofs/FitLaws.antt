@@ -1,7 +1,7 @@
 -- Bytes at hand of a head's key and length, run after run.
 use Rattle.std.proofs.Common.{◌≡◌, ◌≢◌, false, ◌∙◌, ◌≤◌, ◌<◌, ◌+◌, ◌-◌, ℕ, List, Some}
 use Rattle.std.proofs.Common.{ap, arith, filter, get_or, length, length-append, nat_lt, subst, sym}
-use Rattle.std.proofs.lemmas.Bool.{false_from_ne_true, lt-ltb, ltb-true}
+use Rattle.std.proofs.lemmas.Bool.{and_from, and_parts, false_from_ne_true, lt-ltb, ltb-true}
 use Rattle.std.proofs.lemmas.List.FromFn.{get_or-map-range_with_len, length-map-range_with_len}
 use Rattle.mxf_klv.specs.Parts.{NoteParts}
 use Rattle.mxf_klv.specs.Note.{IsNote}
@@ -17,7 +17,6 @@ use Rattle.mxf_hand.specs.Given.{bytes_between}
 use Rattle.mxf_hand.specs.Hand.{HandBytes}
 use Rattle.mxf_hand.specs.Heads.{fits, key_and_length}
 use Rattle.mxf_hand.proofs.HandLaws.{fits_at}
-use Rattle.mxf_hand.proofs.HeadNoteLaws.{both_true, two_parts}
 
 -- Key and length of a note have 16 bytes and its width.
 pub length-key_and_length : (n : NoteParts) → IsNote n → length (key_and_length n) ≡ 16 + n.width
@@ -33,7 +32,7 @@ pub between_part : (runs items : List Run) (start end : ℕ) → items ≡ filte
     → (r : Run) → In r items → In r runs × (r.start < end)
 between_part runs items start end e r i =
     let kept = (In-filter (is_between start (Some end)) runs r).0 (subst (λ (l : List Run). In r l) e i) in
-    (kept.0, ltb-true r.start end (two_parts (nat_lt start r.end) (nat_lt r.start end) kept.1).1)
+    (kept.0, ltb-true r.start end (and_parts (nat_lt start r.end) (nat_lt r.start end) kept.1).1)
 
 pub between_lies : (runs items : List Run) (start end : ℕ) → items ≡ filter (is_between start (Some end)) runs
     → (x : ℕ) → start ≤ x → x < end → LiesIn runs x → LiesIn items x
@@ -43,7 +42,7 @@ between_lies runs items start end e x low high lies =
     let before : x + 1 ≤ r.end = lies.2.before in (
       r,
       subst (λ (l : List Run). In r l) (sym e) ((In-filter (is_between start (Some end)) runs r).1
-          (lies.1, both_true (nat_lt start r.end) (nat_lt r.start end) (lt-ltb start r.end (omega arith)) (lt-ltb r.start end (omega arith)))),
+          (lies.1, and_from (nat_lt start r.end) (nat_lt r.start end) (lt-ltb start r.end (omega arith)) (lt-ltb r.start end (omega arith)))),
       lies.2,
     )
 

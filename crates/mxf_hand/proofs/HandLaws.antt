@@ -20,6 +20,7 @@ use Rattle.mxf_hand.specs.Places.{GivenParts}
 use Rattle.mxf_hand.specs.declared.given.Extent.{Extent}
 use Rattle.mxf_hand.specs.Hand.{AreOf, AreToldIn, HandBytes, HandParts, read_to, run_end}
 use Rattle.mxf_hand.specs.Heads.{fits, key_and_length}
+use Rattle.mxf_places.proofs.AtHandLaws.{bound_le}
 
 -- The first run that ends above an offset is the first of those that lie behind it.
 pub first_above : (runs left : List Run) (x : ℕ) (r : Run) → filter (is_between x None) runs ≡ r ∷ left
@@ -79,17 +80,13 @@ run_lies runs x e y h from before =
           ] refl k
     ] refl h
 
-bounded : (x : ℕ) (bound : Option ℕ) → up_to_bound x bound ≤ x
-bounded x None = omega arith
-bounded x (Some b) = omega arith
-
 -- All offsets that are read are at hand.
 pub read_lies : (runs : List Run) (end : Option ℕ) (from x : ℕ) → from ≤ x → x < read_to runs end from → LiesIn runs x
 read_lies runs end from x low high =
     elim (run_end runs from) as (λ o. run_end runs from ≡ o
     → x < option_map_or (λ e. up_to_bound e end) o from → LiesIn runs x) [
       | None ↦ λ e k. absurd (omega arith)
-      | Some last ↦ λ e k. run_lies runs from last x e low (let b = bounded last end in omega (arith, b))
+      | Some last ↦ λ e k. run_lies runs from last x e low (let b = bound_le last end in omega (arith, b))
     ] refl high
 
 one_more : (a : ℕ) → suc a ≡ a + 1

@@ -1,7 +1,7 @@
 -- Heads and where their key and length end.
 use Rattle.std.proofs.Common.{◌≡◌, ◌∙◌, ◌≤◌, ◌<◌, ◌+◌, ◌-◌, ◌&&◌, ◌==◌, ℕ, Bool, true, false, List, [], ◌∷◌, Option}
 use Rattle.std.proofs.Common.{None, Some, ap, arith, cond, filter, find, inl, inr, map, nat_le, nat_lt, not, refl, subst, sym}
-use Rattle.std.proofs.lemmas.Bool.{le-leb, lt-ltb}
+use Rattle.std.proofs.lemmas.Bool.{and_from, le-leb, lt-ltb}
 use Rattle.std.specs.Prelude.{slice_get}
 use Rattle.std.specs.Option.{option_map_or}
 use Rattle.mxf_klv.specs.Parts.{NoteParts}
@@ -85,14 +85,6 @@ pub not_whole : (b : Bool) → not b ≡ true → b ≡ false
 not_whole true e = absurd cc
 not_whole false e = refl
 
-pub both_true : (a b : Bool) → a ≡ true → b ≡ true → (a && b) ≡ true
-both_true true b e f = f
-both_true false b e f = absurd cc
-
-pub two_parts : (a b : Bool) → (a && b) ≡ true → (a ≡ true) × (b ≡ true)
-two_parts true b e = (refl, e)
-two_parts false b e = absurd cc
-
 -- What passes a test passes one that follows from it.
 both : {K : Type 0} (p q : K → Bool) (xs : List K) → ((x : K) → In x xs → q x ≡ true → p x ≡ true)
     → filter q (filter p xs) ≡ filter q xs
@@ -167,7 +159,7 @@ ending notes heads end are =
     let head : (note h).whole ≡ false = not_whole (note h).whole kept.1 in
     let bounds = near (note h) end (all-In IsNote notes (note h) are.members kept.0) head
     ((equals_itself (covered_end (note h)) end).0 e) in
-    both_true _ _ (le-leb _ _ bounds.0) (lt-ltb _ _ bounds.1))
+    and_from _ _ (le-leb _ _ bounds.0) (lt-ltb _ _ bounds.1))
     in
     ap (map note) all ∙ kept_mapped note ends heads ∙ ap (filter ends) are.listed ∙ tested notes end
 

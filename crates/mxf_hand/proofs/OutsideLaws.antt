@@ -195,14 +195,6 @@ IsCover-with_all_outside runs (r ∷ others) holes c all =
     IsCover-with_all_outside (with_outside runs r.start r.end between) others holes
     (IsCover-with_outside runs r.start r.end between all.0.within c) all.1
 
--- Each run of a cover has an offset, and ends at or below the greatest end.
-pub runs_of_cover : (runs : List Run) → IsCover runs → AllByRecursion IsRun runs
-runs_of_cover runs c = each 0 runs c.maximal c.within where
-  each : (low : ℕ) (runs : List Run) → AreMaximal low runs → AllByRecursion (λ r. r.end ≤ greatest_end) runs
-      → AllByRecursion IsRun runs
-  each low [] m w = tt
-  each low (r ∷ runs) m w = (record { order = m.1; within = w.0 }, each (r.end + 1) runs m.2 w.1)
-
 pub LiesIn-outside : (runs holes : List Run) (x : ℕ) → AreMaximal 0 holes
     → LiesIn (with_all_outside [] runs holes) x ↔ (LiesIn runs x × ¬ LiesIn holes x)
 LiesIn-outside runs holes x m =

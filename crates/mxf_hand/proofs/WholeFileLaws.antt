@@ -1,8 +1,8 @@
 -- Where all bytes of a well-formed file are at hand, all of its packets are put together.
 use Rattle.std.proofs.Common.{◌≡◌, ◌∙◌, ◌⊎◌, ◌≤◌, ◌<◌, ◌+◌, ◌-◌, ◌&&◌, ◌++◌, ◌==◌, ℕ, true, false, not}
 use Rattle.std.proofs.Common.{List, [], ◌∷◌, Option, None, Some, ap, arith, cond, eqb-true, find, inl}
-use Rattle.std.proofs.Common.{inr, le-leb, length, lt-ltb, nat_le, nat_lt, refl, subst, sym, Less, Equal, Bool}
-use Rattle.std.proofs.lemmas.Bool.{and_parts, cases_lt, ltb-true, ltb-false}
+use Rattle.std.proofs.Common.{inr, le-leb, lt-ltb, nat_le, nat_lt, refl, subst, sym, Less, Equal, Bool}
+use Rattle.std.proofs.lemmas.Bool.{and_from, and_parts, cases_lt, ltb-false, ltb-true}
 use Rattle.std.proofs.lemmas.Cmp.{tied_itself}
 use Rattle.std.proofs.lemmas.Option.{same_Some}
 use Rattle.std.specs.Option.{option_and_then, option_map_or}
@@ -43,7 +43,7 @@ use Rattle.mxf_hand.specs.Sections.{ends_within, from_of, made_by, made_of, pack
 use Rattle.mxf_hand.proofs.FileHoles.{in_hole}
 use Rattle.mxf_hand.proofs.FileLaws.{behind_note, has_of_file, head_fits, made_of_file, packet_read, round_of_file}
 use Rattle.mxf_hand.proofs.FileLaws.{stands_in}
-use Rattle.mxf_hand.proofs.HeadNoteLaws.{both_true, not_whole}
+use Rattle.mxf_hand.proofs.HeadNoteLaws.{not_whole}
 use Rattle.mxf_hand.proofs.HistoryLaws.{round_content, round_reduced}
 use Rattle.mxf_hand.proofs.NoMoreLaws.{no_more}
 use Rattle.mxf_hand.proofs.PacketPlaces.{has_packet, is_head, is_or_head, not_cut}
@@ -326,7 +326,7 @@ module _ (l : List PacketParts) (h : HandBytes) (well : IsWellFormed l) (file : 
           ap (λ (o : Option NoteParts). option_map_or (λ n. n.offset) o behind) found in
           let fit = λ (a : NoteParts). (a.offset == start_of notes behind) && fits h a in
           let passes : fit (head_note m) ≡ true =
-          both_true (m.offset == start_of notes behind) (fits h (head_note m))
+          and_from (m.offset == start_of notes behind) (fits h (head_note m))
           ((equals_itself m.offset (start_of notes behind)).1 (sym start))
           (head_fits l file.bytes h file.laid file.cover file.alike all m i) in
           let ends = (In-filter (is_head_to behind) notes (head_note m)).1 (held, test) in
@@ -393,10 +393,10 @@ module _ (l : List PacketParts) (h : HandBytes) (well : IsWellFormed l) (file : 
           let lies : (x : ℕ) → behind ≤ x → x < end_of m → LiesIn h.runs x =
           λ x from before. (all x (omega (arith, before, ends))).0 in
           let at_hand : is_value_at_hand h n ≡ true =
-          both_true (nat_lt 0 m.length) (has_offsets h.runs behind (end_of m)) (lt-ltb 0 m.length value)
+          and_from (nat_lt 0 m.length) (has_offsets h.runs behind (end_of m)) (lt-ltb 0 m.length value)
           ((has_offsets-says h.runs behind (end_of m) file.cover).1 lies) in
           let test : (is_value_at_hand h n && ends_within p.hole.end n) ≡ true =
-          both_true (is_value_at_hand h n) (ends_within p.hole.end n) at_hand (ends_in p s.1 s.3) in
+          and_from (is_value_at_hand h n) (ends_within p.hole.end n) at_hand (ends_in p s.1 s.3) in
           let made = made_of_file l file.bytes h file.laid file.cover file.alike n (of n held) refl lies in
           let is : packet_of h n ≡ m =
           apart 0 l (packet_of h n) m made i (SharesByte-same_offset (packet_of h n) m refl) in

@@ -254,13 +254,6 @@ module _ (u : UnitsParts) (named : List NamedPlace) (near : Near) (nm : AreNamed
   abbrev pub AsksFor : List StreamPlace → ℕ → Asked → Type 0
   AsksFor places count asked = (x : ℕ) → IsNamed notes x → Asks items asked x ↔ MayLieOf places count x
 
-  pub asks_none : (places : List StreamPlace) (asked : Asked) → asked.all ≡ false
-      → ((k : ℕ) → LiesIn asked.positions k → ⊥) → AsksFor places 0 asked
-  asks_none places asked off empty x there = (
-    λ h. absurd (elim h [ inl e ↦ true_not_false asked.all e off | inr f ↦ empty f.0 f.3 ]),
-    λ h. let l = h.2 in absurd (omega (arith, l)),
-  )
-
   pub asks_more : (places : List StreamPlace) (count : ℕ) (p : StreamPlace) (old new : Asked)
       → slice_get places count ≡ Some p → AsksFor places count old
       → ((x : ℕ) → IsNamed notes x → Asks items new x ↔ (Asks items old x ⊎ MayLieAt u p.body_sid p.offset x))

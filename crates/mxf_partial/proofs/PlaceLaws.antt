@@ -248,14 +248,6 @@ module _ (notes : List NoteParts) (places : List NamedPlace) (count : ℕ) (item
         ];
       }
 
-pub placed_start : (notes : List NoteParts) (places : List NamedPlace) (items : List PlaceOf) → items ≡ []
-    → Placed notes places 0 items
-placed_start notes places items none =
-    record {
-      named = λ p h. absurd (subst (λ (l : List PlaceOf). In p l) none h);
-      each = λ k n b l e h. absurd (omega (arith, l));
-    }
-
 -- All of them have been looked at, and the items are put in their order.
 pub placed_all : (notes : List NoteParts) (places : List NamedPlace) (count : ℕ) (items sorted : List PlaceOf)
     → length places ≤ count → Placed notes places count items → sorted ≡ union place_of_cmp [] items

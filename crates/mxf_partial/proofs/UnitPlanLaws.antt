@@ -391,9 +391,6 @@ wanted_there w p x plan wanted = by_there (has_offset plan.there x) refl
 
 -- What finds things isn't ordered as bytes of units.
 
-reason_of_part : (at : AtHandParts) (o : Order) (r : OffsetRange) → (part_order at o r).reason ≡ o.reason
-reason_of_part at o r = refl
-
 reason_of_asked : (at : AtHandParts) (notes : List NoteParts) (p : Section) (c : Claim) (o : Order)
     → claim_at notes (start_of notes p.first) ≡ Some c → asked_of at notes p ≡ Some o → o.reason ≡ c.reason
 reason_of_asked at notes p c o is e =

@@ -1,17 +1,14 @@
 -- The ways from partitions of streams, by where these begin.
-use Rattle.std.proofs.Common.{◌≡◌, ◌↔◌, ◌⊎◌, ◌∙◌, ◌+◌, ◌<◌, ◌≤◌, ◌==◌, ℕ, true, false, List, [], ◌∷◌, Option, None, Some, ap, arith}
+use Rattle.std.proofs.Common.{◌≡◌, ◌↔◌, ◌⊎◌, ◌∙◌, ◌+◌, ◌<◌, ◌≤◌, ◌==◌, ℕ, true, false, List, ◌∷◌, Option, None, Some, ap, arith}
 use Rattle.std.proofs.Common.{drop, find, get_or, if◌then◌else◌, inl, inr, is_some, length, nat_cmp, nat_lt, refl, suc, subst, sym}
 use Rattle.std.proofs.lemmas.Bool.{eq-eqb, eqb-true, lt-ltb, ltb-false, ltb-true}
 use Rattle.std.proofs.lemmas.Option.{same_Some}
 use Rattle.std.specs.Option.{option_and_then, option_map}
-use Rattle.std.proofs.Common.{◌≢◌, ◌&&◌, ne_eqb}
-use Rattle.mxf_klv.specs.Kind.{kind_of}
-use Rattle.mxf_klv.specs.Note.{IsNote, end_of, greatest_end}
+use Rattle.mxf_klv.specs.Note.{IsNote, greatest_end}
 use Rattle.mxf_catalogue.specs.Content.{IsCatalogue}
 use Rattle.mxf_catalogue.specs.Disputes.{undisputed_notes}
 use Rattle.mxf_catalogue.proofs.DisputeLaws.{In-undisputed_notes}
-use Rattle.mxf_views.specs.Copies.{is_fill}
-use Rattle.mxf_places.specs.Claims.{over_among, over_fills}
+use Rattle.mxf_places.specs.Claims.{over_fills}
 use Rattle.mxf_klv.specs.Parts.{NoteParts}
 use Rattle.mxf_klv.specs.Rising.{In, IsRising}
 use Rattle.mxf_klv.proofs.Lists.{all-In, find-only, found-In}
@@ -34,6 +31,7 @@ use Rattle.mxf_partial.specs.InStreams.{HasNoneFrom, IsFirstFrom, IsInOrder, Pre
 use Rattle.mxf_partial.specs.Streams.{HasNoPartBehind, IsPart, IsPartBehind}
 use Rattle.mxf_partial.specs.Ways.{HasPlace, HasWay, LeadsTo, way_from, way_of}
 use Rattle.mxf_partial.proofs.InStreamLaws.{in_order_from, then_less}
+use Rattle.mxf_places.proofs.StretchLaws.{over_none}
 
 abbrev of : StreamPlace → ℕ
 of p = p.body_sid
@@ -269,12 +267,6 @@ in_order_is ps r = in_order_from of at tie place_cmp precedes ps r
     ]
 
 -- ---- fills
-
-over_none : (notes : List NoteParts) (x : ℕ) → ((n : NoteParts) → In n notes → n.offset ≢ x) → over_among notes x ≡ x
-over_none [] x f = refl
-over_none (n ∷ notes) x f =
-    ap (λ b. over_among notes (if b && is_fill (kind_of n.key) then end_of n else x)) (ne_eqb n.offset x (f n (inl refl)))
-    ∙ over_none notes x (λ m h. f m (inr h))
 
 -- No packet begins where files end at the latest, or above.
 pub far_from_fills : (notes : List NoteParts) (x : ℕ) → IsCatalogue notes → greatest_end ≤ x → x ≡ over_fills notes x

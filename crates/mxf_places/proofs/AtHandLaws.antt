@@ -42,7 +42,7 @@ no_range : (start end : ℕ) → end ≤ start → some_range start (Some end) �
 no_range start end l =
     ap (λ b. if b then record { start = start; end = Some end } ∷ [] else []) (le-ltb start end l)
 
-bound_le : (x : ℕ) (end : Option ℕ) → up_to_bound x end ≤ x
+pub bound_le : (x : ℕ) (end : Option ℕ) → up_to_bound x end ≤ x
 bound_le x None = omega arith
 bound_le x (Some e) = omega arith
 

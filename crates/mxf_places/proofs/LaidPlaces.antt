@@ -7,17 +7,14 @@ use Rattle.mxf_klv.specs.Packet.{size_of}
 use Rattle.mxf_klv.specs.Piece.{end_after, notes_from}
 use Rattle.mxf_klv.specs.Rising.{In}
 use Rattle.mxf_places.specs.Held.{IsHeld}
-
-pub end_above : (o : ℕ) (l : List PacketParts) → o ≤ end_after o l
-end_above o [] = omega arith
-end_above o (p ∷ l) = let more = end_above (o + size_of p) l in omega (arith, more)
+use Rattle.mxf_klv.proofs.SmallPackets.{end_up}
 
 -- Each packet ends at or below the end of all.
 pub ends_below : (o : ℕ) (l : List PacketParts) (m : NoteParts) → In m (notes_from o l) → end_of m ≤ end_after o l
 ends_below o [] m i = absurd i
 ends_below o (p ∷ l) m (inl e) =
     let end : end_of m ≡ end_of (note_of o p) = ap end_of e in
-    let more = end_above (o + size_of p) l in omega (arith, end, more)
+    let more = end_up (o + size_of p) l in omega (arith, end, more)
 ends_below o (p ∷ l) m (inr i) = ends_below (o + size_of p) l m i
 
 -- All bytes of the packets are held.

@@ -27,15 +27,8 @@ use Rattle.mxf_restore.specs.declared.plan.Order.{Order}
 use Rattle.mxf_places.proofs.EdgeLaws.{edge_says}
 use Rattle.mxf_places.proofs.FirstLaws.{first_says, none_speaks}
 use Rattle.mxf_restore.proofs.StartLaws.{heads_say, start_is, start_says}
-
-some_from : {A B : Type 0} (f : A → B) (d : Option A) (b : B) → option_map f d ≡ Some b
-    → (a : A) × (d ≡ Some a) × (f a ≡ b)
-some_from f None b e = absurd cc
-some_from f (Some a) b e = (a, refl, same_Some (f a) b e)
-
-none_from : {A B : Type 0} (f : A → B) (d : Option A) → option_map f d ≡ None → d ≡ None
-none_from f None e = refl
-none_from f (Some a) e = absurd cc
+use Rattle.mxf_restore.proofs.Options.{none_from, some_from}
+use Rattle.mxf_places.proofs.AtHandLaws.{bound_le}
 
 -- ---- the greatest end of notes
 
@@ -73,10 +66,6 @@ bound_rises : (a b : ℕ) (bound : Option ℕ) → a ≤ b → up_to_bound a bou
 bound_rises a b None l = l
 bound_rises a b (Some x) l = omega (arith, l)
 
-bound_low : (a : ℕ) (bound : Option ℕ) → up_to_bound a bound ≤ a
-bound_low a None = omega arith
-bound_low a (Some x) = omega arith
-
 module _ (at : AtHandParts) (notes : List NoteParts) (content : IsContent notes) where
   -- ---- claims
 
@@ -101,9 +90,6 @@ module _ (at : AtHandParts) (notes : List NoteParts) (content : IsContent notes)
 
   module _ (cover : IsCover at.given) (p : Section) (start : ℕ) (claim : Option Claim)
       (claimed : claim_at notes start ≡ claim) where
-    edge : ℕ
-    edge = edge_of at notes
-
     abbrev is_open : Bool
     is_open = option_map_or (λ c. c.is_open) claim false
 
@@ -199,7 +185,7 @@ module _ (at : AtHandParts) (notes : List NoteParts) (content : IsContent notes)
     needed_there =
         let heads = filter (λ m. is_head_to p.first m && (m.offset == start)) notes in
         elim (top_there heads) [
-          | inl e ↦ (let low = bound_low needed p.hole.end in inl (omega (arith, low, e)))
+          | inl e ↦ (let low = bound_le needed p.hole.end in inl (omega (arith, low, e)))
           | inr s ↦ inr (s.0, (heads_say notes start p.first s.0).0 s.1, ap (λ x. up_to_bound x p.hole.end) s.2)
         ]
 

@@ -24,11 +24,7 @@ use Rattle.mxf_restore.proofs.AskedLaws.{asked_law}
 use Rattle.mxf_restore.proofs.OrderStarts.{parts_rise}
 use Rattle.mxf_restore.proofs.PartLaws.{parts_say}
 use Rattle.mxf_restore.proofs.StartLaws.{start_is, start_says}
-
-mapped : {A B : Type 0} (f : A → B) (o : Option A) (y : B) → option_map f o ≡ Some y
-    → (x : A) × (o ≡ Some x) × (f x ≡ y)
-mapped f None y e = absurd cc
-mapped f (Some x) y e = (x, refl, same_Some (f x) y e)
+use Rattle.mxf_restore.proofs.Options.{some_from}
 
 first_is : (xs : List OffsetRange) (r : OffsetRange) → slice_get xs 0 ≡ Some r
     → (later : List OffsetRange) × (xs ≡ r ∷ later)
@@ -171,7 +167,7 @@ module _ (at : AtHandParts) (notes : List NoteParts) (p : Section) where
   front_law o content cover hand =
       let a = looked_for at notes p in (
         λ e.
-            let m = mapped (λ (r : OffsetRange). part_order at a (front_range r)) (slice_get (parts_of at p a) 0) o e in
+            let m = some_from (λ (r : OffsetRange). part_order at a (front_range r)) (slice_get (parts_of at p a) 0) o e in
             let l = first_is (parts_of at p a) m.0 m.1 in
             subst (IsFront at notes p) m.2 (front_says hand a m.0 l.0 cover ((looked content cover a).0 refl) l.1),
         λ f.

@@ -10,6 +10,7 @@ use Rattle.mxf_places.specs.Held.{top_of}
 use Rattle.mxf_restore.specs.Heads.{AreHeads, head_of, with_head}
 use Rattle.mxf_restore.specs.Plan.{is_head_to, needed_of}
 use Rattle.mxf_restore.specs.declared.head.Head.{Head}
+use Rattle.mxf_restore.proofs.Options.{none_from}
 
 -- The first head to an offset, those of a list after what was told.
 abbrev pub told_after : Option Head → List NoteParts → ℕ → Option Head
@@ -91,10 +92,6 @@ none_among (n ∷ notes) start x e =
       | false ↦ λ f. none_among notes start x f
     ] e
 
-unmapped : {A B : Type 0} (f : A → B) (o : Option A) → option_map f o ≡ None → o ≡ None
-unmapped f None e = refl
-unmapped f (Some a) e = absurd cc
-
 pub none_needed : (heads : List (ℕ × Head)) (notes : List NoteParts) (start x : ℕ) → AreHeads notes heads
     → lookup (is_at (nat_cmp x)) heads ≡ None → needed_of notes start x ≡ 0
-none_needed heads notes start x told e = none_among notes start x (unmapped _ _ (sym (told x) ∙ e))
+none_needed heads notes start x told e = none_among notes start x (none_from _ _ (sym (told x) ∙ e))

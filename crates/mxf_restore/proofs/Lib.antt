@@ -1,3 +1,4 @@
+pub mod Options
 pub mod StepLaws
 pub mod SectionLaws
 pub mod HeadLaws

@@ -23,20 +23,8 @@ use Rattle.mxf_restore.specs.declared.section.Section.{Section}
 use Rattle.mxf_restore.specs.declared.plan.Order.{Order}
 use Rattle.mxf_restore.proofs.OrderStarts.{is_part, whole_start}
 use Rattle.mxf_restore.proofs.PlanMembers.{order_members}
-use Rattle.mxf_restore.proofs.SectionCover.{are_sections}
+use Rattle.mxf_restore.proofs.SectionCover.{Below, are_sections, below_some, lower}
 use Rattle.mxf_restore.proofs.StartLaws.{start_is}
-
--- The offset lies below an end.
-abbrev Below : Option ℕ → ℕ → Type 0
-Below end x = (end ≡ None) ⊎ ((e : ℕ) × (end ≡ Some e) × (x < e))
-
-lower : (end : Option ℕ) (x y : ℕ) → x ≤ y → Below end y → Below end x
-lower end x y l (inl e) = inl e
-lower end x y l (inr s) = let less = s.2 in inr (s.0, s.1, omega (arith, less, l))
-
-below_some : (x e : ℕ) → Below (Some e) x → x < e
-below_some x e (inl q) = absurd (cc (q))
-below_some x e (inr s) = let q = same_Some e s.0 s.1 in let less = s.2 in omega (arith, q, less)
 
 -- ---- the parts of what is asked for lie in it
 

@@ -24,6 +24,7 @@ use Rattle.mxf_restore.specs.Missing.{is_missing}
 use Rattle.mxf_restore.specs.NamedPlaces.{AreFirst, IsNamedPlace, NamesPlace, entry_place, is_header, named_place_of}
 use Rattle.mxf_restore.specs.NamedPlaces.{place_cmp, source_in}
 use Rattle.mxf_restore.specs.declared.named.NamedPlace.{NamedPlace}
+use Rattle.mxf_restore.proofs.Options.{some_from}
 
 abbrev place_in : NamedPlace → ℕ
 place_in n = n.place
@@ -193,16 +194,11 @@ passes p (y ∷ ys) x e =
       | false ↦ λ t f. passes p ys x f
     ] refl e
 
-mapped : {A B : Type 0} (f : A → B) (o : Option A) (y : B) → option_map f o ≡ Some y
-    → (x : A) × (o ≡ Some x) × (f x ≡ y)
-mapped f None y e = absurd cc
-mapped f (Some x) y e = (x, refl, same_Some (f x) y e)
-
 source_says : (places : List NamedPlace) (n : NamedPlace)
     → (source_in places n.place ≡ Some n.source) ↔ (find (stands_at n.place) places ≡ Some n)
 source_says places n = (
   λ e.
-      let m = mapped (λ (x : NamedPlace). x.source) (find (stands_at n.place) places) n.source e in
+      let m = some_from (λ (x : NamedPlace). x.source) (find (stands_at n.place) places) n.source e in
       let place : m.0.place ≡ n.place =
       eqb-true m.0.place n.place (passes (stands_at n.place) places m.0 m.1) in
       m.1 ∙ (λ i. Some (record { place = place i; source = m.2 i })),

@@ -29,11 +29,7 @@ use Rattle.mxf_restore.specs.declared.plan.Order.{Order}
 use Rattle.mxf_restore.proofs.OrderCover.{start_below}
 use Rattle.mxf_restore.proofs.SectionCover.{are_sections}
 use Rattle.mxf_restore.proofs.PlanMembers.{order_members}
-
-some_from : {A B : Type 0} (f : A → B) (d : Option A) (b : B) → option_map f d ≡ Some b
-    → (a : A) × (d ≡ Some a) × (f a ≡ b)
-some_from f None b e = absurd cc
-some_from f (Some a) b e = (a, refl, same_Some (f a) b e)
+use Rattle.mxf_restore.proofs.Options.{some_from}
 
 asked_start : (claim : Option Claim) (start : ℕ) (end : Option ℕ) (o : Order) → asked claim start end ≡ Some o
     → o.start ≡ start

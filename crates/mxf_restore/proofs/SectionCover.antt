@@ -27,10 +27,10 @@ use Rattle.mxf_restore.proofs.ClaimedPlaces.{closed_says, named_says}
 use Rattle.mxf_restore.proofs.HoleLaws.{from_hole, to_hole}
 
 -- The offset lies below the end of a hole or a section.
-abbrev Below : Option ℕ → ℕ → Type 0
+abbrev pub Below : Option ℕ → ℕ → Type 0
 Below end x = (end ≡ None) ⊎ ((e : ℕ) × (end ≡ Some e) × (x < e))
 
-lower : (end : Option ℕ) (x y : ℕ) → x ≤ y → Below end y → Below end x
+pub lower : (end : Option ℕ) (x y : ℕ) → x ≤ y → Below end y → Below end x
 lower end x y l (inl e) = inl e
 lower end x y l (inr s) = inr (s.0, s.1, omega (arith, s.2, l))
 
@@ -44,7 +44,7 @@ below_test (Some e) x = (
   ],
 )
 
-below_some : (x e : ℕ) → Below (Some e) x → x < e
+pub below_some : (x e : ℕ) → Below (Some e) x → x < e
 below_some x e (inl q) = absurd (cc (q))
 below_some x e (inr s) = let q = same_Some e s.0 s.1 in omega (arith, q, s.2)
 

@@ -32,7 +32,7 @@ use Rattle.mxf_places.specs.declared.at_hand.OffsetRange.{OffsetRange}
 use Rattle.mxf_places.proofs.ClaimLaws.{claims_say}
 use Rattle.mxf_places.proofs.EndLaws.{end_says}
 use Rattle.mxf_places.proofs.FirstLaws.{claim_some}
-use Rattle.mxf_places.proofs.LaidPlaces.{end_above, ends_below, held_all}
+use Rattle.mxf_places.proofs.LaidPlaces.{ends_below, held_all}
 use Rattle.mxf_restore.specs.Orders.{IsAskedEnd, IsHeadTo, IsOrder, ReachesUpTo}
 use Rattle.mxf_restore.specs.Sections.{AreSections, IsEndOfHole, IsHole, LiesInSection, sections_of}
 use Rattle.mxf_restore.specs.WholeFiles.{EndsInRandomIndex, NothingIsBeyond}
@@ -41,6 +41,7 @@ use Rattle.mxf_restore.specs.declared.section.Section.{Section}
 use Rattle.mxf_restore.proofs.PartLaws.{plan_orders_say}
 use Rattle.mxf_restore.proofs.SectionCover.{are_sections}
 use Rattle.mxf_restore.specs.Plan.{plan_of}
+use Rattle.mxf_klv.proofs.SmallPackets.{end_up}
 
 -- ---- the random index pack at the end
 
@@ -94,7 +95,7 @@ read_last parts at (p ∷ q ∷ packets) r e last =
 
 some_end : (l : List PacketParts) → BeginsWithHeader l → 0 < end_after 0 l
 some_end [] h = absurd h
-some_end (p ∷ packets) h = let up = end_above (0 + size_of p) packets in omega (arith, up)
+some_end (p ∷ packets) h = let up = end_up (0 + size_of p) packets in omega (arith, up)
 
 no_members : {K : Type 0} (xs : List K) → ((x : K) → In x xs → ⊥) → xs ≡ []
 no_members [] none = refl

@@ -15,7 +15,7 @@ use Rattle.std.specs.FinMap.{nat_cmp-IsAntisymmetric}
 use Rattle.mxf_klv.specs.Rising.{In, In-union, IsRising, SameMembers, less_in, union}
 use Rattle.mxf_klv.proofs.Lists.{In-at, In-filter_map, all-In, all_from_In}
 use Rattle.mxf_klv.proofs.Tests.{either, lt_from_less}
-use Rattle.mxf_units.specs.Streams.{IsSmall, in_order, least_above, lesser, offset_above, offset_in, offsets_in}
+use Rattle.mxf_units.specs.Streams.{IsSmall, in_order, least_above, lesser, offset_in, offsets_in}
 use Rattle.mxf_views.specs.Places.{place_cmp}
 use Rattle.mxf_views.specs.Places.{IsBelow}
 use Rattle.mxf_views.proofs.PlaceLaws.{below_from, place_cmp-IsAntisymmetric, place_total}
@@ -316,30 +316,6 @@ pub next-parts : (body_sid offset : ℕ) (listed sized : List StreamPlace)
 next-parts body_sid offset listed sized =
     sym (least-append offset (offsets_in body_sid listed) (offsets_in body_sid sized))
     ∙ ap (least_above offset) (sym (filter_map-append (offset_in body_sid) listed sized))
-
--- One more place.
-pub next-step : (body_sid offset : ℕ) (p : StreamPlace) (rest : List StreamPlace) (next : Option ℕ)
-    → lesser (lesser next (offset_above body_sid offset p)) (least_above offset (offsets_in body_sid rest))
-    ≡ lesser next (least_above offset (offsets_in body_sid (p ∷ rest)))
-next-step body_sid offset p rest next =
-    lesser_assoc next (offset_above body_sid offset p) (least_above offset (offsets_in body_sid rest))
-    ∙ ap (lesser next) one_more
-  where
-    one_more : lesser (offset_above body_sid offset p) (least_above offset (offsets_in body_sid rest))
-        ≡ least_above offset (offsets_in body_sid (p ∷ rest))
-    one_more =
-        elim (p.body_sid == body_sid) as (λ a.
-        lesser (if nat_lt offset p.offset then (if a then Some p.offset else None) else None)
-        (least_above offset (offsets_in body_sid rest))
-        ≡ least_above offset (cons_option (if a then Some p.offset else None) (offsets_in body_sid rest))) [
-          | true ↦ refl
-          | false ↦ elim (nat_lt offset p.offset) as (λ b.
-              lesser (if b then None else None) (least_above offset (offsets_in body_sid rest))
-              ≡ least_above offset (offsets_in body_sid rest)) [
-                | true ↦ refl
-                | false ↦ refl
-              ]
-        ]
 
 -- ---- small places
 

@@ -26,7 +26,7 @@ use Rattle.mxf_views.specs.Places.{place_in}
 use Rattle.mxf_units.specs.declared.constant_units.ConstantUnits.{ConstantUnits}
 use Rattle.mxf_views.specs.declared.index.place.StreamPlace.{StreamPlace}
 use Rattle.mxf_units.proofs.LeastLaws.{IsLeast, least-append, least-in_order, least-is, least-same, next-parts}
-use Rattle.mxf_units.proofs.LeastLaws.{next-step, offset_in-says, one_least}
+use Rattle.mxf_units.proofs.LeastLaws.{offset_in-says, one_least}
 use Rattle.mxf_units.proofs.NextLaws.{begins_behind, first_behind}
 
 -- ---- members and their order
@@ -142,22 +142,6 @@ next-of_segments segments listed units sorted is_listed are p body offset =
     ∙ next-parts body offset (flat_map listed_in segments) (filter_map (sized_above offset) segments)
 
 -- ---- one more
-
-lesser-none : (o : Option ℕ) → lesser o None ≡ o
-lesser-none None = refl
-lesser-none (Some x) = refl
-
-pub units-step : (body offset : ℕ) (c : ConstantUnits) (cs : List ConstantUnits) (next : Option ℕ)
-    → lesser (lesser next (option_and_then (offset_above body offset) (place_above offset c)))
-    (least_above offset (offsets_in body (filter_map (place_above offset) cs)))
-    ≡ lesser next (least_above offset (offsets_in body (filter_map (place_above offset) (c ∷ cs))))
-units-step body offset c cs next = by (place_above offset c)
-  where
-    by : (o : Option StreamPlace) → lesser (lesser next (option_and_then (offset_above body offset) o))
-        (least_above offset (offsets_in body (filter_map (place_above offset) cs)))
-        ≡ lesser next (least_above offset (offsets_in body (cons_option o (filter_map (place_above offset) cs))))
-    by None = ap (λ n. lesser n (least_above offset (offsets_in body (filter_map (place_above offset) cs)))) (lesser-none next)
-    by (Some p) = next-step body offset p (filter_map (place_above offset) cs) next
 
 -- ---- around an offset
 

@@ -1,26 +1,19 @@
 -- First packets of essence.
-use Rattle.std.proofs.Common.{◌≡◌, ◌≢◌, ◌∙◌, ◌==◌, ◌&&◌, ◌≤◌, ◌+◌, ℕ, Bool, List, [], ◌∷◌, refl, ap}
-use Rattle.std.proofs.Common.{arith, find, Option, None, Some, ne_eqb, eqb-true, inl, inr, if◌then◌else◌}
+use Rattle.std.proofs.Common.{◌≡◌, ◌≢◌, ◌∙◌, ◌==◌, ◌≤◌, ◌+◌, ℕ, Bool, List, ap}
+use Rattle.std.proofs.Common.{arith, find, Option, None, Some, eqb-true, if◌then◌else◌}
 use Rattle.std.proofs.Common.{option_and_then, sym}
 use Rattle.mxf_klv.specs.Parts.{NoteParts}
 use Rattle.mxf_klv.specs.Kind.{kind_of}
-use Rattle.mxf_klv.specs.Note.{IsNote, end_of, greatest_end}
+use Rattle.mxf_klv.specs.Note.{IsNote, greatest_end}
 use Rattle.mxf_klv.specs.Rising.{In}
 use Rattle.mxf_klv.proofs.Lists.{all-In, find-none}
 use Rattle.mxf_catalogue.specs.Content.{IsCatalogue}
 use Rattle.mxf_catalogue.specs.Disputes.{undisputed_notes}
 use Rattle.mxf_catalogue.proofs.DisputeLaws.{In-undisputed_notes}
-use Rattle.mxf_views.specs.Copies.{is_fill}
 use Rattle.mxf_views.specs.Partitions.{PartitionParts}
-use Rattle.mxf_places.specs.Claims.{over_among, over_fills}
+use Rattle.mxf_places.specs.Claims.{over_fills}
 use Rattle.mxf_units.specs.EssenceZones.{behind_index, essence_at, first_packet, may_be_essence}
-
-over_none : (notes : List NoteParts) (x : ℕ) → ((n : NoteParts) → In n notes → n.offset ≢ x) → over_among notes x ≡ x
-over_none [] x f = refl
-over_none (n ∷ notes) x f =
-    ap (λ b. over_among notes (if b && is_fill (kind_of n.key) then end_of n else x))
-    (ne_eqb n.offset x (f n (inl refl)))
-    ∙ over_none notes x (λ m h. f m (inr h))
+use Rattle.mxf_places.proofs.StretchLaws.{over_none}
 
 -- By the packet that begins there.
 pub essence_is : (notes : List NoteParts) (x : ℕ) (n : NoteParts) (b : Bool)

@@ -1,10 +1,10 @@
 -- How many notes of a content hold a byte of a note, by where notes begin and end.
-use Rattle.std.specs.Prelude.{◌≡◌, ◌≢◌, ◌↔◌, ◌+◌, ◌-◌, ◌<◌, ◌≤◌, ℕ, zero, suc, Bool, true, false, not, ◌&&◌}
+use Rattle.std.specs.Prelude.{◌≡◌, ◌≢◌, ◌↔◌, ◌+◌, ◌-◌, ◌<◌, ◌≤◌, ℕ, Bool, true, false, not, ◌&&◌}
 use Rattle.std.specs.Prelude.{nat_lt, nat_le, List, [], ◌∷◌, length, map, cond, count_by, IsTrue, refl}
 use Rattle.std.specs.List.{AllByRecursion, AllWithin}
 use Rattle.std.specs.List.Sorted.{IsNonDecreasing}
 use Rattle.std.proofs.Common.{sym, ◌∙◌, ap, subst, inl, inr, arith, get_or}
-use Rattle.std.proofs.lemmas.Bool.{and_from, and_parts, cases_lt, ltb-true, lt-ltb, le-ltb, le-leb, lt-leb, false_from_ne_true}
+use Rattle.std.proofs.lemmas.Bool.{and_from, and_parts, ltb-true, lt-ltb, le-ltb, le-leb, lt-leb, false_from_ne_true}
 use Rattle.std.proofs.lemmas.Bool.Decides.{nat_tests}
 use Rattle.std.proofs.lemmas.Cmp.{tied_itself}
 use Rattle.std.proofs.lemmas.List.Sorted.{sum_by-IsPermutation}
@@ -17,7 +17,7 @@ use Rattle.mxf_klv.specs.NoteOrder.{note_total}
 use Rattle.mxf_klv.specs.Rising.{In}
 use Rattle.mxf_catalogue.specs.Content.{IsContent, has_note}
 use Rattle.mxf_catalogue.specs.Disputes.{is_same_note}
-use Rattle.mxf_klv.proofs.Counts.{tally, count_by-cons, count-none, none-count}
+use Rattle.mxf_klv.proofs.Counts.{tally, count_by-cons, count-none}
 use Rattle.mxf_klv.proofs.HeadOrder.{same_note-Decides}
 use Rattle.mxf_klv.proofs.Lists.{all-In}
 use Rattle.mxf_klv.proofs.Tests.{not_true, not-true-false, same_bool}

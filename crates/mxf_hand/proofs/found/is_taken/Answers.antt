@@ -1,11 +1,10 @@
 use Rattle.std.proofs.Common.{◌≡◌, ◌∙◌, ◌<◌, ◌&&◌, Bool, ap, arith, not, nat_lt, refl, sym}
-use Rattle.std.proofs.lemmas.Bool.{lt-ltb, ltb-true}
+use Rattle.std.proofs.lemmas.Bool.{and_from, and_parts, lt-ltb, ltb-true}
 use Rattle.mxf_klv.specs.Note.{end_of}
 use Rattle.mxf_klv.specs.Parts.{NoteParts}
 use Rattle.mxf_klv.proofs.Lists.{list_any-In}
 use Rattle.mxf_klv.proofs.Tests.{same_bool}
 use Rattle.mxf_hand.specs.Rounds.{is_crossed}
-use Rattle.mxf_hand.proofs.HeadNoteLaws.{both_true, two_parts}
 use Rattle.mxf_hand.proofs.found.is_taken.Goals as goal
 
 pub returns-then-ends_within : goal.returns-then-ends_within
@@ -20,10 +19,10 @@ returns-then-ends_within c = λ read starts.
     let (at, lies, low, high) = c.meets.ensures.0 t in
     let (m, i, e) = (starts at).0 lies in
     (list_any-In test read).1
-    (m, i, both_true (nat_lt n.offset m.offset) (nat_lt m.offset (end_of n)) (lt-ltb n.offset m.offset (omega (arith, low, e, from))) (lt-ltb m.offset (end_of n) (omega (arith, high, e, to)))))
+    (m, i, and_from (nat_lt n.offset m.offset) (nat_lt m.offset (end_of n)) (lt-ltb n.offset m.offset (omega (arith, low, e, from))) (lt-ltb m.offset (end_of n) (omega (arith, high, e, to)))))
     (λ t.
     let (m, i, e) = (list_any-In test read).0 t in
-    let parts = two_parts (nat_lt n.offset m.offset) (nat_lt m.offset (end_of n)) e in
+    let parts = and_parts (nat_lt n.offset m.offset) (nat_lt m.offset (end_of n)) e in
     let low : n.offset < m.offset = ltb-true n.offset m.offset parts.0 in
     let high : m.offset < end_of n = ltb-true m.offset (end_of n) parts.1 in
     c.meets.ensures.1

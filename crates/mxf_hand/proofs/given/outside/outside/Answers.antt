@@ -4,8 +4,9 @@ use Rattle.mxf_catalogue.specs.declared.run.Run.{Run}
 use Rattle.mxf_catalogue.specs.Covers.{IsCover, IsRun}
 use Rattle.mxf_catalogue.specs.Runs.{LiesIn}
 use Rattle.mxf_hand.specs.Outside.{with_all_outside}
-use Rattle.mxf_hand.proofs.OutsideLaws.{IsCover-with_all_outside, LiesIn-outside, runs_of_cover}
+use Rattle.mxf_hand.proofs.OutsideLaws.{IsCover-with_all_outside, LiesIn-outside}
 use Rattle.mxf_hand.proofs.given.outside.outside.Goals as goal
+use Rattle.mxf_places.proofs.ByteLaws.{runs_of_cover}
 
 pub loop-run-init : goal.loop-run-init
 loop-run-init c =

@@ -1,0 +1,14 @@
+-- What a function makes of an option, and what it was made of.
+use Rattle.std.proofs.Common.{◌≡◌, Option, None, Some, option_map, refl}
+use Rattle.std.proofs.lemmas.Option.{same_Some}
+
+-- Something is made of something.
+pub some_from : {A B : Type 0} (f : A → B) (d : Option A) (b : B) → option_map f d ≡ Some b
+    → (a : A) × (d ≡ Some a) × (f a ≡ b)
+some_from f None b e = absurd cc
+some_from f (Some a) b e = (a, refl, same_Some (f a) b e)
+
+-- Nothing is made of nothing.
+pub none_from : {A B : Type 0} (f : A → B) (d : Option A) → option_map f d ≡ None → d ≡ None
+none_from f None e = refl
+none_from f (Some a) e = absurd cc
