@@ -1,6 +1,6 @@
 //! The laws of sections, orders, fronts and disputes: functions that do nothing, whose clauses hold of all values.
 pub use crate::disputes::disputes_by_definition;
-pub use crate::named::is_missing;
+pub use crate::named::missing_places_by_definition;
 pub use crate::order::{asked_by_definition, fronts_by_definition};
 pub use crate::plan::{
     disputed_places_by_definition, gaps_are_ordered, orders_are_missing, orders_by_definition,

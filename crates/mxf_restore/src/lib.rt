@@ -41,7 +41,7 @@ mod plan;
 mod section;
 
 pub use disputes::Disputes;
-pub use named::{NamedPlace, missing_places_by_definition, named_places};
+pub use named::{NamedPlace, is_missing, named_places};
 pub use order::{SectionOrders, is_again};
 pub use plan::{DisputedPlace, Order, Plan};
 pub use section::{Section, holes, sections};
