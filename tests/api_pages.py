@@ -2,13 +2,15 @@
 """Writes docs/api from the sources: a page for each library, and README.md, which lists them.
 
 A library is a crate of crates.txt whose src/lib.rt passes items on. Its page has the comment of the crate, then each
-item that lib.rt passes on: types, functions, traits and constants, and apart from them the laws. A law is a function
-that takes nothing and answers nothing. Of ghost code nothing is shown but the names of clauses.
+item that lib.rt passes on: types, functions, traits and constants, and apart from them the laws, those of src/laws.rt
+too. A law is a function that takes nothing and answers nothing. Of ghost code nothing is shown but the names of
+clauses. files.md says of each file of the crates what it has, by its first sentence.
 
 A source is read by its layout, which `rt fmt` keeps: each item begins at the indentation of its block, and its body
 ends there. tests/documents.py compares the pages with what this script makes of the sources.
 """
 import functools
+import itertools
 import pathlib
 import re
 import sys
@@ -35,12 +37,16 @@ A clause (`ensures`) says what a function answers and what it leaves. A conditio
 to see to. The pages name them, and the sources have their statements. A law takes nothing and answers nothing: its
 clauses say what holds.
 
-[LAYERS](../LAYERS.md) says which crate stands on which, [MODEL](../MODEL.md) what the definitions in the clauses say.
+[files](files.md) says which file has what. [LAYERS](../LAYERS.md) says which crate stands on which, [MODEL](../MODEL.md) what the definitions in the clauses say.
 [mxf_example](../../crates/mxf_example) is a whole program that builds on the libraries.
 
 | Library | What it has |
 |---|---|
 """
+# How the page of files begins.
+FILES = """# The files of the crates
+
+What each file of a crate's `src/` has, by the first sentence of its comment. `tests/api_pages.py` writes this page."""
 PASSED_ON = re.compile(r"pub use ([\w:]+?)::\{?([\w, ]+)\}?$")
 CODE_LINK = re.compile(r"\[`([^`\]]+)`\](?:\(([^)]*)\))?")
 
@@ -138,12 +144,22 @@ def find(folder, module, name):
 def exported(crate):
     """What a library passes on, by name: the item, or the name of the library from which it has it."""
     folder = TOP / "crates" / crate / "src"
-    items = {there[2]: item for item in source(folder / "lib.rt") if (there := DECLARED.match(item.head))}
-    for module, name in passed_on(folder / "lib.rt"):
-        items[name] = module[0] if module[0].startswith("mxf_") else find(folder, module, name)
-        if items[name] is None:
-            raise LookupError(f"{crate} passes on {name}, which isn't found")
+    items = {}
+    for file in pages_of_items(folder):
+        items |= {there[2]: item for item in source(file) if (there := DECLARED.match(item.head))}
+        for module, name in passed_on(file):
+            module = module[1:] if module[0] == "crate" else module
+            items[name] = module[0] if module[0].startswith("mxf_") else find(folder, module, name)
+            if items[name] is None:
+                raise LookupError(f"{crate} passes on {name}, which isn't found")
     return items
+
+
+def pages_of_items(folder):
+    """The files whose items a library has: lib.rt, and laws.rt if that is public."""
+    file = folder / "lib.rt"
+    is_public = any(item.head == "pub mod laws" for item in source(file))
+    return [file, folder / "laws.rt"] if is_public else [file]
 
 
 @functools.cache
@@ -288,8 +304,8 @@ def told(item, crate, owner=None):
 
 
 def method(item, crate, owner):
-    """A method in one line."""
-    return f"- {signature(item)}: {told(item, crate, owner)}"
+    """A method in one line. It stands beside its type or below it."""
+    return f"- {signature(item)}: {linked(first_sentence(item.docs), crate, owner)}"
 
 
 def member(item, crate, owner):
@@ -387,10 +403,33 @@ def front():
     return unwrapped([*FRONT.splitlines(), *rows]) + "\n"
 
 
+def comment_of(file):
+    """The first sentence of the comment at the head of a file."""
+    lines = itertools.takewhile(lambda line: line.startswith("//!"), file.read_text(encoding="utf-8").splitlines())
+    return first_sentence([line[4:] for line in lines])
+
+
+def files_of(crate):
+    """The table of a crate's files: each with the first sentence of its comment."""
+    folder = TOP / "crates" / crate / "src"
+    for file in sorted(folder.rglob("*.rt"), key=lambda file: file.with_suffix("").parts):
+        path = file.relative_to(folder).as_posix()
+        yield f"| [{path}](../../crates/{crate}/src/{path}) | {linked(comment_of(file), crate)} |"
+
+
+def files():
+    """The page that says which file has what."""
+    rows = (TOP / "crates.txt").read_text(encoding="utf-8").splitlines()
+    parts = [FILES]
+    for crate in (row.split(":")[0].strip() for row in rows if ":" in row):
+        parts += [f"## {crate}", "\n".join(("| File | Has |", "|---|---|", *files_of(crate)))]
+    return "\n\n".join(parts) + "\n"
+
+
 @functools.cache
 def pages():
     """The pages by the names of their files."""
-    return {"README.md": front(), **{f"{name}.md": page(name) for name in libraries()}}
+    return {"README.md": front(), "files.md": files(), **{f"{name}.md": page(name) for name in libraries()}}
 
 
 def main():

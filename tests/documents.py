@@ -7,8 +7,7 @@ block that names a file of crates/ stands in it. Sees that each row of a table s
 would end, and that the numbers of tests, edits, runs and files that a document gives are those of the scripts and
 crates. Sees that each row of docs/PROMISES.md names a clause or what tries it, and that its list has each public call
 that can be out of memory. Looks up in docs/MODEL.md each definition that a clause of a public function of the libraries
-cites, and compares the table of docs/LAYERS.md with crates.txt, and its tables of files with the files of the crates.
-Compares each page of docs/api with what tests/api_pages.py makes of the sources, and what docs/FORMATS.md owns (exit
+cites, and compares the table of docs/LAYERS.md with crates.txt. Compares each page of docs/api with what tests/api_pages.py makes of the sources, and what docs/FORMATS.md owns (exit
 statuses, stops, forms of a source, findings, words of lines) with what README.md, docs/GUIDE.md, the man page and the
 sources say of it. Looks up the names of code of docs/MODEL.md and docs/DECISIONS.md in the sources. Only failures are
 printed; the last line is 'N passed, M failed'.
@@ -25,9 +24,12 @@ TOP = pathlib.Path(__file__).resolve().parent.parent
 LINK = re.compile(r"\[[^\]]*\]\(([^)\s]+)\)")
 CONTRACT = re.compile(r"\[`([\w:]+)`\]\(([^)\s]+\.rt)\)(?: \(((?:`\w+`,? ?)+))?")
 LIBRARIES = (
-    "mxf_klv", "mxf_sets", "mxf_catalogue", "mxf_views", "mxf_places", "mxf_restore", "mxf_units", "mxf_partial",
-    "mxf_read", "mxf_verify", "mxf_hand", "mxf_find", "mxf_lines",
+    "mxf_klv", "mxf_sets", "mxf_catalogue", "mxf_views", "mxf_findings", "mxf_places", "mxf_restore", "mxf_map",
+    "mxf_units", "mxf_partial", "mxf_read", "mxf_readings", "mxf_verify", "mxf_hand", "mxf_find", "mxf_forms",
+    "mxf_lines",
 )
+# What the program is made of beside them.
+PROGRAM = ("mxf_asked", "mxf_saving", "mxf_watching", "mxf_commands", "mxf_hints", "mxf_sources", "mxf_tool")
 IMPORT = re.compile(r"^ghost use Rattle\.(mxf_\w+)\.specs\.(\w+)\.\{([^}]*)\};", re.MULTILINE)
 # Modules of small files alone, of which docs/MODEL.md names the file.
 EXAMPLES = re.compile(r"Worked\w+|RefusedFiles")
@@ -140,9 +142,8 @@ def verdicts_of_quotes(document):
 
 
 def exported_by(crate):
-    """The names that a library passes on."""
-    passed_on = re.findall(r"^pub use ([^;]*);", text_of(TOP / "crates" / crate / "src/lib.rt"), re.MULTILINE)
-    return set(re.findall(r"\w+", " ".join(passed_on)))
+    """The names that a library passes on, the laws' too."""
+    return set(api_pages.exported(crate))
 
 
 def clauses_of(text, exported):
@@ -211,50 +212,6 @@ def verdicts_of_layers(document):
             below = set().union(*(known.get(name, set()) for name in named))
             yield number, ", ".join(named), None if stated == below else f"crates.txt differs in {sorted(stated ^ below)}"
     yield 1, "the table of crates", None if told == set(known) else f"crates.txt differs in {sorted(told ^ set(known))}"
-
-
-def sources_of(crate):
-    """The files of a crate's sources, by their paths below `src` without the ending: all but `lib` and `main`."""
-    folder = TOP / "crates" / crate / "src"
-    files = (file.relative_to(folder).with_suffix("").as_posix() for file in folder.rglob("*.rt"))
-    return {file for file in files if file not in ("lib", "main")}
-
-
-def file_named(name, before, files):
-    """The file that a name of a cell stands for, or None. The name may leave out the folder of the name before it, the
-    front of that folder, or, after a colon, the name before it."""
-    folders = [before, *map(str, pathlib.PurePosixPath(before).parents)] if before else [""]
-    paths = (str(pathlib.PurePosixPath(folder) / name) for folder in folders)
-    return next((path for path in paths if path in files), None)
-
-
-def rows_of_files(document):
-    """The rows of the tables that say which file has what: the crate, the line, and the names of its first cell."""
-    crate = None
-    for number, line in enumerate(lines_of(document), 1):
-        heading = re.match(r"(mxf_\w+), in \[src/\]\(\.\./crates/\1/src\)", line)
-        crate = heading[1] if heading else None if line and not line.startswith("|") else crate
-        names = re.findall(r"`([^`]+)`", line.split(" | ")[0])
-        if crate and names and line.startswith("|"):
-            yield crate, number, names
-
-
-def verdicts_of_files(document):
-    """For each name of a file in the tables of docs/LAYERS.md: its line, the name, and that no file has it or that it
-    stands there twice, or None. Then for each library and mxf_tool: the files that its table lacks, or None."""
-    if document.name != "LAYERS.md":
-        return
-    files, seen = {crate: sources_of(crate) for crate in (*LIBRARIES, "mxf_tool")}, set()
-    for crate, number, names in rows_of_files(document):
-        before = ""
-        for name in names:
-            before = file_named(name, before, files.get(crate, ())) or name
-            fault = "twice" if (crate, before) in seen else None if before in files.get(crate, ()) else "no such file"
-            seen.add((crate, before))
-            yield number, f"{name} of {crate}", fault
-    for crate, known in files.items():
-        lacking = sorted(file for file in known if (crate, file) not in seen)
-        yield 1, f"the table of {crate}", f"no row names {', '.join(lacking)}" if lacking else None
 
 
 # What a cell of docs/PROMISES.md has that names no clause and carries a promise: the two that rest on the language, and
@@ -574,7 +531,7 @@ def printed_by(source, name):
 def retold():
     """What docs/FORMATS.md owns and something else retells: its name, what docs/FORMATS.md has, where it is retold, and
     what stands there."""
-    codes, exits = "crates/mxf_views/src/finding.rt", "crates/mxf_tool/src/exit.rt"
+    codes, exits = "crates/mxf_findings/src/finding.rt", "crates/mxf_hints/src/exit.rt"
     guide, man = text_of(TOP / GUIDE), plain_man_page()
     return (
         ("status", formats_statuses(), MAN, dict.fromkeys(man_statuses(), True)),
@@ -615,7 +572,7 @@ def fault_of_fact(file, owned, there):
 
 
 VERDICTS = (
-    verdicts_of_files, verdicts_of_promises, verdicts_of_memory,
+    verdicts_of_promises, verdicts_of_memory,
     verdicts_of_links, verdicts_of_contracts, verdicts_of_names, verdicts_of_tables, verdicts_of_quotes,
     verdicts_of_definitions, verdicts_of_layers, verdicts_of_numbers, verdicts_of_api, verdicts_of_code,
     verdicts_of_facts,

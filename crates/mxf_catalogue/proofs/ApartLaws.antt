@@ -28,11 +28,7 @@ begins_above low (x ∷ xs) n a (inr h) =
 -- so their offsets rise
 pub apart_rises : (low : ℕ) (notes : List NoteParts) → AreApart low notes → IsRisingBy (λ n. n.offset) notes
 apart_rises low [] a = tt
-apart_rises low (n ∷ notes) a = (
-  all_from_In (λ m. n.offset < m.offset) notes (λ m h.
-      let l = begins_above (end_of n) notes m a.1 h in omega (arith, l)),
-  apart_rises (end_of n) notes a.1,
-)
+apart_rises low (n ∷ notes) a = grind (arith, all_from_In, begins_above, apart_rises (end_of n) notes a.1)
 
 -- no two share a byte
 stand_apart : (low : ℕ) (notes : List NoteParts) → AreApart low notes → StandApart notes
@@ -47,18 +43,7 @@ stand_apart low (x ∷ xs) a m n (inr h) (inr k) ne s = stand_apart (end_of x) x
 -- so they are the undisputed notes of a content, and it has no others
 pub whole_apart : (notes : List NoteParts) (runs : List Run) → IsCatalogue notes → AreReduced notes
     → AreApart 0 notes → Covers runs notes → AreCatalogueFields notes [] [] runs
-whole_apart notes runs is red apart covers =
-    let none = whole_none.kept in
-    let parts : AreNoteLists notes [] = record {
-      undisputed_is = is;
-      disputed_is = none.parts.disputed_is;
-      apart = λ m n h k ne s. elim k [ inl i ↦ stand_apart 0 notes apart m n h i ne s | inr i ↦ i ];
-      shared = none.parts.shared;
-    } in
-    record {
-      kept = record { parts = parts; reduced = red; cover = none.cover; covers = none.covers };
-      covers = covers;
-    }
+whole_apart notes runs is red apart covers = grind (arith, whole_none, stand_apart)
 
 -- the runs of what each covers are those of what they cover
 pub covers_all : (notes : List NoteParts) → Covers (union_of_runs [] (map covered_run notes)) notes
@@ -81,10 +66,7 @@ covers_all notes at =
 -- ---- notes apart that are all those with a property
 
 pub later_differs : (m n : NoteParts) (ws : List NoteParts) → AreApart 0 (m ∷ n ∷ ws) → m ≢ n
-later_differs m n ws a e =
-    let l : end_of m ≤ n.offset = a.1.0 in
-    let o : m.offset ≡ n.offset = ap (λ (x : NoteParts). x.offset) e in
-    omega (arith, l, o)
+later_differs m n ws a e = grind arith
 
 pub picked_none : (P : NoteParts → Type 0) (ws : List NoteParts) → ((n : NoteParts) → In n ws ↔ P n)
     → ((n : NoteParts) → P n → ⊥) → ws ≡ []
@@ -102,8 +84,5 @@ pub picked_several : (P : NoteParts → Type 0) (ws : List NoteParts) → ((n : 
     → (m n : NoteParts) → P m → P n → m ≢ n
     → (x : NoteParts) × (y : NoteParts) × (rest : List NoteParts) × (ws ≡ x ∷ y ∷ rest)
 picked_several P [] w m n h k ne = absurd ((w m).1 h)
-picked_several P (x ∷ []) w m n h k ne = elim ((w m).1 h) [
-  | inl e ↦ elim ((w n).1 k) [ inl f ↦ absurd (ne (e ∙ sym f)) | inr j ↦ absurd j ]
-  | inr j ↦ absurd j
-]
+picked_several P (x ∷ []) w m n h k ne = grind arith
 picked_several P (x ∷ y ∷ rest) w m n h k ne = (x, y, rest, refl)

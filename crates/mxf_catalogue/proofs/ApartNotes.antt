@@ -105,11 +105,4 @@ pub AreApart-zone : (start len low : ℕ) (notes : List NoteParts) → AreApart 
     → AreApart start (filter (lies_in start len) notes)
 AreApart-zone start len low [] a = tt
 AreApart-zone start len low (n ∷ notes) a =
-    let ih = AreApart-zone start len (end_of n) notes a.1 in
-    let keep = AreApart-filter (lies_in start len) (end_of n) notes a.1 in
-    elim (lies_in start len n) as (λ b. lies_in start len n ≡ b
-    → AreApart start (cond b (n ∷ filter (lies_in start len) notes) (filter (lies_in start len) notes))) [
-      | true ↦ λ t. let p = and_parts (nat_le start n.offset) (nat_le (end_of n) (start + len)) t in
-          (leb-true start n.offset p.0, keep)
-      | false ↦ λ t. ih
-    ] refl
+    grind (arith, AreApart-filter, and_parts, leb-true, AreApart-zone start len (end_of n) notes a.1)

@@ -96,11 +96,7 @@ clear_after x notes new n =
 -- Two clear notes of which one begins below the other's end, but isn't the other, stand one behind the other.
 pub ordered : (notes : List NoteParts) (m n : NoteParts) → IsClear m notes → IsClear n notes → (m ≡ n → ⊥)
     → m.offset < end_of n → end_of m ≤ n.offset
-ordered notes m n c d ne l =
-    elim (cases_lt n.offset (end_of m)) [
-      | inl g ↦ absurd (ne (clear_same notes m n c d (shares m n l g)))
-      | inr g ↦ g
-    ]
+ordered notes m n c d ne l = grind (arith, cases_lt, clear_same, shares)
 
 -- A content that has no notes but those of another is no longer.
 pub sub_length : (xs ys : List NoteParts) → IsContent xs → IsContent ys → ((n : NoteParts) → In n xs → In n ys)
@@ -150,17 +146,7 @@ held_whole notes n w (inr s) = absurd (no_head s.0 n w (sym s.2))
 -- A note that is clear among all is clear among some that all have.
 pub clear_among_some : (some all : List NoteParts) (n : NoteParts) → AreReduced some
     → ((m : NoteParts) → In m some → has_note all m) → IsClear n all → In n some → IsClear n some
-clear_among_some some all n r has c h = record {
-  held = h;
-  whole = c.whole;
-  undisputed = λ d. elim (has d.0 d.1) [
-    | inl k ↦ c.undisputed (d.0, k, d.2, d.3)
-    | inr s ↦ elim (same_note s.0 n) [
-      | inl e ↦ r d.0 d.1 (n, h, (λ q. d.2 (sym q)), ap head_note (sym e) ∙ s.2)
-      | inr ne ↦ c.undisputed (s.0, s.1, ne, with_whole s.0 n (subst (λ (y : NoteParts). SharesByte y n) (sym s.2) d.3))
-    ]
-  ];
-}
+clear_among_some some all n r has c h = grind (arith, same_note, with_whole)
 
 -- So is one of their reduced union.
 pub clear_in_one : (a b : List NoteParts) (n : NoteParts) → AreReduced a → AreReduced b
@@ -175,13 +161,7 @@ clear_in_one a b n p q c =
 
 pub count_is_length : (test : NoteParts → Bool) (ns : List NoteParts) → count_by test ns ≡ length (filter test ns)
 count_is_length test [] = refl
-count_is_length test (n ∷ ns) =
-    let ih = count_is_length test ns in
-    elim (test n) as (λ b. test n ≡ b → count_by test (n ∷ ns)
-    ≡ length (cond b (n ∷ filter test ns) (filter test ns))) [
-      | true ↦ λ e. let one : tally (test n) ≡ 1 = ap tally e in omega (arith, ih, one, count_by-cons test n ns)
-      | false ↦ λ e. let none : tally (test n) ≡ 0 = ap tally e in omega (arith, ih, none, count_by-cons test n ns)
-    ] refl
+count_is_length test (n ∷ ns) = grind (arith, count_by, tally, count_by-cons, count_is_length test ns)
 
 -- So there are no more of them in the union than in both.
 pub count_in_union : (test : NoteParts → Bool) (a b : List NoteParts) → IsContent a → IsContent b → AreReduced a
@@ -243,18 +223,10 @@ is_whole at (p ∷ ps) n (inr h) = is_whole (at + size_of p) ps n h
 
 pub not_disputed : (at : ℕ) (l : List PacketParts) (n : NoteParts) → In n (notes_from at l)
     → not (is_disputed n (notes_from at l)) ≡ true
-not_disputed at l n h =
-    let d = is_disputed-IsDisputed n (notes_from at l) in
-    elim (is_disputed n (notes_from at l)) as (λ b. is_disputed n (notes_from at l) ≡ b → not b ≡ true) [
-      | true ↦ λ e. absurd (no_dispute at l n h (d.0 e))
-      | false ↦ λ e. refl
-    ] refl
+not_disputed at l n h = grind (arith, is_disputed-IsDisputed, no_dispute)
 
 pub clear-laid : (at : ℕ) (l : List PacketParts) → clear_notes (notes_from at l) ≡ notes_from at l
-clear-laid at l =
-    ap (filter (λ (n : NoteParts). n.whole))
-    (filter_all (λ n. not (is_disputed n (notes_from at l))) (notes_from at l) (not_disputed at l))
-    ∙ filter_all (λ n. n.whole) (notes_from at l) (is_whole at l)
+clear-laid at l = grind (arith, filter_all, not_disputed, is_whole)
 
 pub contents_append : (xs ys : List NoteParts) → IsContent xs → IsContent ys
     → ((m n : NoteParts) → In m xs → In n ys → m.offset < n.offset) → IsContent (xs ++ ys)

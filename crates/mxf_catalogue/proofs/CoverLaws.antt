@@ -34,12 +34,7 @@ ends-with_run : (high : ℕ) (r : Run) (runs : List Run) → r.end ≤ high → 
     → AllByRecursion (λ s. s.end ≤ high) (with_run r runs)
 ends-with_run high r [] l a = (l, tt)
 ends-with_run high r (s ∷ runs) l a =
-    grind (
-      arith,
-      with_run_cases,
-      ends-with_run high r runs l a.1,
-      ends-with_run high (both r s) runs (omega arith) a.1,
-    )
+    grind (arith, ends-with_run high r runs l a.1, ends-with_run high (both r s) runs (omega arith) a.1)
 
 pub IsCover-with_run : (r : Run) (runs : List Run) → IsRun r → IsCover runs → IsCover (with_run r runs)
 IsCover-with_run r runs is c = grind (arith, AreMaximal-with_run, ends-with_run)
@@ -129,13 +124,7 @@ with_run_behind low k r s [] m e g t n = absurd (omega arith)
 with_run_behind low zero r s (x ∷ []) m e g t n = grind (arith, with_run_cases)
 with_run_behind low zero r s (x ∷ y ∷ ys) m e g t n = absurd (omega arith)
 with_run_behind low (suc k) r s (x ∷ xs) m e g t n =
-    grind (
-      arith,
-      above,
-      start_below_end,
-      with_run_cases,
-      with_run_behind (x.end + 1) k r s xs m.2 (omega arith) g t n,
-    )
+    grind (arith, above, start_below_end, with_run_behind (x.end + 1) k r s xs m.2 (omega arith) g t n)
 
 -- a run that begins at the end of the last makes one run with it
 pub with_run_grown : (low k : ℕ) (r s : Run) (runs : List Run) → AreMaximal low runs → k + 1 ≡ length runs

@@ -28,21 +28,7 @@ use Rattle.mxf_klv.proofs.Lists.{all-In}
 
 -- nothing is kept
 pub whole_none : AreCatalogueFields [] [] [] []
-whole_none =
-    let none : IsCatalogue [] = record { content = tt; members = tt } in
-    let parts : AreNoteLists [] [] =
-    record { undisputed_is = none; disputed_is = none; apart = λ m n h k ne s. h; shared = λ n h. absurd h } in
-    let covers : Covers [] [] = λ at. (λ h. absurd h.1, λ h. absurd h.1) in
-    let spans : Spans [] [] = λ at. (λ h. absurd h.1, λ h. absurd h.1) in
-    record {
-      kept = record {
-        parts = parts;
-        reduced = λ x h k. h;
-        cover = record { maximal = tt; within = tt };
-        covers = spans;
-      };
-      covers = covers;
-    }
+whole_none = grind arith
 
 -- the notes of both parts
 pub union_is : (c d : List NoteParts) → AreNoteLists c d → IsCatalogue (union_of c d)
@@ -192,12 +178,7 @@ above_far x n l s =
 -- where all have ended, it is new, and so is its head
 pub above_new : (x : NoteParts) (notes : List NoteParts) → ((n : NoteParts) → In n notes → end_of n ≤ x.offset)
     → has_note notes x → ⊥
-above_new x notes above h = elim h [
-  | inl i ↦ let l : end_of x ≤ x.offset = above x i in omega (arith, l)
-  | inr s ↦
-      let e : s.0.offset ≡ x.offset = ap (λ (n : NoteParts). n.offset) s.2 in
-      let l : end_of s.0 ≤ x.offset = above s.0 s.1 in omega (arith, l, e)
-]
+above_new x notes above h = grind arith
 
 pub above_alone : (x : NoteParts) (notes : List NoteParts) → ((n : NoteParts) → In n notes → end_of n ≤ x.offset)
     → In (head_note x) notes → ⊥

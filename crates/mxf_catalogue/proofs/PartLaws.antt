@@ -28,10 +28,7 @@ use Rattle.mxf_klv.proofs.Lists.{all-In, all_from_In, In-filter, all-filter}
 use Rattle.mxf_klv.proofs.Tests.{not_true, not-true-false, same_bool}
 
 IsCatalogue-filter : (p : NoteParts → Bool) (notes : List NoteParts) → IsCatalogue notes → IsCatalogue (filter p notes)
-IsCatalogue-filter p notes c = record {
-  content = IsContent-filter p notes c.content;
-  members = all-filter IsNote p notes c.members;
-}
+IsCatalogue-filter p notes c = grind (arith, IsContent-filter, all-filter)
 
 pub In-touching : (x n : NoteParts) (notes : List NoteParts) → In n (touching x notes) ↔ (In n notes × SharesByte x n)
 In-touching x n notes =
@@ -200,21 +197,7 @@ filter_same p q (x ∷ xs) f = (λ i. cond (f x (inl refl) i) (x ∷ filter p xs
 pub filter-both : (p q : NoteParts → Bool) (notes : List NoteParts)
     → filter p (filter q notes) ≡ filter q (filter p notes)
 filter-both p q [] = refl
-filter-both p q (x ∷ xs) =
-    let ih = filter-both p q xs in
-    elim (p x) as (λ a. p x ≡ a → filter p (cond (q x) (x ∷ filter q xs) (filter q xs))
-    ≡ filter q (cond a (x ∷ filter p xs) (filter p xs))) [
-      | true ↦ λ e. elim (q x) as (λ b. q x ≡ b → filter p (cond b (x ∷ filter q xs) (filter q xs))
-          ≡ cond b (x ∷ filter q (filter p xs)) (filter q (filter p xs))) [
-            | true ↦ λ f. rw e (ap (λ l. x ∷ l) ih)
-            | false ↦ λ f. ih
-          ] refl
-      | false ↦ λ e. elim (q x) as (λ b. q x ≡ b → filter p (cond b (x ∷ filter q xs) (filter q xs))
-          ≡ filter q (filter p xs)) [
-            | true ↦ λ f. rw e ih
-            | false ↦ λ f. ih
-          ] refl
-    ] refl
+filter-both p q (x ∷ xs) = grind (arith, filter-both p q xs)
 
 -- The clear notes that it touches are those that it moves.
 pub moved_part : (x : NoteParts) (c d : List NoteParts) → AreNoteLists c d → AreReduced (union_of c d)

@@ -5,18 +5,14 @@ use Rattle.std.specs.FinSet.{IsAntisymmetric}
 use Rattle.std.specs.declared.cmp.Ordering.{Ordering}
 use Rattle.std.specs.declared.cmp.Ordering.TheVariants.{Less, Equal, Greater}
 use Rattle.std.proofs.Common.{sym, ◌∙◌, ap, subst, inl, inr}
-use Rattle.std.proofs.lemmas.Cmp.{tied_itself}
 use Rattle.mxf_klv.specs.Rising.{In, IsRising, with_one, less_in, less_back}
-use Rattle.mxf_klv.specs.Rising.{IsRising-with_one}
+use Rattle.mxf_klv.specs.Rising.{IsRising-with_one, not_less_itself}
 use Rattle.mxf_catalogue.specs.Reduced.{IsReduced, reduce}
 use Rattle.mxf_catalogue.specs.ReducedLaws.{Has-reduce, Has-with_one, IsReduced-reduce, IsRising-reduce}
 use Rattle.mxf_catalogue.specs.ReducedLaws.{one_from_has, same_or_not, teller_untold}
 use Rattle.mxf_klv.proofs.Lists.{In-append, all_from_In, all_append, all_parts}
 
 module _ {K : Type 0} {R : K → K → Ordering} (o : IsTotalOrder R) (same : IsAntisymmetric R) where
-  not_itself : (x : K) → R x x ≡ Less → ⊥
-  not_itself x e = let t = tied_itself o x in cc (t)
-
   -- what stands before and behind a place of a rising list
   pub before : (xs ys : List K) (n z : K) → IsRising R (xs ++ n ∷ ys) → In z xs → R z n ≡ Less
   before [] ys n z r h = absurd h
@@ -57,12 +53,12 @@ module _ {K : Type 0} {R : K → K → Ordering} (o : IsTotalOrder R) (same : Is
         → (z : K) × (more : List K) × (ys ≡ z ∷ more) × (tells z ≡ n)
     next_tells xs ys n w r h t =
         let other : w ≢ n = λ e. elim ((In-append w xs ys).0 h) [
-          | inl i ↦ not_itself n (subst (λ z. R z n ≡ Less) e (before xs ys n w r i))
-          | inr i ↦ not_itself n (subst (λ z. R n z ≡ Less) e (behind xs ys n w r i))
+          | inl i ↦ not_less_itself o n (subst (λ z. R z n ≡ Less) e (before xs ys n w r i))
+          | inr i ↦ not_less_itself o n (subst (λ z. R n z ≡ Less) e (behind xs ys n w r i))
         ] in
         let above = teller_above n w other t in
         elim ((In-append w xs ys).0 h) [
-          | inl i ↦ absurd (not_itself n (o.trans n w n above (before xs ys n w r i)))
+          | inl i ↦ absurd (not_less_itself o n (o.trans n w n above (before xs ys n w r i)))
           | inr i ↦ first ys i (tail_rises xs (n ∷ ys) r)
         ]
       where
@@ -87,7 +83,7 @@ module _ {K : Type 0} {R : K → K → Ordering} (o : IsTotalOrder R) (same : Is
                 red h mid (z, there, (λ q. ne (p ∙ q)), subst (λ v. tells v ≡ h) p t))
             | Greater ↦ λ e. absurd (let l = less_back o w z e in
                 let b = behind xs ys h z r i in
-                red h mid (z, there, (λ q. not_itself h (subst (λ v. R h v ≡ Less) q b)), between h z w b l t))
+                red h mid (z, there, (λ q. not_less_itself o h (subst (λ v. R h v ≡ Less) q b)), between h z w b l t))
           ] refl)
 
       pub In-swap : (x : K) → In x (xs ++ w ∷ ys) ↔ ((x ≡ w) ⊎ (In x (xs ++ h ∷ ys) × (x ≢ h)))
@@ -95,12 +91,12 @@ module _ {K : Type 0} {R : K → K → Ordering} (o : IsTotalOrder R) (same : Is
           let new = In-append x xs (w ∷ ys) in
           let old = In-append x xs (h ∷ ys) in (
             λ k. elim (new.0 k) [
-              | inl i ↦ inr (old.1 (inl i), λ e. not_itself h (subst (λ v. R v h ≡ Less) e (before xs ys h x r i)))
+              | inl i ↦ inr (old.1 (inl i), λ e. not_less_itself o h (subst (λ v. R v h ≡ Less) e (before xs ys h x r i)))
               | inr i ↦ elim i [
                 | inl e ↦ inl e
                 | inr j ↦ inr (
                   old.1 (inr (inr j)),
-                  λ e. not_itself h (subst (λ v. R h v
+                  λ e. not_less_itself o h (subst (λ v. R h v
                       ≡ Less) e (behind xs ys h x r j)),
                 )
               ]
@@ -181,7 +177,7 @@ module _ {K : Type 0} {R : K → K → Ordering} (o : IsTotalOrder R) (same : Is
               | inl b ↦
                   let above = teller_above x k.0 k.2 k.3 in
                   let low = before xs [] n k.0 r b in
-                  not_itself n (o.trans n k.0 n (subst (λ v. R v k.0 ≡ Less) e above) low)
+                  not_less_itself o n (o.trans n k.0 n (subst (λ v. R v k.0 ≡ Less) e above) low)
               | inr b ↦ elim b [ inl f ↦ k.2 (f ∙ sym e) | inr z ↦ z ]
             ]
             | inr z ↦ z
@@ -213,7 +209,7 @@ module _ {K : Type 0} {R : K → K → Ordering} (o : IsTotalOrder R) (same : Is
                   let up : R s.1 n ≡ Less = before xs [] n s.1 r in_l in
                   let rxs : IsRising R (s.0 ++ s.1 ∷ []) = subst (IsRising R) s.2 (front_rises xs r) in
                   let low : R x s.1 ≡ Less = before s.0 [] s.1 x rxs i in
-                  red x a (s.1, in_l, (λ e. not_itself x (subst (λ v. R x v ≡ Less) e low)), between x s.1 n low up t)
+                  red x a (s.1, in_l, (λ e. not_less_itself o x (subst (λ v. R x v ≡ Less) e low)), between x s.1 n low up t)
             ]
           where
             front_rises : (zs : List K) → IsRising R (zs ++ n ∷ []) → IsRising R zs
@@ -228,6 +224,6 @@ module _ {K : Type 0} {R : K → K → Ordering} (o : IsTotalOrder R) (same : Is
         red l ((In-append l xs (n ∷ [])).1 (inl there)) (
           n,
           (In-append n xs (n ∷ [])).1 (inr (inl refl)),
-          (λ q. not_itself l (subst (λ v. R l v ≡ Less) q (before xs [] n l r there))),
+          (λ q. not_less_itself o l (subst (λ v. R l v ≡ Less) q (before xs [] n l r there))),
           t,
         )

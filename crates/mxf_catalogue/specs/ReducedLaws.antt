@@ -11,7 +11,7 @@ use Rattle.std.proofs.Common.{sym, ◌∙◌, ap, subst, inl, inr}
 use Rattle.std.proofs.lemmas.Bool.{and_from, and_parts}
 use Rattle.std.proofs.lemmas.Cmp.{tied_itself}
 use Rattle.mxf_klv.specs.Rising.{In, IsRising, SameMembers, union, with_one, same_from_members, In-with_one, In-union}
-use Rattle.mxf_klv.specs.Rising.{IsRising-with_one, IsRising-union}
+use Rattle.mxf_klv.specs.Rising.{IsRising-union}
 use Rattle.mxf_catalogue.specs.Reduced.{IsTold, IsReduced, Has, IsUntold, IsKnown, is_told, reduce, union_reduced}
 use Rattle.mxf_klv.proofs.Lists.{list_any-In, In-filter, all-filter}
 use Rattle.mxf_klv.proofs.Tests.{not_true, not-true-false}
@@ -92,10 +92,6 @@ module _ {K : Type 0} {R : K → K → Ordering} (o : IsTotalOrder R) (same : Is
 
     pub IsRising-reduce : (xs : List K) → IsRising R xs → IsRising R (reduce R tells xs)
     IsRising-reduce xs r = rising-filter R (λ x. not (is_told R tells x xs)) xs r
-
-    pub IsReduced-filter : (p : K → Bool) (xs : List K) → IsReduced tells xs → IsReduced tells (filter p xs)
-    IsReduced-filter p xs r x h k =
-        r x ((In-filter p xs x).0 h).0 (k.0, ((In-filter p xs k.0).0 k.1).0, k.2, k.3)
 
     -- what is left has what the list has
     pub Has-reduce : (x : K) (xs : List K) → Has tells (reduce R tells xs) x ↔ Has tells xs x
@@ -207,26 +203,6 @@ module _ {K : Type 0} {R : K → K → Ordering} (o : IsTotalOrder R) (same : Is
         let p = Has-reduce x xs in let q = Has-reduce x ys in (
           λ h. r.1 (elim (l.0 h) [ inl k ↦ inl (p.1 k) | inr k ↦ inr (q.1 k) ]),
           λ h. l.1 (elim (r.0 h) [ inl k ↦ inl (p.0 k) | inr k ↦ inr (q.0 k) ]),
-        ))
-
-    -- one more after another
-    pub reduce-union-next : (n : K) (xs ys : List K) → IsRising R xs
-        → reduce R tells (union R (reduce R tells (with_one R n xs)) ys) ≡ reduce R tells (union R (with_one R n xs) ys)
-    reduce-union-next n xs ys a =
-        let w = with_one R n xs in
-        let rw_ = IsRising-with_one o same n xs a in
-        let left = union R (reduce R tells w) ys in
-        let right = union R w ys in
-        one_from_has (reduce R tells left) (reduce R tells right)
-        (IsRising-reduce left (IsRising-union o same (reduce R tells w) ys (IsRising-reduce w rw_)))
-        (IsRising-reduce right (IsRising-union o same w ys rw_))
-        (IsReduced-reduce left) (IsReduced-reduce right)
-        (λ x.
-        let l = Has-union_reduced x (reduce R tells w) ys in
-        let r = Has-union_reduced x w ys in
-        let p = Has-reduce x w in (
-          λ h. r.1 (elim (l.0 h) [ inl k ↦ inl (p.0 k) | inr k ↦ inr k ]),
-          λ h. l.1 (elim (r.0 h) [ inl k ↦ inl (p.1 k) | inr k ↦ inr k ]),
         ))
 
     -- a reduced list that has what a set knows lists what is left of the set

@@ -3,18 +3,19 @@
 //! What is proved, and where it is said:
 //! - each call's answer and what it leaves: the clauses of [`Catalogue`], [`Cover`] and [`Semilattice`];
 //! - what any history of calls leaves is the set that it was handed, and equal sets are equal contents:
-//!   [`histories_leave_what_they_were_handed`], [`one_set_one_content`], [`contents_are_sets`];
-//! - clear and disputed notes are by spans and membership: [`clear_notes_by_definition`],
-//!   [`disputed_notes_by_definition`], [`notes_are_clear_or_disputed`], [`notes_are_disputed_in_two_ways`],
-//!   [`clear_notes_stand_apart`], [`undisputed_notes_by_definition`];
-//! - a new note moves exactly the clear notes that it disputes: [`moved_notes_by_definition`];
-//! - covers are their sets of offsets, each as one list of maximal runs: [`covers_are_sets`],
-//!   [`gaps_of_covers_by_definition`], [`one_list_of_maximal_runs`];
+//!   [`laws::histories_leave_what_they_were_handed`], [`laws::one_set_one_content`], [`laws::contents_are_sets`];
+//! - clear and disputed notes are by spans and membership: [`laws::clear_notes_by_definition`],
+//!   [`laws::disputed_notes_by_definition`], [`laws::notes_are_clear_or_disputed`],
+//!   [`laws::notes_are_disputed_in_two_ways`], [`laws::clear_notes_stand_apart`],
+//!   [`laws::undisputed_notes_by_definition`];
+//! - a new note moves exactly the clear notes that it disputes: [`laws::moved_notes_by_definition`];
+//! - covers are their sets of offsets, each as one list of maximal runs: [`laws::covers_are_sets`],
+//!   [`laws::gaps_of_covers_by_definition`], [`laws::one_list_of_maximal_runs`];
 //! - joins are associative, commutative and idempotent on contents: the laws of [`Semilattice`];
 //! - bytes are read as the file of one content, or refused for one cause, and what is written is read back:
-//!   [`Catalogue::read`], [`bytes_are_a_file_or_refused`], [`one_file_reading`], [`one_file`],
-//!   [`files_are_read_as_written`]; the file has two versions, and a content without heads has one file of each:
-//!   [`files_of_both_versions`].
+//!   [`Catalogue::read`], [`laws::bytes_are_a_file_or_refused`], [`laws::one_file_reading`], [`laws::one_file`],
+//!   [`laws::files_are_read_as_written`]; the file has two versions, and a content without heads has one file of each:
+//!   [`laws::files_of_both_versions`].
 //!
 //! That memory is there, and that a call succeeds with it, is tested.
 //!
@@ -33,17 +34,14 @@
 mod catalogue;
 mod cover;
 mod history;
+pub mod laws;
 mod run;
 mod semilattice;
 
 pub use catalogue::{
     AddFault, Catalogue, Change, ClearNotes, Disputed, DisputedNotes, FileFault, MergeFault, Notes,
-    Offsets, bytes_are_a_file_or_refused, clear_notes_by_definition, clear_notes_stand_apart,
-    contents_are_sets, disputed_notes_by_definition, disputes_by_tests, files_are_read_as_written,
-    files_of_both_versions, moved_notes_by_definition, notes_are_clear_or_disputed,
-    notes_are_disputed_in_two_ways, one_file, one_file_reading, undisputed_notes_by_definition,
+    Offsets,
 };
-pub use cover::{Cover, CoverGaps, CoverRuns, covers_are_sets, gaps_of_covers_by_definition};
-pub use history::{histories_leave_what_they_were_handed, one_set_one_content};
-pub use run::{Run, one_list_of_maximal_runs};
+pub use cover::{Cover, CoverGaps, CoverRuns};
+pub use run::Run;
 pub use semilattice::Semilattice;

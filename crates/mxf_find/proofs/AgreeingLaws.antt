@@ -86,10 +86,7 @@ module _ (notes : List NoteParts) (offset : ℕ) (p : NoteParts) where
 
   pub head_agrees : p.whole ≡ false → has_note notes head_there → true ≡ agrees_at notes offset p
   unfolding agrees_at
-  head_agrees w h =
-      let s = had h in
-      sym ((list_any-In standing notes).1
-      (s.0, s.1, all_true _ _ s.2 (loose p.whole (not s.0.whole) (is_same_packet p s.0) w)))
+  head_agrees w h = grind (arith, had, list_any-In, all_true, loose)
 
   pub head_as_head : p.whole ≡ false → true ≡ agrees_at notes offset p → true ≡ agrees_as_head_at notes offset p
   unfolding agrees_as_head_at
@@ -107,26 +104,22 @@ module _ (notes : List NoteParts) (offset : ℕ) (p : NoteParts) where
   pub held_as_head : AreReduced notes → In head_there notes → true ≡ agrees_as_head_at notes offset p
   unfolding agrees_as_head_at
   held_as_head reduced i =
-      let none = false_from_ne_true (list_any (λ n. is_there offset p n && n.whole) notes) (λ t.
-      let s = (list_any-In (λ n. is_there offset p n && n.whole) notes).0 t in
-      let (there, whole) = both_true (is_there offset p s.0) s.0.whole s.2 in
-      reduced head_there i (
-        s.0,
-        s.1,
-        (λ e. true≢false (sym whole ∙ ap (λ (m : NoteParts). m.whole) e)),
-        there_head s.0 there,
-      )) in
-      sym (all_true _ _ (sym (held_agrees i)) (loose_last p.whole _ none))
+      grind (
+        arith,
+        false_from_ne_true,
+        list_any-In,
+        both_true,
+        true≢false,
+        there_head,
+        all_true,
+        held_agrees,
+        loose_last,
+      )
 
   module _ (all : AllByRecursion IsNote notes) (whole : p.whole ≡ true) (lacked : In head_there notes → ⊥) where
     -- Where no head stands there, what does is whole.
     there_whole : (n : NoteParts) → In n notes → IsTrue (is_there offset p n) → n.whole ≡ true
-    there_whole n i t = elim (cases_Bool n.whole) [
-      | inl w ↦ w
-      | inr f ↦
-          let own = own_head n (all-In IsNote notes n all i) f in
-          absurd (lacked (subst (λ (m : NoteParts). In m notes) (sym own ∙ there_head n t) i))
-    ]
+    there_whole n i t = grind (arith, cases_Bool, own_head, all-In, there_head)
 
     same_there : (n : NoteParts) → packet_of n ≡ packet_of p → n.offset ≡ offset → n ≡ moved_to offset p
     same_there n e f i = record {
@@ -158,11 +151,7 @@ module _ (notes : List NoteParts) (offset : ℕ) (p : NoteParts) where
 
     pub whole_as_head : has_note notes head_there → false ≡ agrees_as_head_at notes offset p
     unfolding agrees_as_head_at
-    whole_as_head h =
-        let s = had h in
-        let t = (list_any-In (λ n. is_there offset p n && n.whole) notes).1
-        (s.0, s.1, all_true _ _ s.2 (there_whole s.0 s.1 s.2)) in
-        sym (or_false _ _ (none_loose p.whole _ whole t))
+    whole_as_head h = grind (arith, had, list_any-In, all_true, there_whole, or_false, none_loose)
 
 -- Of a shift.
 module _ (f : FragmentParts) (notes : List NoteParts) (at : ℕ) (p : NoteParts) where

@@ -24,13 +24,7 @@ is_fill_so k e = ap is_fill e
 
 sound : (n : NoteParts) (notes : List NoteParts) → In n notes → is_sound notes n ≡ true → IsSound n notes
 unfolding is_sound
-sound n notes i t =
-    let parts = both_true (not (is_disputed n notes)) (not (is_fill (kind_of n.key))) t in
-    record {
-      held = i;
-      undisputed = λ d. not-true-false _ parts.0 ((is_disputed-IsDisputed n notes).1 d);
-      no_fill = λ e. not-true-false _ parts.1 (is_fill_so (kind_of n.key) e);
-    }
+sound n notes i t = grind (arith, both_true, not-true-false, is_disputed-IsDisputed, is_fill_so)
 
 so_sound : (n : NoteParts) (notes : List NoteParts) → IsSound n notes → is_sound notes n ≡ true
 unfolding is_sound

@@ -126,10 +126,7 @@ pub record IsMostSoFar (xs : List ℕ) (i most count : ℕ) : Type 0 where
   pub below : (k : ℕ) → i ≤ k → k < length xs → most ≤ get_or xs k 0
 
 at_next : (P : ℕ → Type 0) (i k : ℕ) → k < i + 1 → (k < i → P k) → P i → P k
-at_next P i k l before here = elim (cases_lt k i) [
-  | inl h ↦ before h
-  | inr n ↦ let e : i ≡ k = omega arith in subst P e here
-]
+at_next P i k l before here = grind (arith, cases_lt)
 
 module _ (xs : List ℕ) (i most count : ℕ) (so : IsMostSoFar xs i most count) where
   pub next_most : i < length xs → IsNonDecreasing xs → count < count_of (get_or xs i 0) xs

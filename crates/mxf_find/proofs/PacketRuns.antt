@@ -17,7 +17,7 @@ use Rattle.mxf_klv.proofs.Lists.{In-at, filter_alike}
 use Rattle.mxf_klv.proofs.Tests.{same_bool}
 use Rattle.mxf_catalogue.specs.Disputes.{is_same_note}
 use Rattle.mxf_catalogue.specs.ReducedLaws.{is_same-Decides}
-use Rattle.mxf_catalogue.proofs.Windows.{window}
+use Rattle.mxf_klv.proofs.Windows.{window}
 use Rattle.mxf_find.specs.PacketOrder.{packet_total, packet_cmp-IsAntisymmetric}
 use Rattle.mxf_find.specs.Packets.{AreByPacket, front_of, packet_cmp, packet_of}
 

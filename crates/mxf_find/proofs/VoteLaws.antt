@@ -77,12 +77,7 @@ module _ (t : Tells) (notes : List NoteParts) (p : NoteParts) where
 
   pub value_vote : (n : NoteParts) → t.by_value ≡ true → p.whole ≡ true → IsOneOf (is_teller_by_value notes p) notes n
       → IsOneOf (voted_by t notes p) notes n
-  value_vote n e w is =
-      let tells = (both_true (tells_by_value notes n) (is_same_packet p n) is.passes).0 in
-      record {
-        held = is.held;
-        passes = voted_value t notes p n (all_true _ _ w (value_told notes n tells).0) ∙ all_true _ _ e is.passes;
-      }
+  value_vote n e w is = grind (arith, both_true, voted_value, all_true, value_told)
 
   pub no_value : IsNoneOf (is_teller_by_value notes p) notes
       → IsNoneOf (λ n. p.whole && n.whole && voted_by t notes p n) notes
@@ -102,10 +97,7 @@ module _ (t : Tells) (notes : List NoteParts) (p : NoteParts) where
 
   pub length_vote : (n : NoteParts) → t.by_length ≡ true → (p.whole && n.whole) ≡ false
       → IsOneOf (is_teller_by_length notes p) notes n → IsOneOf (voted_by t notes p) notes n
-  length_vote n e w is = record {
-    held = is.held;
-    passes = voted_length t notes p n w ∙ all_true _ _ e is.passes;
-  }
+  length_vote n e w is = grind (arith, voted_length, all_true)
 
   no_both : (a b : Bool) → (not a && b) ≡ true → (a ≡ false) × (b ≡ true)
   no_both a b e = grind arith
@@ -177,17 +169,7 @@ module _ (t : Tells) (notes : List NoteParts) (p : NoteParts) where
 
   pub votes_none : IsNoneOf (λ n. p.whole && n.whole && voted_by t notes p n) notes
       → IsNoneOf (λ n. not (p.whole && n.whole) && voted_by t notes p n) notes → [] ≡ filter (voted_by t notes p) notes
-  votes_none no_value no_length = sym (filter_none (voted_by t notes p) notes (λ n i v.
-      elim (cases_Bool (p.whole && n.whole)) [
-        | inl a ↦ no_value n i (three_back p.whole n.whole (voted_by t notes p n) a v)
-        | inr b ↦ no_length n i (no_back (p.whole && n.whole) (voted_by t notes p n) b v)
-      ]))
-    where
-      three_back : (a b c : Bool) → (a && b) ≡ true → c ≡ true → (a && b && c) ≡ true
-      three_back a b c e f = grind arith
-
-      no_back : (a b : Bool) → a ≡ false → b ≡ true → (not a && b) ≡ true
-      no_back a b e f = cc
+  votes_none no_value no_length = grind (arith, filter_none, cases_Bool)
 
   -- The one that is found, if the first search found none.
   pub votes_found : IsContent notes → IsNoneOf (λ n. p.whole && n.whole && voted_by t notes p n) notes

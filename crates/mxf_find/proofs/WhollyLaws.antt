@@ -60,16 +60,10 @@ head_of p q n e g o i = record {
 module _ (f : FragmentParts) (r : List NoteParts) (at : ℕ) (own : IsCatalogue f.notes) (reduced : AreReduced f.notes)
     (theirs : IsCatalogue r) (lies : LiesWholly f r at) where
   front_stands : (p n : NoteParts) → StandsFor f r at p n → front_of p ≡ front_of n
-  front_stands p n s = elim s.packet [
-    | inl e ↦ packet_front p n e
-    | inr e ↦ ap (λ (x : NoteParts). head_parts 0 x.key x.width x.length) e
-  ]
+  front_stands p n s = grind (arith, packet_front)
 
   packet_stands : (p n : NoteParts) → p.whole ≡ true → StandsFor f r at p n → packet_of p ≡ packet_of n
-  packet_stands p n w s = elim s.packet [
-    | inl e ↦ e
-    | inr e ↦ absurd (true≢false (sym w ∙ ap (λ (x : NoteParts). x.whole) e))
-  ]
+  packet_stands p n w s = grind (arith, true≢false)
 
   -- All votes are for the shift.
   one_vote : (p n : NoteParts) → In p f.notes → In n r → IsTrue (is_vote f r p n) → shift f p n ≡ at
@@ -126,16 +120,7 @@ module _ (f : FragmentParts) (r : List NoteParts) (at : ℕ) (own : IsCatalogue 
 
   moved_share : (p q n m : NoteParts) → In p f.notes → In q f.notes → StandsFor f r at p n → StandsFor f r at q m
       → SharesByte q p → SharesByte m n
-  moved_share p q n m i j s t h =
-      let a = low p i in let b = low q j in let c = lies.inside p i in let d = lies.inside q j in
-      let e = s.moved in let g = t.moved in
-      let below = shared_low q p h in let above = shared_low p q (SharesByte-symmetric q p h) in
-      let x = front_stands p n s in let y = front_stands q m t in
-      let pw : p.width ≡ n.width = ap (λ (z : NoteParts). z.width) x in
-      let pl : p.length ≡ n.length = ap (λ (z : NoteParts). z.length) x in
-      let qw : q.width ≡ m.width = ap (λ (z : NoteParts). z.width) y in
-      let ql : q.length ≡ m.length = ap (λ (z : NoteParts). z.length) y in
-      shares m n (omega (arith, a, b, c, d, e, g, below, pw, pl)) (omega (arith, a, b, c, d, e, g, above, qw, ql))
+  moved_share p q n m i j s t h = grind (arith, low, shared_low, SharesByte-symmetric, front_stands, shares)
 
   module _ (p n : NoteParts) (i : In p f.notes) (s : StandsFor f r at p n) where
     own_sound : IsSound n r → IsSound p f.notes

@@ -10,17 +10,13 @@ use Rattle.std.proofs.lemmas.Cmp.{on_total, then_total, nat_cmp_total, eq_by_cmp
 use Rattle.mxf_klv.specs.Parts.{NoteParts}
 use Rattle.mxf_klv.specs.NoteOrder.{note_total, note_cmp-IsAntisymmetric}
 use Rattle.mxf_find.specs.Packets.{packet_cmp, packet_of}
+use Rattle.mxf_klv.specs.NoteOrder.{ties}
 
 pub packet_total : IsTotalOrder packet_cmp
 packet_total = then_total (on_total packet_of note_total) (on_total (λ n. n.offset) nat_cmp_total)
 
 pub packet_equiv : IsEquivalence (eq_by_cmp packet_cmp)
 packet_equiv = eq_by_cmp_equiv packet_total
-
-ties : (a b : Ordering) → ordering_then a b ≡ Equal → (a ≡ Equal) × (b ≡ Equal)
-ties Less b e = cc
-ties Equal b e = (refl, e)
-ties Greater b e = cc
 
 same_parts : (a b : NoteParts) → packet_of a ≡ packet_of b → a.offset ≡ b.offset → a ≡ b
 same_parts a b e f i = record {

@@ -10,6 +10,7 @@ use Rattle.std.proofs.Common.{refl, sym}
 use Rattle.std.proofs.lemmas.Cmp.{back_total, on_total, then_total, nat_cmp_total, eq_by_cmp_equiv}
 use Rattle.mxf_find.specs.Rankings.{rank_cmp}
 use Rattle.mxf_find.specs.declared.ranking.Ranked.{Ranked}
+use Rattle.mxf_klv.specs.NoteOrder.{ties}
 
 pub rank_total : IsTotalOrder rank_cmp
 rank_total =
@@ -19,11 +20,6 @@ rank_total =
 
 pub rank_equiv : IsEquivalence (eq_by_cmp rank_cmp)
 rank_equiv = eq_by_cmp_equiv rank_total
-
-ties : (a b : Ordering) → ordering_then a b ≡ Equal → (a ≡ Equal) × (b ≡ Equal)
-ties Less b e = cc
-ties Equal b e = (refl, e)
-ties Greater b e = cc
 
 same_parts : (a b : Ranked) → a.found.agree ≡ b.found.agree → a.recording ≡ b.recording
     → a.found.heads ≡ b.found.heads → a.found.offset ≡ b.found.offset → a ≡ b

@@ -1,7 +1,9 @@
 -- For which stops of pieces what is held makes up.
 use Rattle.std.proofs.Common.{◌≡◌, ◌↔◌, ◌∙◌, ℕ, ◌+◌, ◌<◌, ◌≤◌, ◌==◌, ◌&&◌, Bool, true, false, IsTrue, not, nat_lt, List}
 use Rattle.std.proofs.Common.{Option, Some, None, arith, ap, eq-eqb, eqb-true, find, inl, inr, refl, subst, sym, lt-ltb}
-use Rattle.std.proofs.Common.{count_by, ltb-true, slice_get}
+use Rattle.std.proofs.Common.{[], ◌∷◌, count_by, filter, length, ltb-true, map, slice_get}
+use Rattle.std.specs.List.Sorted.{IsNonDecreasingBy}
+use Rattle.std.proofs.lemmas.List.{get_or-map, length-map}
 use Rattle.std.specs.List.{list_any, range_with_len}
 use Rattle.std.specs.Option.{option_map_or}
 use Rattle.std.proofs.lemmas.Bool.{and_from, and_parts, cases_lt}
@@ -12,7 +14,10 @@ use Rattle.mxf_klv.specs.Parts.{NoteParts}
 use Rattle.mxf_klv.specs.Rising.{In}
 use Rattle.mxf_klv.specs.declared.piece.Stop.{Stop}
 use Rattle.mxf_klv.specs.declared.piece.Stop.TheVariants as stops
-use Rattle.mxf_catalogue.specs.Disputes.{DisputedParts, disputed_notes, is_disputed, undisputed_notes}
+use Rattle.mxf_catalogue.specs.Content.{IsContent}
+use Rattle.mxf_catalogue.specs.Disputes.{DisputedParts, disputed_notes, is_disputed, undisputed_notes, whole_notes}
+use Rattle.mxf_catalogue.proofs.Ranges.{offsets_rise}
+use Rattle.mxf_catalogue.proofs.DisputeLaws.{IsContent-disputed_notes, IsContent-filter}
 use Rattle.mxf_catalogue.proofs.DisputeLaws.{In-undisputed_notes, SharesByte-same_offset, notes-disputed_notes}
 use Rattle.mxf_catalogue.proofs.HeadLaws.{same_note}
 use Rattle.mxf_places.specs.Held.{IsHeld, is_held}
@@ -20,7 +25,7 @@ use Rattle.mxf_places.proofs.HeldLaws.{is_held-says}
 use Rattle.mxf_read.specs.declared.gathering.report.PieceReport.{PieceReport}
 use Rattle.mxf_hand.specs.declared.given.Extent.{Extent}
 use Rattle.mxf_hand.specs.Settling.{BeginsWhole, IsHeldExtent, IsWholeStop, MakesUpFor, begins_whole, is_all_held}
-use Rattle.mxf_hand.specs.Settling.{begins_disputed, is_whole_stop, makes_up_for}
+use Rattle.mxf_hand.specs.Settling.{disputed_starts, is_whole_stop, makes_up_for}
 
 begins-says : (notes : List NoteParts) (x : ℕ) → IsTrue (begins_whole notes x) ↔ BeginsWhole notes x
 begins-says notes x =
@@ -96,23 +101,27 @@ begins-undisputed notes x n e =
       | inr other ↦ absurd (alone.1 (b.0, b.1, other, SharesByte-same_offset b.0 n (b.3 ∙ sym at)))
     ])
 
--- where no undisputed note begins, only a disputed one does
-pub begins-disputed : (notes : List NoteParts) (x : ℕ)
-    → find (λ m. m.offset == x) (undisputed_notes notes) ≡ None → begins_disputed notes x ≡ begins_whole notes x
-begins-disputed notes x e =
-    let any = list_any-In (λ d. (d.note.offset == x) && d.note.whole) (disputed_notes notes) in
-    let all = list_any-In (λ n. (n.offset == x) && n.whole) notes in
+-- where no undisputed note begins, a whole one does if a disputed one has the offset
+pub begins-disputed : (notes : List NoteParts) (x : ℕ) → find (λ m. m.offset == x) (undisputed_notes notes) ≡ None
+    → (b : Bool) → IsTrue b ↔ In x (map (λ o. o) (disputed_starts notes)) → b ≡ begins_whole notes x
+begins-disputed notes x e b says =
+    let ds = disputed_notes notes in
     let listed = notes-disputed_notes notes in
-    same_bool (begins_disputed notes x) (begins_whole notes x) (λ t.
-    let d = any.0 t in
-    let n = (In-map (λ (c : DisputedParts). c.note) (disputed_notes notes) d.0.note).1 (d.0, d.1, refl) in
+    same_bool b (begins_whole notes x) (λ t.
+    let o = (In-map (λ (o : ℕ). o) (disputed_starts notes) x).0 (says.0 t) in
+    let d = (In-map (λ (c : DisputedParts). c.note.offset) (filter (λ c. c.note.whole) ds) o.0).0 o.1 in
+    let k = (In-filter (λ (c : DisputedParts). c.note.whole) ds d.0).0 d.1 in
+    let n = (In-map (λ (c : DisputedParts). c.note) ds d.0.note).1 (d.0, k.0, refl) in
     let held = (In-filter (λ m. is_disputed m notes) notes d.0.note).0 (subst (In d.0.note) listed n) in
-    all.1 (d.0.note, held.0, d.2)) (λ t.
-    let n = all.0 t in
-    let p = and_parts (n.0.offset == x) n.0.whole n.2 in
-    let d = (In-map (λ (c : DisputedParts). c.note) (disputed_notes notes) n.0).0 (subst (In n.0) (sym listed)
-    ((In-filter (λ m. is_disputed m notes) notes n.0).1 (n.1, disputed n.0 n.1 p.0))) in
-    any.1 (d.0, d.1, subst (λ (m : NoteParts). ((m.offset == x) && m.whole) ≡ true) d.2 n.2))
+    (begins-says notes x).1 (d.0.note, held.0, k.1, sym (o.2 ∙ d.2))) (λ t.
+    let n = (begins-says notes x).0 t in
+    let d = (In-map (λ (c : DisputedParts). c.note) ds n.0).0 (subst (In n.0) (sym listed)
+    ((In-filter (λ m. is_disputed m notes) notes n.0).1 (n.1, disputed n.0 n.1 (eq-eqb _ _ n.3)))) in
+    let whole = subst (λ (m : NoteParts). m.whole ≡ true) d.2 n.2 in
+    let k = (In-filter (λ (c : DisputedParts). c.note.whole) ds d.0).1 (d.1, whole) in
+    let o = (In-map (λ (c : DisputedParts). c.note.offset) (filter (λ c. c.note.whole) ds) x).1
+    (d.0, k, sym n.3 ∙ ap (λ (m : NoteParts). m.offset) d.2) in
+    says.1 ((In-map (λ (o : ℕ). o) (disputed_starts notes) x).1 (x, o, refl)))
   where
     disputed : (n : NoteParts) → In n notes → (n.offset == x) ≡ true → is_disputed n notes ≡ true
     disputed n i at = by (is_disputed n notes) refl
@@ -121,6 +130,28 @@ begins-disputed notes x e =
         by true h = h
         by false h = absurd (none_found (λ (m : NoteParts). m.offset == x) (undisputed_notes notes) n e
             ((In-filter (λ m. not (is_disputed m notes)) notes n).1 (i, ap not h)) at)
+
+-- the starts of disputed notes are offsets of a content, so they never fall
+starts_of : (ds : List DisputedParts) → map (λ d. d.note.offset) (filter (λ d. d.note.whole) ds)
+    ≡ map (λ n. n.offset) (whole_notes (map (λ d. d.note) ds))
+starts_of [] = refl
+starts_of (d ∷ ds) = grind (arith, starts_of ds)
+
+mapped_never_fall : {K : Type 0} (key : K → ℕ) (xs : List K) → IsNonDecreasingBy key xs
+    → IsNonDecreasingBy (λ n. n) (map key xs)
+mapped_never_fall key [] r i j d l h = absurd (omega arith)
+mapped_never_fall key (x ∷ xs) r i j d l h =
+    let within : j < length (x ∷ xs) = subst (λ n. j < n) (length-map (x ∷ xs) key) h in
+    let a = get_or-map key (x ∷ xs) i x d (omega (arith, within, l)) in
+    let b = get_or-map key (x ∷ xs) j x d within in
+    omega (arith, r i j x l within, a, b)
+
+pub starts_never_fall : (notes : List NoteParts) → IsContent notes
+    → IsNonDecreasingBy (λ n. n) (disputed_starts notes)
+starts_never_fall notes c =
+    subst (IsNonDecreasingBy (λ n. n)) (sym (starts_of (disputed_notes notes)))
+    (mapped_never_fall (λ (n : NoteParts). n.offset) (whole_notes (map (λ d. d.note) (disputed_notes notes)))
+    (offsets_rise _ (IsContent-filter (λ n. n.whole) _ (IsContent-disputed_notes notes c))))
 
 pub not_twice : (b : Bool) → not (not b) ≡ b
 not_twice true = refl

@@ -1,6 +1,6 @@
 -- For which stops of pieces what is held makes up (this project's profile).
 use Rattle.std.specs.Prelude.{◌≡◌, ℕ, ◌+◌, ◌<◌, ◌≤◌, ◌==◌, ◌&&◌, Bool, true, false, nat_lt, if◌then◌else◌, List}
-use Rattle.std.specs.Prelude.{Some, count_by, slice_get}
+use Rattle.std.specs.Prelude.{Some, count_by, filter, map, slice_get}
 use Rattle.std.specs.List.{list_any, range_with_len}
 use Rattle.std.specs.Option.{option_map_or}
 use Rattle.mxf_klv.specs.Parts.{NoteParts}
@@ -37,9 +37,9 @@ IsWholeStop notes extents piece = MakesUpFor notes extents piece.part piece.repo
 abbrev pub begins_whole : List NoteParts → ℕ → Bool
 begins_whole notes x = list_any (λ n. (n.offset == x) && n.whole) notes
 
--- Those of disputed notes alone.
-abbrev pub begins_disputed : List NoteParts → ℕ → Bool
-begins_disputed notes x = list_any (λ d. (d.note.offset == x) && d.note.whole) (disputed_notes notes)
+-- The offsets of the disputed whole notes, in their order.
+abbrev pub disputed_starts : List NoteParts → List ℕ
+disputed_starts notes = map (λ d. d.note.offset) (filter (λ d. d.note.whole) (disputed_notes notes))
 
 abbrev pub is_all_held : List NoteParts → Extent → Bool
 is_all_held notes e =

@@ -60,9 +60,6 @@ ok_excludes bytes w v h e k = grind (arith, length-take)
 one_fault : (bytes : List ℕ) (d e : BerFault) → ReadsLength bytes (Err d) → ReadsLength bytes (Err e) → d ≡ e
 one_fault bytes d e h k = grind arith
 
-abbrev ok : ℕ → ℕ → Result LengthParts BerFault
-ok w v = Ok (record { width = w; value = v })
-
 -- what bytes begin with is one thing
 pub one_reading : (bytes : List ℕ) (r s : Result LengthParts BerFault) → ReadsLength bytes r → ReadsLength bytes s
     → r ≡ s

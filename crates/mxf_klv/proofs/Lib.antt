@@ -13,6 +13,8 @@ pub mod CutHeads
 pub mod HeadOrder
 pub mod LabelOrder
 pub mod Tests
+pub mod Searches
+pub mod Windows
 pub mod Lists
 pub mod ListSteps
 pub mod Counts

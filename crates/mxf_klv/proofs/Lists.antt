@@ -1,5 +1,5 @@
 -- Members of lists that are tested, filtered, searched, mapped and appended.
-use Rattle.std.proofs.Common.{◌≡◌, ◌↔◌, ◌⊎◌, ◌≤◌, ◌<◌, ◌&&◌, ◌==◌, ℕ, zero, suc, Bool, true, not}
+use Rattle.std.proofs.Common.{◌≡◌, ◌↔◌, ◌⊎◌, ◌≤◌, ◌<◌, ◌&&◌, ℕ, zero, suc, Bool, true}
 use Rattle.std.proofs.Common.{List, [], ◌∷◌, ◌++◌}
 use Rattle.std.proofs.Common.{Option, Some, None, IsTrue, Contains, refl, sym, ap, subst, inl, inr, arith, length}
 use Rattle.std.proofs.Common.{filter, filter_map, find, flat_map, get_or, map}
@@ -181,9 +181,3 @@ pub kept_of_both : {K : Type 0} (p q : K → Bool) (xs : List K)
     → filter (λ x. p x && q x) (filter p xs) ≡ filter (λ x. p x && q x) xs
 kept_of_both p q [] = refl
 kept_of_both p q (x ∷ xs) = grind (arith, kept_of_both p q xs)
-
--- All pass a test where no place is left of those that don't.
-pub none_left : {K : Type 0} (p : K → Bool) (f : K → ℕ) (xs : List K)
-    → (length (map f (filter (λ x. not (p x)) xs)) == 0) ≡ list_all p xs
-none_left p f [] = refl
-none_left p f (x ∷ xs) = grind (arith, none_left p f xs)

@@ -107,9 +107,6 @@ one_fault bytes faults.Short faults.Indefinite p q = absurd (no_fault_cut bytes 
 one_fault bytes faults.Short faults.TooWide p q = absurd (no_fault_cut bytes lengths.TooWide (λ h. cc) p q.1)
 one_fault bytes faults.Short faults.Short p q = refl
 
-abbrev ok : PacketParts → ℕ → Result (PacketParts × ℕ) PacketFault
-ok p n = Ok (p, n)
-
 pub one_packet_reading : (bytes : List ℕ) (r s : Result (PacketParts × ℕ) PacketFault) → ReadsPacket bytes r
     → ReadsPacket bytes s → r ≡ s
 one_packet_reading bytes (Ok (p, m)) (Ok (q, n)) s t =

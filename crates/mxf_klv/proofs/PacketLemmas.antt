@@ -11,9 +11,6 @@ use Rattle.mxf_klv.specs.Ber.{IsSpelledLength, IsCutLength, ReadsLength}
 use Rattle.mxf_klv.specs.Packet.{IsSpelledPacket, IsCutPacket, ReadsPacket, packet_fault}
 use Rattle.mxf_klv.proofs.LengthLemmas.{wide_found_cons}
 
-abbrev parts : List ℕ → ℕ → List ℕ → PacketParts
-parts k w v = record { key = k; width = w; value = v }
-
 -- the first sixteen of bytes that begin as a label
 pub label_of : (bytes : List ℕ) → BeginsAsLabel bytes → 16 ≤ length bytes → IsLabel (take 16 bytes)
 label_of bytes h long = grind arith

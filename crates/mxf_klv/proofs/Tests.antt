@@ -3,7 +3,6 @@ use Rattle.std.proofs.Common.{◌≡◌, ◌≢◌, ◌↔◌, ◌⊎◌, ◌&&�
 use Rattle.std.proofs.Common.{Option, Some, None}
 use Rattle.std.proofs.Common.{is_none, is_some, option_map, refl, arith, eqb-true, eq-eqb}
 use Rattle.std.proofs.Common.{Ordering, Less, Equal, Greater, is_lt, nat_cmp, nat_lt}
-use Rattle.std.specs.Ordering.{ordering_then}
 use Rattle.std.proofs.lemmas.Bool.{ltb-true, lt-ltb}
 
 pub not_true : (b : Bool) → (b ≡ true → ⊥) → not b ≡ true
@@ -57,9 +56,6 @@ guarded b o x h = grind arith
 
 pub less_from_test : (o : Ordering) → is_lt o ≡ true → o ≡ Less
 less_from_test o h = grind arith
-
-pub ties : (a b : Ordering) → ordering_then a b ≡ Equal → (a ≡ Equal) × (b ≡ Equal)
-ties a b h = grind arith
 
 pub less_from_lt : (a b : ℕ) → a < b → nat_cmp a b ≡ Less
 less_from_lt a b h = rw (lt-ltb a b h) refl

@@ -23,7 +23,7 @@ note_total =
 pub note_equiv : IsEquivalence (eq_by_cmp note_cmp)
 note_equiv = eq_by_cmp_equiv note_total
 
-ties : (a b : Ordering) → ordering_then a b ≡ Equal → (a ≡ Equal) × (b ≡ Equal)
+pub ties : (a b : Ordering) → ordering_then a b ≡ Equal → (a ≡ Equal) × (b ≡ Equal)
 ties Less b e = cc
 ties Equal b e = (refl, e)
 ties Greater b e = cc

@@ -9,9 +9,8 @@
 //! | How is a value written? | [`Encode`] | its bytes, or how many of them were written |
 //!
 //! Offsets and lengths are in bytes, and no packet ends above [`MAX`]. What is proved: packets and lengths are read
-//! exactly ([`one_packet`], [`one_length_at_front`]), what is written is read back, each piece has exactly one list of
-//! packets ([`each_piece_is_read_one_way`]) and one stop ([`each_piece_has_one_stop`]), and notes that compare alike
-//! are one ([`notes_that_compare_alike_are_one`]).
+//! exactly, what is written is read back, each piece has exactly one list of packets and one stop, and notes that
+//! compare alike are one ([`laws`]).
 //!
 //! The packets of a piece that lies at `offset` of a file, and a note of each:
 //!
@@ -29,6 +28,7 @@
 mod ber;
 mod kinds;
 mod label;
+pub mod laws;
 mod memory;
 mod note;
 mod packet;
@@ -37,19 +37,14 @@ mod search;
 mod sorting;
 mod writing;
 
-pub use ber::{Ber, BerFault, lengths_are_read_as_written, one_length_at_front, read_ber};
+pub use ber::{Ber, BerFault, read_ber};
 pub use kinds::table::kind;
 pub use kinds::{Kind, Status};
 pub use label::Ul;
 pub use memory::OutOfMemory;
-pub use note::{Held, MAX, NotANote, Note, NoteFault, notes_that_compare_alike_are_one};
-pub use packet::{
-    Packet, PacketFault, one_packet, one_reading, packets_are_read_as_written, read_packet,
-};
-pub use piece::{
-    Stop, cut_head, each_piece_has_its_head, each_piece_has_one_stop, each_piece_is_read_one_way,
-    more_bytes_go_on_with_a_piece, next_key_and_length, next_packet,
-};
-pub use search::{Keyed, below, up_to};
+pub use note::{Held, MAX, NotANote, Note, NoteFault};
+pub use packet::{Packet, PacketFault, read_packet};
+pub use piece::{Stop, cut_head, next_key_and_length, next_packet};
+pub use search::{Keyed, below, between, has_key, up_to};
 pub use sorting::sort_once;
 pub use writing::{Encode, Progress, WriteFault};

@@ -1,8 +1,11 @@
-//! How many elements of a list that rises by a key lie below a bound: all of them by a look at the last, else by binary
-//! search.
-ghost use Rattle.std.specs.Prelude.{◌≡◌, ◌<◌, ◌≤◌, ℕ, length};
+//! Searches in a list that rises by a key. How many elements lie below a bound is told by a look at the last, else by
+//! binary search.
+ghost use Rattle.std.specs.Prelude.{◌≡◌, ◌↔◌, ◌<◌, ◌≤◌, ◌&&◌, ℕ, IsTrue, true, filter, length, map, nat_le};
+ghost use Rattle.std.specs.Prelude.{false, nat_lt};
 ghost use Rattle.std.specs.List.{AllWithin};
 ghost use Rattle.std.specs.List.Sorted.{IsNonDecreasingBy};
+ghost use Rattle.std.specs.Option.{option_map_or};
+ghost use Rattle.mxf_klv.specs.Rising.{In};
 
 /// What has a number by which a list of its kind can rise.
 pub trait Keyed {
@@ -20,6 +23,15 @@ impl Keyed for u64 {
 
     fn key(&self) -> u64 {
         *self
+    }
+}
+
+/// What is lent has its key.
+impl<T: Keyed> Keyed for &T {
+    ghost key = { λ r. T.key r.now };
+
+    fn key(&self) -> u64 {
+        (**self).key()
     }
 }
 
@@ -46,5 +58,43 @@ pub fn up_to<T: Keyed>(items: &[T], bound: u64) -> usize
     match items.last() {
         Some(last) if last.key() <= bound => items.len(),
         _ => items.partition_point(|item| item.key() <= bound),
+    }
+}
+
+/// Whether one of the elements has the key.
+pub fn has_key<T: Keyed>(items: &[T], key: u64) -> bool
+    requires { IsNonDecreasingBy T.key items.now }
+    ensures { IsTrue result ↔ In key (map T.key items.now) }
+{
+    match items.get(below(items, key)) {
+        Some(item) => item.key() == key,
+        None => false,
+    }
+}
+
+/// The elements whose keys lie at or above `from`, and below an end if there is one.
+pub fn between<T: Keyed>(items: &[T], from: u64, end: Option<u64>) -> &[T]
+    requires { IsNonDecreasingBy T.key items.now }
+    ensures { result.now ≡ filter (λ x. nat_le from (T.key x) && option_map_or (λ e. nat_lt (T.key x) e) end true)
+        items.now }
+{
+    let to = below_end(items, end);
+    let start = below(items, from).min(to);
+    let (front, _) = items.split_at(to);
+    let (_, between) = front.split_at(start);
+    between
+}
+
+/// The number of the elements whose key lies below an end; all of them if there is none.
+fn below_end<T: Keyed>(items: &[T], end: Option<u64>) -> usize
+    requires { IsNonDecreasingBy T.key items.now }
+    ensures bound { result ≤ length items.now }
+    ensures below { AllWithin (λ x. option_map_or (λ e. nat_lt (T.key x) e) end true ≡ true) items.now 0 result }
+    ensures above { AllWithin (λ x. option_map_or (λ e. nat_lt (T.key x) e) end true ≡ false) items.now result
+        (length items.now) }
+{
+    match end {
+        Some(end) => below(items, end),
+        None => items.len(),
     }
 }

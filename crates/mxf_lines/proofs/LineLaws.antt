@@ -1,7 +1,7 @@
 -- A line that is written field by field.
 use Rattle.std.proofs.Common.{◌≡◌, ◌∙◌, List, [], ◌∷◌, ◌++◌, ap, append-nil, append_assoc, flat_map, refl, sym}
-use Rattle.mxf_lines.specs.Forms.{Field, PrintedLine, end_in, field_in, front_in, line_in}
-use Rattle.mxf_lines.specs.Writing.{Written, with_end, with_field, with_fields, with_front, with_line, written}
+use Rattle.mxf_forms.specs.Forms.{Field, PrintedLine, end_in, field_in, front_in, line_in}
+use Rattle.mxf_forms.specs.Writing.{Written, with_end, with_field, with_fields, with_front, with_line, written}
 
 fields_written : (fields : List Field) (w : Written)
     → with_fields fields w ≡ written w.form (w.text ++ flat_map (field_in w.form) fields)

@@ -23,7 +23,7 @@ use Rattle.mxf_verify.proofs.UnitLaws.{one_list_of_runs, one_span}
 use Rattle.mxf_verify.proofs.VerificationLaws.{one_verification}
 use Rattle.mxf_read.specs.declared.gathering.report.PieceReport.{PieceReport}
 use Rattle.mxf_lines.specs.Answering.{stop_lines}
-use Rattle.mxf_lines.specs.Forms.{line, lines_in, number}
+use Rattle.mxf_forms.specs.Forms.{line, lines_in, number}
 use Rattle.mxf_lines.specs.Lines.{note_fields}
 use Rattle.mxf_lines.specs.OneRun.{Answer, AreTold, AskedUnits, IsPrinted, Map, PrintSame, Printed, Question, Renewal}
 use Rattle.mxf_lines.specs.OneRun.{Sources, UnitPlan, Verification}

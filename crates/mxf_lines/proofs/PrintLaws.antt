@@ -10,8 +10,8 @@ use Rattle.mxf_klv.proofs.WrittenParts.{WritesPart-after}
 use Rattle.mxf_klv.specs.Written.{WritesPart}
 use Rattle.mxf_lines.specs.declared.printing.AnswerFault.{AnswerFault}
 use Rattle.mxf_lines.specs.declared.printing.AnswerFault.TheVariants.{OutOfMemory, Write, BadUnit}
-use Rattle.mxf_lines.specs.declared.printing.Form.{Form}
-use Rattle.mxf_lines.specs.Forms.{PrintedLine, line_in, lines_in}
+use Rattle.mxf_forms.specs.declared.form.Form.{Form}
+use Rattle.mxf_forms.specs.Forms.{PrintedLine, line_in, lines_in}
 use Rattle.mxf_lines.specs.Printing.{Prints}
 
 -- What a call answers that prints lines in a form after `before` bytes; `after` counts both.

@@ -5,8 +5,8 @@ use Rattle.std.specs.Ordering.{nat_cmp}
 use Rattle.std.specs.BTreeMap.{BTreeMap, get, is_at}
 use Rattle.mxf_klv.specs.Parts.{NoteParts}
 use Rattle.mxf_sets.proofs.TableLaws.{at_equal, at_other}
-use Rattle.mxf_views.specs.declared.reference.target.Ref.{Ref}
-use Rattle.mxf_views.specs.declared.reference.target.Target.TheVariants.{Found}
+use Rattle.mxf_findings.specs.declared.reference.target.Ref.{Ref}
+use Rattle.mxf_findings.specs.declared.reference.target.Target.TheVariants.{Found}
 use Rattle.mxf_lines.specs.declared.printing.line.record.Named.{Named}
 use Rattle.mxf_lines.specs.declared.printing.references.Record.{Record}
 use Rattle.mxf_lines.specs.ReferenceLines.{AreRecordsIn, found_record, named_lines}

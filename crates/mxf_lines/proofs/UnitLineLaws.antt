@@ -9,12 +9,12 @@ use Rattle.mxf_units.specs.declared.standing.UnitStanding.{UnitStanding}
 use Rattle.mxf_units.specs.declared.standing.UnitStanding.TheVariants as standings
 use Rattle.mxf_units.specs.declared.unit.EditUnit.{EditUnit}
 use Rattle.mxf_units.specs.Ranges.{least_of, needed_from, units_from}
-use Rattle.mxf_lines.specs.Forms.{PrintedLine}
+use Rattle.mxf_forms.specs.Forms.{PrintedLine}
 use Rattle.mxf_lines.specs.UnitLines.{hand_count, held_count, is_hand, is_held, last_line, unit_line}
 use Rattle.mxf_lines.specs.UnitLines.{unit_lines, units_line, units_status}
 use Rattle.mxf_lines.specs.declared.printing.AnswerFault.{AnswerFault}
 use Rattle.mxf_lines.specs.declared.printing.AnswerFault.TheVariants.{OutOfMemory, Write, BadUnit}
-use Rattle.mxf_lines.specs.declared.printing.Form.{Form}
+use Rattle.mxf_forms.specs.declared.form.Form.{Form}
 use Rattle.mxf_lines.proofs.PrintLaws.{Leads, PrintsPart}
 
 pub units_length : (u : UnitsParts) (first count : ℕ) → length (units_from u first count) ≡ count

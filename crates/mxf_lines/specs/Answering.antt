@@ -7,9 +7,9 @@ use Rattle.mxf_klv.specs.declared.piece.Stop.{Stop}
 use Rattle.mxf_klv.specs.declared.piece.Stop.TheVariants.{End}
 use Rattle.mxf_klv.specs.declared.writing.WriteFault.{WriteFault}
 use Rattle.mxf_catalogue.specs.Disputes.{disputed_notes}
-use Rattle.mxf_views.specs.Findings.{findings_of}
+use Rattle.mxf_findings.specs.Findings.{findings_of}
 use Rattle.mxf_views.specs.Places.{greatest_unit, place_of, segments_of}
-use Rattle.mxf_views.specs.declared.finding.Finding.{Finding}
+use Rattle.mxf_findings.specs.declared.finding.Finding.{Finding}
 use Rattle.mxf_views.specs.declared.index.place.Place.{Place}
 use Rattle.mxf_views.specs.declared.index.place.Place.TheVariants.{At}
 use Rattle.mxf_places.specs.AtHand.{AtHandParts}
@@ -19,14 +19,14 @@ use Rattle.mxf_restore.specs.declared.disputes.Disputes.{Disputes}
 use Rattle.mxf_units.specs.declared.unit.EditUnit.{EditUnit}
 use Rattle.mxf_read.specs.declared.gathering.report.PieceReport.{PieceReport}
 use Rattle.mxf_units.specs.Ranges.{units_from}
-use Rattle.mxf_lines.specs.declared.printing.Ask.{Ask}
-use Rattle.mxf_lines.specs.declared.printing.Ask.TheVariants.{Show, Check, Locate, Join, Plan, Units}
+use Rattle.mxf_asked.specs.declared.ask.Ask.{Ask}
+use Rattle.mxf_asked.specs.declared.ask.Ask.TheVariants.{Show, Check, Locate, Join, Plan, Units}
 use Rattle.mxf_lines.specs.declared.printing.AnswerFault.{AnswerFault}
 use Rattle.mxf_lines.specs.declared.printing.AnswerFault.TheVariants.{BadUnit}
 use Rattle.mxf_lines.specs.FindingLines.{count_line, finding_line, stop_line}
 use Rattle.mxf_lines.specs.IndexLines.{place_line}
-use Rattle.mxf_lines.specs.declared.printing.Form.{Form}
-use Rattle.mxf_lines.specs.Forms.{PrintedLine}
+use Rattle.mxf_forms.specs.declared.form.Form.{Form}
+use Rattle.mxf_forms.specs.Forms.{PrintedLine}
 use Rattle.mxf_lines.specs.Lines.{join_line, piece_line}
 use Rattle.mxf_lines.specs.PlanLines.{plan_lines}
 use Rattle.mxf_lines.specs.Printing.{Prints, content_lines}

@@ -4,7 +4,7 @@ use Rattle.std.specs.Prelude.{length, nat_lt, slice_index_or}
 use Rattle.std.specs.Fmt.{signed_decimal}
 use Rattle.mxf_find.specs.declared.ranking.Ranked.{Ranked}
 use Rattle.mxf_find.specs.declared.found.Match.{Match}
-use Rattle.mxf_lines.specs.Forms.{Field, PrintedLine, digits, line, number, word}
+use Rattle.mxf_forms.specs.Forms.{Field, PrintedLine, digits, line, number, word}
 
 -- A fragment that was looked up: how many notes it has, and the recordings in which it lies best.
 pub record SearchedParts : Type 0 where

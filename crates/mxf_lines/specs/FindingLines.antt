@@ -1,9 +1,9 @@
 -- The lines of a check (this project's profile).
 use Rattle.std.specs.Prelude.{ℕ, ◌+◌, [], ◌∷◌, ◌++◌, codes}
 use Rattle.mxf_read.specs.declared.gathering.report.PieceReport.{PieceReport}
-use Rattle.mxf_views.specs.Codes.{code_name, code_text}
-use Rattle.mxf_views.specs.declared.finding.Finding.{Finding}
-use Rattle.mxf_lines.specs.Forms.{PrintedLine, line, line_of, number, number_member, word}
+use Rattle.mxf_findings.specs.Codes.{code_name, code_text}
+use Rattle.mxf_findings.specs.declared.finding.Finding.{Finding}
+use Rattle.mxf_forms.specs.Forms.{PrintedLine, line, line_of, number, number_member, word}
 use Rattle.mxf_lines.specs.Lines.{stop_fields}
 
 -- The line of a piece that doesn't end with a packet: its offset, its stop and, in JSON, the number of its source, from

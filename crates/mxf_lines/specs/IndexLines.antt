@@ -12,7 +12,7 @@ use Rattle.mxf_views.specs.declared.random_index.RipView.{RipView}
 use Rattle.mxf_views.specs.declared.random_index.RipView.TheVariants.{Absent, Several, Unreadable, One}
 use Rattle.mxf_views.specs.declared.random_index.Standing.{Standing}
 use Rattle.mxf_sets.specs.declared.pack.random_index.RipEntry.{RipEntry}
-use Rattle.mxf_lines.specs.Forms.{Field, Fixed, PrintedLine, digits, field, line, line_of, number, number_member, word}
+use Rattle.mxf_forms.specs.Forms.{Field, Fixed, PrintedLine, digits, field, line, line_of, number, number_member, word}
 
 -- Which index and which essence stream a segment is of, and its edit rate.
 abbrev pub stream_fields : SegmentNumbers → List Field

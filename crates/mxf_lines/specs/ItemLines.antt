@@ -11,8 +11,8 @@ use Rattle.mxf_views.specs.Labels.{primer_for, primer_of}
 use Rattle.mxf_views.specs.declared.copy.CopyInfo.{CopyInfo}
 use Rattle.mxf_views.specs.SetItems.{set_items}
 use Rattle.mxf_lines.specs.declared.printing.sets.CopyLabels.{CopyLabels}
-use Rattle.mxf_lines.specs.Forms.{Absent, Characters, PrintedLine, Value, field, line, number, word}
-use Rattle.mxf_lines.specs.Hexadecimal.{hex_of}
+use Rattle.mxf_forms.specs.Forms.{Absent, Characters, PrintedLine, Value, field, line, number, word}
+use Rattle.mxf_forms.specs.Hexadecimal.{hex_of}
 use Rattle.mxf_lines.specs.Lines.{lines_where}
 
 -- The label of a tag by a primer pack, none without one.

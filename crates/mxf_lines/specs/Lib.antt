@@ -4,8 +4,6 @@ pub mod PlanLines
 pub mod Answering
 pub mod FindLines
 pub mod FindingLines
-pub mod Forms
-pub mod Hexadecimal
 pub mod IndexLines
 pub mod ItemLines
 pub mod Lines
@@ -19,4 +17,3 @@ pub mod UnitLines
 pub mod UnitPlanLines
 pub mod VerificationLines
 pub mod VerifiedStatus
-pub mod Writing

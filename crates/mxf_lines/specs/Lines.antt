@@ -12,9 +12,9 @@ use Rattle.mxf_read.specs.declared.gathering.report.PieceReport.{PieceReport}
 use Rattle.mxf_views.specs.declared.chain.Chain.{Chain}
 use Rattle.mxf_views.specs.declared.copy.CopyInfo.{CopyInfo}
 use Rattle.mxf_views.specs.Words.{chain_name}
-use Rattle.mxf_lines.specs.Forms.{Characters, Field, PrintedLine, field, flag, known, line, line_of, number}
-use Rattle.mxf_lines.specs.Forms.{number_member, word}
-use Rattle.mxf_lines.specs.Hexadecimal.{hex_of}
+use Rattle.mxf_forms.specs.Forms.{Characters, Field, PrintedLine, field, flag, known, line, line_of, number}
+use Rattle.mxf_forms.specs.Forms.{number_member, word}
+use Rattle.mxf_forms.specs.Hexadecimal.{hex_of}
 
 -- The lines of what is there, and none if it isn't.
 abbrev pub lines_where : {X : Type 0} → (X → List PrintedLine) → Option X → List PrintedLine

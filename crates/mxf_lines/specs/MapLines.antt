@@ -11,7 +11,7 @@ use Rattle.mxf_map.specs.declared.extent.MapExtent.{MapExtent}
 use Rattle.mxf_map.specs.declared.map.Mark.{Mark}
 use Rattle.mxf_map.specs.declared.map.Mark.TheVariants.{Disputed, Header, Footer, Body, RandomIndex, Missing}
 use Rattle.mxf_map.specs.declared.map.Mark.TheVariants.{Hand, Empty, Part, Metadata, Index, Whole}
-use Rattle.mxf_lines.specs.Forms.{Number, PrintedLine, digits, field, line, number, number_member, word}
+use Rattle.mxf_forms.specs.Forms.{Number, PrintedLine, digits, field, line, number, number_member, word}
 
 -- The character of a mark.
 abbrev pub mark_text : Mark → List ℕ

@@ -12,10 +12,10 @@ use Rattle.mxf_verify.specs.Fixities.{AreVerifiedUnits, VerifiedUnitsParts}
 use Rattle.mxf_verify.specs.Renewing.{dropped_of, renewed_of}
 use Rattle.mxf_verify.specs.Verifications.{IsVerification, VerificationParts}
 use Rattle.mxf_verify.specs.Verifying.{Source}
-use Rattle.mxf_lines.specs.declared.printing.Ask.{Ask}
-use Rattle.mxf_lines.specs.declared.printing.Form.{Form}
+use Rattle.mxf_asked.specs.declared.ask.Ask.{Ask}
+use Rattle.mxf_forms.specs.declared.form.Form.{Form}
 use Rattle.mxf_lines.specs.Answering.{answer_lines, answer_status}
-use Rattle.mxf_lines.specs.Forms.{PrintedLine, lines_in}
+use Rattle.mxf_forms.specs.Forms.{PrintedLine, lines_in}
 use Rattle.mxf_lines.specs.MapLines.{AreToldExtents, map_lines}
 use Rattle.mxf_lines.specs.RenewalLines.{renewal_lines}
 use Rattle.mxf_lines.specs.SourceLines.{sources_lines, sources_status}

@@ -9,8 +9,8 @@ use Rattle.mxf_sets.specs.Words.{part_name}
 use Rattle.mxf_views.specs.declared.chain.Link.{Link}
 use Rattle.mxf_views.specs.Partitions.{PartitionParts, link_of}
 use Rattle.mxf_views.specs.Words.{link_name}
-use Rattle.mxf_lines.specs.Forms.{Field, PrintedLine, line, number, number_member, word}
-use Rattle.mxf_lines.specs.Hexadecimal.{hex_of}
+use Rattle.mxf_forms.specs.Forms.{Field, PrintedLine, line, number, number_member, word}
+use Rattle.mxf_forms.specs.Hexadecimal.{hex_of}
 
 -- The numbers of a partition pack in their order: its version, its KAG size, and where the partitions stand that it
 -- names; and what it says of its header metadata, its index and its essence.

@@ -7,7 +7,7 @@ use Rattle.mxf_places.specs.Words.{reason_name}
 use Rattle.mxf_restore.specs.declared.disputes.Disputes.{Disputes}
 use Rattle.mxf_restore.specs.declared.plan.DisputedPlace.{DisputedPlace}
 use Rattle.mxf_restore.specs.declared.plan.Order.{Order}
-use Rattle.mxf_lines.specs.Forms.{PrintedLine, flag, known, known_member, line, number, word}
+use Rattle.mxf_forms.specs.Forms.{PrintedLine, flag, known, known_member, line, number, word}
 use Rattle.mxf_lines.specs.Lines.{lines_where}
 
 -- How many bytes an order has, if its end is known.

@@ -9,11 +9,11 @@ use Rattle.mxf_views.specs.Gaps.{gaps_of}
 use Rattle.mxf_views.specs.Partitions.{chain_of, partitions_of}
 use Rattle.mxf_views.specs.Places.{segments_of}
 use Rattle.mxf_views.specs.RandomIndexView.{rip_view_of}
-use Rattle.mxf_views.specs.Resolved.{resolved_of}
+use Rattle.mxf_findings.specs.Resolved.{resolved_of}
 use Rattle.mxf_lines.specs.declared.printing.AnswerFault.{AnswerFault}
 use Rattle.mxf_lines.specs.declared.printing.AnswerFault.TheVariants.{OutOfMemory, Write, BadUnit}
-use Rattle.mxf_lines.specs.declared.printing.Form.{Form}
-use Rattle.mxf_lines.specs.Forms.{PrintedLine, lines_in}
+use Rattle.mxf_forms.specs.declared.form.Form.{Form}
+use Rattle.mxf_forms.specs.Forms.{PrintedLine, lines_in}
 use Rattle.mxf_lines.specs.Lines.{chain_line, copy_line, gap_line, note_line, preferred_line}
 use Rattle.mxf_lines.specs.IndexLines.{rip_lines, segment_line}
 use Rattle.mxf_lines.specs.ItemLines.{set_lines}

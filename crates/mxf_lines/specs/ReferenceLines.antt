@@ -15,10 +15,10 @@ use Rattle.mxf_sets.specs.Package.{PackageParts, package_at}
 use Rattle.mxf_sets.specs.Readable.{read_as}
 use Rattle.mxf_sets.specs.declared.record.timestamp.Timestamp.{Timestamp}
 use Rattle.mxf_catalogue.specs.Disputes.{clear_notes}
-use Rattle.mxf_views.specs.Resolved.{ResolvedParts}
-use Rattle.mxf_views.specs.declared.reference.target.Ref.{Ref}
-use Rattle.mxf_views.specs.declared.reference.target.Target.{Target}
-use Rattle.mxf_views.specs.declared.reference.target.Target.TheVariants.{Missing, Several, WrongKind, Unreadable, Found}
+use Rattle.mxf_findings.specs.Resolved.{ResolvedParts}
+use Rattle.mxf_findings.specs.declared.reference.target.Ref.{Ref}
+use Rattle.mxf_findings.specs.declared.reference.target.Target.{Target}
+use Rattle.mxf_findings.specs.declared.reference.target.Target.TheVariants.{Missing, Several, WrongKind, Unreadable, Found}
 use Rattle.mxf_lines.specs.declared.printing.line.record.Property.{Property}
 use Rattle.mxf_lines.specs.declared.printing.line.record.Property.TheVariants as properties
 use Rattle.mxf_lines.specs.declared.printing.line.record.Named.{Named}
@@ -26,8 +26,8 @@ use Rattle.mxf_lines.specs.declared.printing.line.record.Named.TheVariants.{Iden
 use Rattle.mxf_lines.specs.declared.printing.line.record.Owner.{Owner}
 use Rattle.mxf_lines.specs.declared.printing.references.Record.{Record}
 use Rattle.mxf_lines.specs.declared.printing.references.Record.TheVariants as records
-use Rattle.mxf_lines.specs.Forms.{Characters, Field, PrintedLine, digits, line_of, member, number, word}
-use Rattle.mxf_lines.specs.Hexadecimal.{hex_of}
+use Rattle.mxf_forms.specs.Forms.{Characters, Field, PrintedLine, digits, line_of, member, number, word}
+use Rattle.mxf_forms.specs.Hexadecimal.{hex_of}
 use Rattle.mxf_lines.specs.Lines.{lines_where}
 use Rattle.mxf_lines.specs.ShownText.{shown_value}
 

@@ -2,7 +2,7 @@
 use Rattle.std.specs.Prelude.{ℕ, Bool, true, false, List, [], ◌∷◌, ◌++◌, codes, flat_map, length}
 use Rattle.mxf_klv.specs.Parts.{NoteParts}
 use Rattle.mxf_catalogue.specs.Disputes.{disputed_notes}
-use Rattle.mxf_lines.specs.Forms.{PrintedLine, line, line_of, number}
+use Rattle.mxf_forms.specs.Forms.{PrintedLine, line, line_of, number}
 use Rattle.mxf_lines.specs.Lines.{note_fields}
 
 -- The line of a note that was dropped: what it says.

@@ -6,8 +6,8 @@ use Rattle.mxf_klv.specs.Parts.{NoteParts}
 use Rattle.mxf_catalogue.specs.Disputes.{DisputedParts, disputed_notes}
 use Rattle.mxf_readings.specs.Readings.{all_notes, counts_of, sources_of}
 use Rattle.mxf_readings.specs.declared.readings.SourceCounts.{SourceCounts}
-use Rattle.mxf_lines.specs.Forms.{Absent, Characters, PrintedLine, Value, field, line, number, numbers, word}
-use Rattle.mxf_lines.specs.Hexadecimal.{hex_of}
+use Rattle.mxf_forms.specs.Forms.{Absent, Characters, PrintedLine, Value, field, line, number, numbers, word}
+use Rattle.mxf_forms.specs.Hexadecimal.{hex_of}
 use Rattle.mxf_lines.specs.Lines.{note_fields}
 
 -- The line of a source: its number, how many notes it has, of how many it is the only source, how many of them are

@@ -10,9 +10,9 @@ use Rattle.mxf_units.specs.declared.standing.UnitStanding.{UnitStanding}
 use Rattle.mxf_units.specs.declared.standing.UnitStanding.TheVariants as standings
 use Rattle.mxf_units.specs.declared.unit.EditUnit.{EditUnit}
 use Rattle.mxf_units.specs.declared.unit.Extent.{Extent}
-use Rattle.mxf_lines.specs.Forms.{Absent, Characters, Field, PrintedLine, Value, digits_or, field, known, known_member}
-use Rattle.mxf_lines.specs.Forms.{line, number, word}
-use Rattle.mxf_lines.specs.Hexadecimal.{hex_of}
+use Rattle.mxf_forms.specs.Forms.{Absent, Characters, Field, PrintedLine, Value, digits_or, field, known, known_member}
+use Rattle.mxf_forms.specs.Forms.{line, number, word}
+use Rattle.mxf_forms.specs.Hexadecimal.{hex_of}
 
 -- How far away the unit is stored that is shown in the place of this one, or a dash.
 abbrev pub temporal_value : Option ℤ → Value

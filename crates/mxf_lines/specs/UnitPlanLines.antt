@@ -14,7 +14,7 @@ use Rattle.mxf_units.specs.declared.standing.UnitStanding.TheVariants as standin
 use Rattle.mxf_units.specs.declared.unit.EditUnit.{EditUnit}
 use Rattle.mxf_partial.specs.Orders.{UnitPlanParts}
 use Rattle.mxf_partial.specs.Wanted.{WantedParts, notes_of, wanted_units}
-use Rattle.mxf_lines.specs.Forms.{PrintedLine}
+use Rattle.mxf_forms.specs.Forms.{PrintedLine}
 use Rattle.mxf_lines.specs.Lines.{lines_where}
 use Rattle.mxf_lines.specs.PlanLines.{disputes_line, ordered_bytes, planned_line, restore_line}
 use Rattle.mxf_lines.specs.UnitLines.{is_hand, is_held, last_line, units_status}

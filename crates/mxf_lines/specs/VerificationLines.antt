@@ -16,7 +16,7 @@ use Rattle.mxf_verify.specs.declared.verification.VerifiedCounts.{VerifiedCounts
 use Rattle.mxf_verify.specs.declared.verified_units.UnitRun.{UnitRun}
 use Rattle.mxf_verify.specs.declared.unit_places.UnitSpan.{UnitSpan}
 use Rattle.mxf_lines.specs.Answering.{stop_lines}
-use Rattle.mxf_lines.specs.Forms.{Field, PrintedLine, known, line, line_of, number, word}
+use Rattle.mxf_forms.specs.Forms.{Field, PrintedLine, known, line, line_of, number, word}
 use Rattle.mxf_lines.specs.Lines.{note_fields}
 
 -- The units that are lent, if some are asked for.

@@ -5,9 +5,8 @@
 //! first bytes of them, which it counts, and out of memory some whole lines. Its status says whether a check
 //! found something, and whether an edit unit has one place; that of [`print_verification`], whether what is asked for
 //! was verified; that of [`print_unit_plan`], whether edit units need anything more, or wait for bytes beside disputed
-//! packets ([`told_disputes_by_definition`]). A line is its name and its fields,
-//! of which text and JSON are two printings, and a reader of JSON takes each text as it is
-//! ([`escaped_text_is_given_back`]). Two runs that were handed the same print the same ([`one_run_one_print`]).
+//! packets ([`laws::told_disputes_by_definition`]). A line is its name and its fields, of which text and JSON are two
+//! printings (mxf_forms). Two runs that were handed the same print the same ([`laws::one_run_one_print`]).
 //!
 //! That memory is there, and that a call succeeds with it, is tested.
 //!
@@ -20,12 +19,11 @@
 //! ```
 #![tactic(auto)]
 
+pub mod laws;
 mod one_run;
 mod printing;
 
-pub use one_run::one_run_one_print;
 pub use printing::{
-    AnswerFault, Ask, Form, Grid, Searched, Verified, answer, escaped_text_is_given_back, hex_text,
-    print_found, print_map, print_renewed, print_sources, print_unit_plan, print_verification,
-    told_disputes_by_definition, verified_status_by_definition, whole_status_by_packets,
+    AnswerFault, Searched, Verified, answer, print_found, print_map, print_renewed, print_sources,
+    print_unit_plan, print_verification,
 };

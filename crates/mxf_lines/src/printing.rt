@@ -12,7 +12,6 @@ ghost use Rattle.mxf_lines.specs.declared.printing.AnswerFault.TheVariants as fa
 mod check;
 mod content;
 mod found;
-mod hexadecimal;
 mod line;
 mod lines;
 mod map;
@@ -21,17 +20,17 @@ mod references;
 mod renewal;
 mod sets;
 mod sources;
-mod strings;
 mod unit_plan;
 mod units;
 mod verification;
 
 use check::print_checked;
 pub use found::{Searched, print_found};
-pub use hexadecimal::hex_text;
 use line::JoinLine;
 use lines::{Printer, print_with_status};
-pub use map::{Grid, print_map};
+pub use map::print_map;
+use mxf_asked::Ask;
+use mxf_forms::Form;
 use mxf_klv::{OutOfMemory, WriteFault};
 use mxf_places::AtHand;
 use mxf_read::Gathered;
@@ -43,7 +42,6 @@ pub use renewal::print_renewed;
 pub use sources::print_sources;
 use std::alloc::Global;
 use std::io::Write;
-pub use strings::escaped_text_is_given_back;
 use thiserror::Error;
 pub use unit_plan::{print_unit_plan, told_disputes_by_definition};
 use units::print_units;
@@ -71,32 +69,6 @@ impl From<OutOfMemory> for AnswerFault {
     fn from(_fault: OutOfMemory) -> AnswerFault {
         AnswerFault::OutOfMemory
     }
-}
-
-/// How lines are printed.
-#[derive(Clone, Copy, Debug, PartialEq, Eq)]
-pub enum Form {
-    /// As words, for people and scripts.
-    Text,
-    /// Each as a JSON object (RFC 8259), for programs.
-    Json,
-}
-
-/// What a run is asked for.
-#[derive(Clone, Copy, Debug, PartialEq, Eq)]
-pub enum Ask {
-    /// What was noted of each piece, and all that is known of the recording.
-    Show,
-    /// What is found wrong or missing.
-    Check,
-    /// Where the edit unit begins in its essence stream, by the index of this IndexSID.
-    Locate { index: u32, unit: u64 },
-    /// How many notes the parts hold together.
-    Join,
-    /// What to restore next.
-    Plan,
-    /// Where the edit units of a range lie in the file, by the index of this IndexSID.
-    Units { index: u32, range: UnitRange },
 }
 
 /// Prints the lines that are asked for, in a form. The answer is 1 if a check finds something, or a piece doesn't end

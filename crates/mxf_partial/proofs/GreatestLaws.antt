@@ -12,7 +12,8 @@ use Rattle.std.specs.declared.cmp.Ordering.{Ordering}
 use Rattle.std.proofs.lemmas.Cmp.{nat_cmp_total, on_total, then_total}
 use Rattle.mxf_klv.specs.Rising.{In, In-union, IsRising, union}
 use Rattle.mxf_klv.proofs.Lists.{In-end, In-filter}
-use Rattle.mxf_klv.proofs.Tests.{lt_from_less, ties}
+use Rattle.mxf_klv.proofs.Tests.{lt_from_less}
+use Rattle.mxf_klv.specs.NoteOrder.{ties}
 use Rattle.mxf_sets.specs.Offset.{covers_constant, covers_entry, entry_offset, stream_offset}
 use Rattle.mxf_sets.specs.Segment.{SegmentParts, entry_count, is_constant}
 use Rattle.mxf_views.specs.Places.{SegmentAtParts, segments_of}

@@ -17,7 +17,8 @@ use Rattle.std.proofs.lemmas.Cmp.{nat_cmp_total, on_total, then_total}
 use Rattle.mxf_klv.specs.Parts.{NoteParts}
 use Rattle.mxf_klv.specs.Rising.{In, In-union, IsRising, union}
 use Rattle.mxf_klv.proofs.Lists.{In-at, In-end, In-map, Contains-from_In}
-use Rattle.mxf_klv.proofs.Tests.{lt_from_less, ties}
+use Rattle.mxf_klv.proofs.Tests.{lt_from_less}
+use Rattle.mxf_klv.specs.NoteOrder.{ties}
 use Rattle.mxf_sets.specs.declared.pack.random_index.RipEntry.{RipEntry}
 use Rattle.mxf_restore.specs.declared.named.NamedPlace.{NamedPlace}
 use Rattle.mxf_views.specs.RandomIndex.{RipAtParts}

@@ -14,7 +14,8 @@ use Rattle.mxf_klv.specs.Parts.{NoteParts}
 use Rattle.mxf_klv.specs.Rising.{In, In-union, IsRising, union}
 use Rattle.mxf_klv.proofs.Lists.{In-append, In-map}
 use Rattle.mxf_klv.proofs.RisingBy.{one_by_key}
-use Rattle.mxf_klv.proofs.Tests.{lt_from_less, ties}
+use Rattle.mxf_klv.proofs.Tests.{lt_from_less}
+use Rattle.mxf_klv.specs.NoteOrder.{ties}
 use Rattle.mxf_catalogue.specs.Content.{IsContent}
 use Rattle.mxf_views.specs.Partitions.{PartitionParts, partitions_of}
 use Rattle.mxf_views.proofs.PartitionLaws.{partitions_rise}

@@ -9,17 +9,13 @@ use Rattle.std.proofs.Common.{refl}
 use Rattle.std.proofs.lemmas.Cmp.{on_total, then_total, nat_cmp_total, eq_by_cmp_equiv}
 use Rattle.mxf_klv.specs.NoteOrder.{note_total, note_cmp-IsAntisymmetric}
 use Rattle.mxf_readings.specs.Holdings.{HoldingParts, holding_cmp}
+use Rattle.mxf_klv.specs.NoteOrder.{ties}
 
 pub holding_total : IsTotalOrder holding_cmp
 holding_total = then_total (on_total (λ h. h.note) note_total) (on_total (λ h. h.source) nat_cmp_total)
 
 pub holding_equiv : IsEquivalence (eq_by_cmp holding_cmp)
 holding_equiv = eq_by_cmp_equiv holding_total
-
-ties : (a b : Ordering) → ordering_then a b ≡ Equal → (a ≡ Equal) × (b ≡ Equal)
-ties Less b e = cc
-ties Equal b e = (refl, e)
-ties Greater b e = cc
 
 same_parts : (a b : HoldingParts) → a.note ≡ b.note → a.source ≡ b.source → a ≡ b
 same_parts a b e f i = record { note = e i; source = f i }

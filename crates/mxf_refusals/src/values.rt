@@ -2,11 +2,12 @@
 use crate::additions::{add_to_views, essence, in_views};
 use crate::files::{M, R, header_value};
 use crate::units::add_piece;
+use mxf_findings::{Code, Finding, Findings, Resolved, findings, resolved};
+use mxf_forms::hex_text;
 use mxf_klv::{Held, Note, NoteFault, OutOfMemory, Packet, read_packet};
-use mxf_lines::hex_text;
 use mxf_read::AbsorbFault;
 use mxf_sets::{Primer, PrimerLabels, TextFault, text};
-use mxf_views::{BadUnit, Code, Finding, Findings, Resolved, Views};
+use mxf_views::{BadUnit, Views};
 use std::alloc::Global;
 use std::fmt::Display;
 
@@ -142,9 +143,9 @@ fn is_of_the_package(resolved: &Resolved) -> bool {
 
 /// What references lead to, even if one growth is refused.
 fn resolved_in(alloc: Global, views: &Views) -> Result<Option<Resolved>, OutOfMemory> {
-    match views.resolved(alloc) {
+    match resolved(alloc, views) {
         Ok(resolved) => Ok(resolved),
-        Err(OutOfMemory) => views.resolved(alloc),
+        Err(OutOfMemory) => resolved(alloc, views),
     }
 }
 
@@ -158,9 +159,9 @@ fn lead_to_the_package(alloc: Global, views: &Views) -> bool {
 
 /// What is found in the views, even if one growth is refused.
 fn found_in(alloc: Global, views: &Views) -> Result<Findings, OutOfMemory> {
-    match views.findings(alloc) {
+    match findings(alloc, views) {
         Ok(found) => Ok(found),
-        Err(OutOfMemory) => views.findings(alloc),
+        Err(OutOfMemory) => findings(alloc, views),
     }
 }
 

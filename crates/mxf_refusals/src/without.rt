@@ -2,9 +2,10 @@
 use crate::additions::{essence, in_views};
 use crate::files::{M, R, SEGMENT};
 use mxf_catalogue::{Catalogue, Change};
+use mxf_findings::{Found, find};
 use mxf_klv::{Encode, Held, Note, OutOfMemory, cut_head, read_packet};
 use mxf_read::absorb;
-use mxf_views::{BadUnit, Chain, Found, Link, Place, RipView, Views, set_items};
+use mxf_views::{BadUnit, Chain, Link, Place, RipView, Views, set_items};
 use std::alloc::Global;
 use uuid::Uuid;
 
@@ -152,7 +153,7 @@ fn has_its_sets(views: &Views) -> Option<bool> {
     let preferred = views.preferred()?;
     let set = views.sets(0).next()?;
     let labelled = views.primer_for(set)?.label(0x8001) == Some([0xAA; 16]);
-    let found = views.find(0, Uuid::from_bytes([0x33; 16])) == Found::One(298);
+    let found = find(views, 0, Uuid::from_bytes([0x33; 16])) == Found::One(298);
     let copied = (preferred.partition, preferred.start) == (0, Some(108));
     Some(labelled && found && copied && views.copies().len() == 1)
 }

@@ -5,7 +5,7 @@ use Rattle.std.specs.Cmp.Lexicographic.{options_total}
 use Rattle.std.specs.FinMap.{IsAntisymmetric, nat_cmp-IsAntisymmetric}
 use Rattle.std.specs.declared.cmp.Ordering.TheVariants.{Equal, Less}
 use Rattle.std.proofs.lemmas.Cmp.{nat_cmp_total, on_total, then_total}
-use Rattle.mxf_klv.proofs.Tests.{ties}
+use Rattle.mxf_klv.specs.NoteOrder.{ties}
 use Rattle.std.specs.Ordering.{bool_cmp, nat_cmp, ordering_reverse, ordering_then}
 use Rattle.std.specs.Option.{option_cmp}
 use Rattle.mxf_restore.specs.Plan.{disputed_place_cmp, order_cmp}

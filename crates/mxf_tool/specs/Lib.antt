@@ -1,11 +1,2 @@
-pub mod AskedUnits
-pub mod Beginnings
-pub mod Contents
-pub mod Exits
-pub mod Lists
-pub mod OnScreen
-pub mod Progress
-pub mod Saving
-pub mod Shifts
-pub mod Sources
+pub mod Answered
 pub mod Verifying

@@ -5,9 +5,9 @@ use Rattle.mxf_places.specs.AtHand.{without_hand}
 use Rattle.mxf_verify.specs.Fixities.{AreVerifiedUnits, VerifiedUnitsParts}
 use Rattle.mxf_verify.specs.Verifications.{VerificationParts}
 use Rattle.mxf_lines.specs.VerificationLines.{has_none}
-use Rattle.mxf_tool.specs.AskedUnits.{AreAsked}
-use Rattle.mxf_tool.specs.declared.command_line.IndexedUnits.{IndexedUnits}
-use Rattle.mxf_tool.specs.declared.program.fault.RunFault.{RunFault}
+use Rattle.mxf_hints.specs.AskedUnits.{AreAsked}
+use Rattle.mxf_asked.specs.declared.units.IndexedUnits.{IndexedUnits}
+use Rattle.mxf_hints.specs.declared.fault.RunFault.{RunFault}
 use Rattle.mxf_tool.specs.declared.program.verifying.IndexedRange.{IndexedRange}
 use Rattle.mxf_tool.specs.declared.program.verifying.Open.{Open}
 use Rattle.mxf_tool.specs.declared.program.verifying.Open.TheVariants.{NoneSame, NotAll}

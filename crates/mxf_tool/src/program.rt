@@ -1,68 +1,40 @@
 //! The run of the program: its arguments, its files, its lines, and its exit status.
-mod apart;
 mod beside;
-mod fault;
 mod finding;
-mod front;
-mod hint;
-mod index;
-mod offsets;
-mod refusal;
 mod renewing;
-mod sized;
-mod sources;
-mod stops;
-mod telling;
-mod unit_range;
 mod verifying;
 
-use crate::arguments::unreadable_argument;
-use crate::command_line::{
-    AskedUnits, BadLastUnit, Hints, Request, Saving, Task, Told, command, hints_of, request_of,
-    signed_number, units_of,
-};
-use crate::exit::Exit;
-use crate::part::part_of;
-use crate::reopened::{Reopened, extent_of};
-use crate::saving::{BUFFER_BYTES, Reservation, SaveFault, WatchedWriter, refusal_of};
-use crate::source::Source;
-use crate::system_fault::{LastFault, SystemFault};
-use crate::watching::{Screen, Watched};
-use apart::{tell_apart, tell_unsettled};
+use crate::answered::exit_of_answer;
 use beside::print_beside;
 use clap::ArgMatches;
 use clap::error::ErrorKind;
-use fault::RunFault;
 use finding::print_found_in;
-use index::{only_index, tell_index};
-use mxf_hand::{Extent, Given, PutTogether, SourceFault, put_together, settle};
-use mxf_lines::{
-    AnswerFault, Ask, Form, Grid, Searched, Verified, answer, print_found, print_map,
-    print_renewed, print_sources, print_unit_plan, print_verification,
+use mxf_asked::{Ask, AskedUnits, BadLastUnit, Grid, Hints, Request, Saving, Task, Told};
+use mxf_commands::{command, hints_of, request_of, signed_number, units_of, unreadable_argument};
+use mxf_forms::Form;
+use mxf_hints::{
+    Exit, RefusalHint, RunFault, Telling, only_index, range_of, tell, tell_apart, tell_index,
+    tell_on_screen, tell_stops, tell_unsettled,
 };
-use mxf_places::AtHand;
-use mxf_read::{GatherFault, Gathered, Part, PartFault, PieceReport, PieceReports, gather};
+use mxf_lines::{
+    AnswerFault, Searched, Verified, answer, print_found, print_map, print_renewed, print_sources,
+    print_unit_plan, print_verification,
+};
+use mxf_read::{Gathered, PieceReport};
 use mxf_readings::Readings;
+use mxf_saving::{
+    BUFFER_BYTES, LastFault, Reservation, SaveFault, Source, SystemFault, WatchedWriter, refusal_of,
+};
+use mxf_sources::{HeldBySources, Lists, System, hold_sources, read_lists, settled, sources_of};
 use mxf_units::UnitRange;
 use mxf_verify::Renewed;
 use mxf_views::Views;
-use refusal::RefusalHint;
+use mxf_watching::Screen;
 use renewing::print_renewal;
-use sources::{Lists, read_lists, sources_of, unread};
 use std::alloc::Global;
-use std::fs::{self, File};
-use std::io::{BufWriter, Input, Read, Write};
-use std::rt::{Clock, Env, Files};
+use std::io::{BufWriter, Write};
 use std::{env, io};
-use stops::tell_stops;
-use telling::{Telling, tell, tell_on_screen};
-use unit_range::range_of;
 use verifying::print_verified;
-
-/// All that a run takes of the system.
-pub trait System: Files<File = File> + Clock + Env + Input + Print + Eprint + AllocGlobal {}
-
-impl<R: Files<File = File> + Clock + Env + Input + Print + Eprint + AllocGlobal> System for R {}
 
 /// What each task is done with.
 #[derive(Clone, Copy)]
@@ -228,10 +200,10 @@ fn print_told<'a, R: System>(
     inputs: Inputs<'_, 'a>,
     asked: Told,
 ) -> Result<Exit, RunFault<'a>> {
-    let held = hold_sources(rt, inputs)?;
+    let held = hold_sources(rt, inputs.telling.screen, inputs.sources)?;
     let held = match asked {
         Told::Answer(Ask::Show) => held,
-        _ => settled(held, inputs.sources),
+        _ => settled(rt.alloc(), held, inputs.sources)?,
     };
     print_held(rt, inputs, asked, &held)
 }
@@ -241,7 +213,7 @@ fn print_held<'a, R: System>(
     rt: &R,
     inputs: Inputs<'_, 'a>,
     asked: Told,
-    held: &Held,
+    held: &HeldBySources,
 ) -> Result<Exit, RunFault<'a>> {
     let printed = match asked {
         Told::Answer(ask) => Printed::Answer(ask, held),
@@ -314,7 +286,7 @@ fn print_saved<'a, R: System>(
     rt: &R,
     inputs: Inputs<'_, 'a>,
     is_strict: bool,
-    held: &Held,
+    held: &HeldBySources,
 ) -> Result<Exit, RunFault<'a>> {
     let exit = print_answer(rt, Printed::Answer(Ask::Join, held), inputs.form)?;
     let Gathered { views, reports } = &held.gathered;
@@ -328,7 +300,7 @@ fn print_saved<'a, R: System>(
 fn told_held<'a, R: System>(
     rt: &R,
     inputs: Inputs<'_, 'a>,
-    held: &Held,
+    held: &HeldBySources,
     with_stops: bool,
     exit: Exit,
 ) -> Result<Exit, RunFault<'a>> {
@@ -346,7 +318,7 @@ fn join<'a, R: System>(
     rt: &R,
     inputs: Inputs<'_, 'a>,
     saving: Saving<'a>,
-) -> Result<Held, RunFault<'a>> {
+) -> Result<HeldBySources, RunFault<'a>> {
     allow_output(rt, saving.out, inputs.sources)?;
     match Reservation::take(rt, saving.out, saving.is_dry) {
         Ok(place) => join_at(rt, inputs, saving.out, place),
@@ -373,8 +345,9 @@ fn join_at<'a, 'r, R: System>(
     inputs: Inputs<'_, 'a>,
     out: &'a str,
     place: Reservation<'r, R>,
-) -> Result<Held, RunFault<'a>> {
-    let held = settled(hold_sources(rt, inputs)?, inputs.sources);
+) -> Result<HeldBySources, RunFault<'a>> {
+    let held = hold_sources(rt, inputs.telling.screen, inputs.sources)?;
+    let held = settled(rt.alloc(), held, inputs.sources)?;
     match place.save(rt, held.gathered.views.catalogue()) {
         Ok(()) => Ok(held),
         Err(fault) => Err(unsaved(out, fault)),
@@ -406,198 +379,21 @@ fn told<'a, R: System>(
     Ok(exit)
 }
 
-/// What sources hold together, which of their bytes are at hand, and where they lie.
-#[derive(Drop)]
-pub struct Held {
-    pub gathered: Gathered,
-    pub at_hand: AtHand,
-    pub extents: Vec<Extent>,
-}
-
-/// The same, with the stops of pieces as ends that what is held makes up for.
-fn settled(held: Held, sources: &[Source<'_>]) -> Held {
-    let Held {
-        gathered,
-        at_hand,
-        extents,
-    } = held;
-    let Gathered { views, reports } = gathered;
-    let reports = settled_reports(&views, &extents, reports, sources);
-    Held {
-        gathered: Gathered { views, reports },
-        at_hand,
-        extents,
-    }
-}
-
-/// The reports of pieces, with the stops as ends that what is held makes up for, if one of the sources is a range.
-fn settled_reports(
-    views: &Views,
-    extents: &[Extent],
-    reports: PieceReports,
-    sources: &[Source<'_>],
-) -> PieceReports {
-    if has_range(sources) {
-        settle(views, extents, reports)
-    } else {
-        reports
-    }
-}
-
-/// Whether one of the sources is a range.
-fn has_range(sources: &[Source<'_>]) -> bool {
-    sources.iter().any(|source| source.is_range())
-}
-
-/// Sources that are open, and where their bytes lie in the recording.
-#[derive(Drop)]
-pub struct Opened<F> {
-    pub parts: Vec<Part<F>>,
-    pub extents: Vec<Extent>,
-}
-
-/// What the sources hold together. All are opened before the first is read.
-fn hold_sources<'a, R: System>(rt: &R, inputs: Inputs<'_, 'a>) -> Result<Held, RunFault<'a>> {
-    let last = LastFault::new();
-    let opened = open_sources(rt, inputs.telling.screen, inputs.sources, &last)?;
-    hold_opened(rt, opened, inputs.sources, &last)
-}
-
-/// What sources hold together that were opened. If one of them is a range, packets are put together of bytes at hand.
-fn hold_opened<'r, 'a, R: System, F: Read + Drop>(
-    rt: &'r R,
-    opened: Opened<F>,
-    sources: &[Source<'a>],
-    last: &'r LastFault,
-) -> Result<Held, RunFault<'a>> {
-    let Opened { parts, extents } = opened;
-    match gather(rt.alloc(), parts) {
-        Ok(gathered) => complete(rt, gathered, extents, sources, last),
-        Err(fault) => Err(ungathered(&fault, sources, last)),
-    }
-}
-
-/// Puts packets together of bytes at hand.
-fn complete<'r, 'a, R: System>(
-    rt: &'r R,
-    gathered: Gathered,
-    extents: Vec<Extent>,
-    sources: &[Source<'a>],
-    last: &'r LastFault,
-) -> Result<Held, RunFault<'a>> {
-    let Gathered { views, reports } = gathered;
-    let PutTogether { views, at_hand } = completed(rt, views, &extents, sources, last)?;
-    let gathered = Gathered { views, reports };
-    Ok(Held {
-        gathered,
-        at_hand,
-        extents,
-    })
-}
-
-/// Puts packets together of bytes at hand, if one of the sources is a range.
-fn completed<'r, 'a, R: System>(
-    rt: &'r R,
-    views: Views,
-    extents: &[Extent],
-    sources: &[Source<'a>],
-    last: &'r LastFault,
-) -> Result<PutTogether, RunFault<'a>> {
-    if !has_range(sources) {
-        let at_hand = AtHand::nothing(rt.alloc());
-        return Ok(PutTogether { views, at_hand });
-    }
-    match put_views_together(rt, views, extents, sources, last) {
-        Ok(together) => Ok(together),
-        Err(fault) => Err(unread_again(fault, sources, last)),
-    }
-}
-
-/// Puts packets together of bytes at hand: the files of the sources are opened once more where their bytes are asked
-/// for.
-fn put_views_together<R: System>(
-    rt: &R,
-    views: Views,
-    extents: &[Extent],
-    sources: &[Source<'_>],
-    last: &LastFault,
-) -> Result<PutTogether, SourceFault> {
-    let given = Given::of(rt.alloc(), Vec::from_slice(rt.alloc(), extents)?)?;
-    let mut reopened = Reopened::new(rt, sources, last);
-    put_together(rt.alloc(), views, given, &mut reopened)
-}
-
-/// Why bytes of the sources weren't read again.
-fn unread_again<'a>(fault: SourceFault, sources: &[Source<'a>], last: &LastFault) -> RunFault<'a> {
-    match fault {
-        SourceFault::OutOfMemory => RunFault::OutOfMemory,
-        SourceFault::ReadFault { source_number } => {
-            let fault = GatherFault {
-                part: source_number,
-                fault: PartFault::ReadFault,
-            };
-            ungathered(&fault, sources, last)
-        }
-    }
-}
-
-/// The sources, opened in their order.
-fn open_sources<'r, 'a, R: System>(
-    rt: &'r R,
-    screen: Screen,
-    sources: &[Source<'a>],
-    last: &'r LastFault,
-) -> Result<Opened<Watched<'r, R, R::File>>, RunFault<'a>> {
-    let mut opened = Opened {
-        parts: Vec::new(rt.alloc()),
-        extents: Vec::new(rt.alloc()),
-    };
-    for source in sources {
-        let (file, size) = match open_sized(rt, source.path()) {
-            Ok(opened) => opened,
-            Err(fault) => return Err(unread(source.path(), &fault)),
-        };
-        let extent = extent_of(source, size);
-        let part = part_of(source, Watched::new(rt, screen, source, file, last));
-        if opened.parts.push(part).is_err() || opened.extents.push(extent).is_err() {
-            return Err(RunFault::OutOfMemory);
-        }
-    }
-    Ok(opened)
-}
-
-/// The file at the path, opened, and the number of its bytes; 0 of what is no regular file.
-fn open_sized<R: System>(rt: &R, path: &str) -> io::Result<(File, u64)> {
-    let file = fs::open(rt, path)?;
-    let found = file.metadata()?;
-    let size = if found.is_file() { found.len() } else { 0 };
-    Ok((file, size))
-}
-
-/// Which source is at fault, and why.
-fn ungathered<'a>(fault: &GatherFault, sources: &[Source<'a>], last: &LastFault) -> RunFault<'a> {
-    let path = match sources.get(fault.part) {
-        Some(source) => source.path(),
-        None => "",
-    };
-    RunFault::of_part(path, fault.fault, last.get())
-}
-
 /// What is printed on standard output.
 #[derive(Clone, Copy)]
 enum Printed<'g, 'n> {
-    Answer(Ask, &'g Held),
+    Answer(Ask, &'g HeldBySources),
     /// A map, and the ranges of its bytes if they are asked for.
     Map {
         grid: Grid,
         with_extents: bool,
-        held: &'g Held,
+        held: &'g HeldBySources,
     },
     /// What to restore for edit units, by the index of an IndexSID.
     UnitPlan {
         index: u32,
         range: UnitRange,
-        held: &'g Held,
+        held: &'g HeldBySources,
     },
     /// A renewal, and whether it was saved.
     Renewed(&'g Renewed<'n>, bool),
@@ -625,7 +421,7 @@ fn print_lines<W: Write>(
             with_extents,
             held,
         } => {
-            let Held {
+            let HeldBySources {
                 gathered,
                 at_hand,
                 ..
@@ -635,7 +431,7 @@ fn print_lines<W: Write>(
             Ok(0)
         }
         Printed::UnitPlan { index, range, held } => {
-            let Held {
+            let HeldBySources {
                 gathered,
                 at_hand,
                 ..
@@ -665,7 +461,7 @@ fn print_answer<'a, R: System>(
     };
     let answered = print_lines(rt.alloc(), printed, form, &mut out);
     let is_flushed = answered.is_ok() && out.flush().is_ok();
-    match Exit::of_answer(answered, is_flushed) {
+    match exit_of_answer(answered, is_flushed) {
         Exit::NoMemory => Err(RunFault::OutOfMemory),
         Exit::Usage => Err(RunFault::BadUnit),
         Exit::Unwritten => Err(RunFault::Unwritten { cause: last.get() }),

@@ -7,7 +7,7 @@ use Rattle.std.specs.declared.cmp.Ordering.{Ordering}
 use Rattle.std.proofs.lemmas.Cmp.{nat_cmp_total, on_total, then_total}
 use Rattle.std.specs.Ordering.{bool_cmp}
 use Rattle.std.specs.Option.{option_cmp}
-use Rattle.mxf_klv.proofs.Tests.{ties}
+use Rattle.mxf_klv.specs.NoteOrder.{ties}
 use Rattle.mxf_klv.specs.Rising.{IsRising, IsRising-union}
 use Rattle.mxf_units.specs.Streams.{in_order as places_in_order}
 use Rattle.mxf_views.specs.Places.{place_cmp}

@@ -3,6 +3,7 @@ use Rattle.mxf_views.proofs.Common.{◌≡◌, ℕ, ◌<◌, ◌≤◌, ◌⊎�
 use Rattle.mxf_views.proofs.Common.{arith, leb-true, le-leb, ◌↔◌, ◌||◌, nat_le, nat_lt, max, ltb-true, lt-ltb}
 use Rattle.mxf_views.proofs.Common.{NoteParts, end_of, In, IsClear, SharesByte, clear_notes, In-clear_notes, IsHull}
 use Rattle.mxf_views.proofs.Common.{is_outside, cases_lt, min}
+use Rattle.mxf_views.proofs.Common.{AreReduced, has_note, reduced_with, In-reduced_with}
 use Rattle.mxf_catalogue.proofs.DisputeLaws.{SharesByte-symmetric}
 use Rattle.mxf_catalogue.specs.NoteLists.{touching}
 use Rattle.mxf_catalogue.proofs.PartLaws.{In-touching}
@@ -139,3 +140,11 @@ hull_of_all x notes start end h = record {
   low = h.low;
   high = h.high;
 }
+
+-- A new note that is added leaves no note clear that it shares a byte with.
+pub touched : (m n : NoteParts) (notes : List NoteParts) → AreReduced notes → (has_note notes n → ⊥) → In m notes
+    → SharesByte n m → In m (clear_notes (reduced_with n notes)) → ⊥
+touched m n notes r new h s k =
+    let clear = (In-clear_notes m (reduced_with n notes)).0 k in
+    let added = (In-reduced_with n n notes r new).1 (inl refl) in
+    clear.undisputed (n, added, (λ e. new (inl (subst (λ x. In x notes) (sym e) h))), s)

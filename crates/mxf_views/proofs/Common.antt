@@ -1,95 +1,73 @@
 -- The names that most proofs cite, passed on from one place. Declares nothing.
-pub use Rattle.std.proofs.Common.{Bool, Equal, Err, Global, Greater, IfErr, IfSome, IsPermutation, IsTrue, Less, List}
-pub use Rattle.std.proofs.Common.{None, Ok, OnOk, Option, Ordering, Result, Some, Vec, [], ap, append-nil, append_assoc}
-pub use Rattle.std.proofs.Common.{arith, bytes_eq, cond, count_by, drop, eq-eqb, eqb-true, false, filter, filter_map}
-pub use Rattle.std.proofs.Common.{find, flat_map, get_or, if◌then◌else◌, inl, inr, insert, is_ok, is_some, le-leb}
-pub use Rattle.std.proofs.Common.{le-ltb, leb-false, leb-true, length, length-append, lt-ltb, ltb-false, ltb-true, map}
-pub use Rattle.std.proofs.Common.{max, min, nat_cmp, nat_le, nat_lt, ne_eqb, not, option_and_then, option_map, refl}
-pub use Rattle.std.proofs.Common.{rules, set, subst, suc, sym, take, true, vec_capacity, vec_len, zero, ℕ, ◌&&◌, ◌++◌}
-pub use Rattle.std.proofs.Common.{◌+◌, ◌-◌, ◌<◌, ◌==◌, ◌^◌, ◌||◌, ◌↔◌, ◌∙◌, ◌∷◌, ◌≡◌, ◌≢◌, ◌≤◌, ◌⊎◌}
-pub use Rattle.mxf_catalogue.proofs.ApartLaws.{apart_rises, begins_above, later_differs, picked_none, picked_one}
-pub use Rattle.mxf_catalogue.proofs.ApartLaws.{picked_several}
-pub use Rattle.mxf_catalogue.proofs.ClearLaws.{IsNew, clear-laid, clear_after, clear_same, no_head}
+pub use Rattle.std.proofs.Common.{Bool, Equal, Err, Global, Greater, IfSome, Less, List, None, Ok, Option, Ordering}
+pub use Rattle.std.proofs.Common.{Result, Some, Vec, [], ap, append-nil, append_assoc, arith, cond, count_by, drop}
+pub use Rattle.std.proofs.Common.{eq-eqb, eqb-true, false, filter, filter_map, find, get_or, if◌then◌else◌, inl, inr}
+pub use Rattle.std.proofs.Common.{insert, is_ok, is_some, le-leb, le-ltb, leb-false, leb-true, length, lt-ltb}
+pub use Rattle.std.proofs.Common.{ltb-false, ltb-true, map, max, min, nat_cmp, nat_le, nat_lt, ne_eqb, not}
+pub use Rattle.std.proofs.Common.{option_and_then, option_map, refl, rules, set, subst, suc, sym, take, true}
+pub use Rattle.std.proofs.Common.{vec_capacity, vec_len, zero, ℕ, ◌&&◌, ◌++◌, ◌+◌, ◌-◌, ◌<◌, ◌==◌, ◌^◌, ◌||◌, ◌↔◌, ◌∙◌}
+pub use Rattle.std.proofs.Common.{◌∷◌, ◌≡◌, ◌≢◌, ◌≤◌, ◌⊎◌}
+pub use Rattle.mxf_catalogue.proofs.ApartLaws.{apart_rises, later_differs, picked_none, picked_one, picked_several}
+pub use Rattle.mxf_catalogue.proofs.ClearLaws.{IsNew, clear-laid, clear_after, clear_same}
 pub use Rattle.mxf_catalogue.proofs.ContentLaws.{In-union_of, IsContent-union_of, same_content}
-pub use Rattle.mxf_catalogue.proofs.DisputeLaws.{In-clear_notes, IsContent-clear_notes, IsContent-filter}
-pub use Rattle.mxf_catalogue.proofs.DisputeLaws.{clear-alone, clear_at-found}
-pub use Rattle.mxf_catalogue.proofs.DisputeLaws.{is_disputed-IsDisputed}
-pub use Rattle.mxf_catalogue.proofs.HeadLaws.{In-reduced_with, IsContent-reduced_with, same_note}
-pub use Rattle.mxf_catalogue.proofs.MovedLaws.{rising_apart}
-pub use Rattle.mxf_catalogue.proofs.PartLaws.{with_whole}
-pub use Rattle.mxf_catalogue.proofs.Places.{search_says}
+pub use Rattle.mxf_catalogue.proofs.DisputeLaws.{In-clear_notes, IsContent-clear_notes, IsContent-filter, clear-alone}
+pub use Rattle.mxf_catalogue.proofs.DisputeLaws.{clear_at-found, is_disputed-IsDisputed}
+pub use Rattle.mxf_catalogue.proofs.HeadLaws.{In-reduced_with, IsContent-reduced_with}
 pub use Rattle.mxf_catalogue.proofs.RunBounds.{covers_first, has_byte}
 pub use Rattle.mxf_catalogue.proofs.SpanLaws.{AreApart-clear_notes, AreApart-filter, AreApart-lower}
 pub use Rattle.mxf_catalogue.specs.CatalogueFile.{file_bytes}
 pub use Rattle.mxf_catalogue.specs.Content.{AreReduced, IsCatalogue, IsContent, IsLocated, has_note, reduced_union}
 pub use Rattle.mxf_catalogue.specs.Content.{reduced_with, union_of}
-pub use Rattle.mxf_catalogue.specs.Disputes.{AreApart, IsClear, SharesByte, clear_notes, disputed_notes, disputed_parts}
-pub use Rattle.mxf_catalogue.specs.Disputes.{is_disputed, lies_in}
+pub use Rattle.mxf_catalogue.specs.Disputes.{AreApart, IsClear, SharesByte, clear_notes, is_disputed, lies_in}
 pub use Rattle.mxf_catalogue.specs.NoteLists.{Covers}
-pub use Rattle.mxf_catalogue.specs.ReducedLaws.{rising-filter}
 pub use Rattle.mxf_catalogue.specs.Runs.{AreMaximal, LiesIn}
 pub use Rattle.mxf_catalogue.specs.declared.run.Run.{Run}
 pub use Rattle.mxf_klv.proofs.Counts.{count-none, count_by-cons, range-all, range-le, tally}
 pub use Rattle.mxf_klv.proofs.ListSteps.{next_changed}
-pub use Rattle.mxf_klv.proofs.Lists.{Contains-from_In, In-append, In-at, In-chosen, In-filter, In-filter_map}
-pub use Rattle.mxf_klv.proofs.Lists.{In-from_Contains, In-list_all, In-map, all-In, all_from_In, filter_all}
-pub use Rattle.mxf_klv.proofs.Lists.{filter_none, find-none, find-only, found-In, length-filter_le, length-filter_map}
-pub use Rattle.mxf_klv.proofs.Lists.{list_all-In, list_any-In, none_found}
+pub use Rattle.mxf_klv.proofs.Lists.{Contains-from_In, In-append, In-at, In-filter, In-filter_map, In-list_all, In-map}
+pub use Rattle.mxf_klv.proofs.Lists.{all-In, all_from_In, filter_all, filter_none, find-none, find-only, found-In}
+pub use Rattle.mxf_klv.proofs.Lists.{length-filter_le, length-filter_map, list_all-In, list_any-In, none_found}
 pub use Rattle.mxf_klv.proofs.NoteFilters.{all-right, tally_fits}
 pub use Rattle.mxf_klv.proofs.RisingBy.{from_lower, never_falls, one_by_key, rises-filter, rises-filter_map, rises-map}
-pub use Rattle.mxf_klv.proofs.SmallPackets.{are_packets}
-pub use Rattle.mxf_klv.proofs.Tests.{either, none_some, not-true-false, not_equal, not_true, same_bool}
+pub use Rattle.mxf_klv.proofs.Tests.{none_some, not-true-false, same_bool}
 pub use Rattle.mxf_klv.specs.Kind.{kind_of}
-pub use Rattle.mxf_klv.specs.Note.{IsNote, covered_end, end_of, greatest_end, head_note, keeps, keeps_value, note_cmp}
-pub use Rattle.mxf_klv.specs.Note.{note_of}
+pub use Rattle.mxf_klv.specs.Note.{IsNote, covered_end, end_of, greatest_end, head_note, keeps, keeps_value, note_of}
 pub use Rattle.mxf_klv.specs.NoteOrder.{note_total}
 pub use Rattle.mxf_klv.specs.Packet.{IsPacket, size_of}
 pub use Rattle.mxf_klv.specs.Parts.{NoteParts, PacketParts}
 pub use Rattle.mxf_klv.specs.Piece.{end_after, notes_from}
-pub use Rattle.mxf_klv.specs.Rising.{In, In-union, IsPlaceOf, IsRising, IsRising-union, IsRising-with_one, less_in}
+pub use Rattle.mxf_klv.specs.Rising.{In, In-union, IsRising, IsRising-union, IsRising-with_one, less_in}
 pub use Rattle.mxf_klv.specs.Rising.{same_from_members, union, with_one}
 pub use Rattle.mxf_klv.specs.declared.kinds.Kind.{Kind}
 pub use Rattle.mxf_klv.specs.declared.kinds.Status.{Status}
-pub use Rattle.mxf_klv.specs.declared.kinds.Status.TheVariants.{ClosedComplete, OpenIncomplete}
-pub use Rattle.mxf_sets.proofs.PackKinds.{is_pack_kind, kind_says, kind_tells}
+pub use Rattle.mxf_klv.specs.declared.kinds.Status.TheVariants.{OpenIncomplete}
+pub use Rattle.mxf_sets.proofs.PackKinds.{kind_says, kind_tells}
 pub use Rattle.mxf_sets.specs.Batch.{BatchParts}
-pub use Rattle.mxf_sets.specs.Identification.{identification_at}
-pub use Rattle.mxf_sets.specs.Instance.{instance_uid_at}
-unfoldable pub use Rattle.mxf_sets.specs.Items.{item_at, items_of, left_of}
+unfoldable pub use Rattle.mxf_sets.specs.Items.{items_of, left_of}
 pub use Rattle.mxf_sets.specs.Offset.{stream_offset}
 pub use Rattle.mxf_sets.specs.PackReadings.{pack_at, pack_under, part_and_status, primer_at, rip_at}
-pub use Rattle.mxf_sets.specs.Package.{package_at}
 pub use Rattle.mxf_sets.specs.PartitionPack.{IsPartitionKind, PartitionPackParts, pack_kind}
-pub use Rattle.mxf_sets.specs.Preface.{PrefaceParts, preface_at}
 pub use Rattle.mxf_sets.specs.RandomIndexPack.{RipParts}
-unfoldable pub use Rattle.mxf_sets.specs.RandomIndexPack.{entries_of}
 pub use Rattle.mxf_sets.specs.Readable.{read_as}
 pub use Rattle.mxf_sets.specs.Segment.{SegmentParts, segment_at}
-pub use Rattle.mxf_sets.specs.Storage.{storage_at}
 pub use Rattle.mxf_sets.specs.declared.pack.part.PackPart.{PackPart}
 pub use Rattle.mxf_sets.specs.declared.pack.part.PackPart.TheVariants.{Body, Footer, Header}
 pub use Rattle.mxf_sets.specs.declared.pack.random_index.RipEntry.{RipEntry}
 pub use Rattle.mxf_views.specs.Changes.{IsUnmet, SameOutside}
-pub use Rattle.mxf_views.specs.Codes.{finding, finding_cmp, finding_cmp-IsAntisymmetric, finding_total}
 pub use Rattle.mxf_views.specs.Copies.{AreSoMany, CopiesRise, CountsZone, IsBest, IsCopy, IsFilled, IsPrefaceIn}
 pub use Rattle.mxf_views.specs.Copies.{IsPreferred, IsPrimerOf, IsSetKind, IsStart, IsStartFound, best_of, better}
 pub use Rattle.mxf_views.specs.Copies.{copies_among, copy_from, covered_of, has_metadata, is_above, is_candidate}
 pub use Rattle.mxf_views.specs.Copies.{is_fill, is_filled, is_primer, is_set, is_start, preface, prefaces_of}
-pub use Rattle.mxf_views.specs.Copies.{preferred_of, rank, sets_found, sets_from, start_of, status_rank, zone_of}
+pub use Rattle.mxf_views.specs.Copies.{preferred_of, rank, sets_found, sets_from, start_of, zone_of}
 unfoldable pub use Rattle.mxf_views.specs.Copies.{copies_of, copy_of, is_fill_note, is_preface_note, is_readable_primer}
 unfoldable pub use Rattle.mxf_views.specs.Copies.{is_set_note, sets_of}
-pub use Rattle.mxf_views.specs.FindingCauses.{AtClear}
-pub use Rattle.mxf_views.specs.Findings.{are_entries_of, ends_above, findings_for, findings_of, footer_stands_at}
-pub use Rattle.mxf_views.specs.Findings.{has_other_rip, is_partial, is_unfit_rip, is_unreadable, lost_at, lost_beside}
-pub use Rattle.mxf_views.specs.Findings.{lost_by, offsets_for, reads_value}
 pub use Rattle.mxf_views.specs.Gaps.{AreGaps, gaps_from, gaps_of}
-pub use Rattle.mxf_views.specs.Identified.{is_below, is_of, unreadable_offsets, with_uid}
 pub use Rattle.mxf_views.specs.Kept.{HasRoom, IsHull, IsStartBelow, KeptParts, MeetAt, StartsRise, copies_followed}
-pub use Rattle.mxf_views.specs.Rises.{RiseBy}
 pub use Rattle.mxf_views.specs.Kept.{copy_by, followed, has_some_metadata, is_kept, is_outside, kept_among, kept_at}
 pub use Rattle.mxf_views.specs.Kept.{kept_in, kept_of, kept_partition, kept_random_index_pack, kept_segment}
 pub use Rattle.mxf_views.specs.Kept.{kept_unreadable_pack, lies_between, notes_at, nothing_kept, or_itself, outside}
 pub use Rattle.mxf_views.specs.Kept.{reaches_from, reaches_of, renewed, states_metadata, with_found, with_keyed}
+pub use Rattle.mxf_views.specs.Rises.{RiseBy}
 unfoldable pub use Rattle.mxf_views.specs.Kept.{can_bring_start}
 pub use Rattle.mxf_views.specs.KeptAbove.{EndsBy, IsOfNone, IsStarting, IsUnionAt, clear_from, counted_above}
 pub use Rattle.mxf_views.specs.Labels.{is_in_copy, is_in_zone, primer_there}
@@ -110,53 +88,31 @@ pub use Rattle.mxf_views.specs.Reading.{taken, whole_copy}
 pub use Rattle.mxf_views.specs.Readings.{IsReadAs, IsReadable}
 pub use Rattle.mxf_views.specs.Records.{value_as}
 unfoldable pub use Rattle.mxf_views.specs.Records.{read_pack, read_rip, read_segment}
-pub use Rattle.mxf_views.specs.References.{found_among, reads_uid}
-unfoldable pub use Rattle.mxf_views.specs.References.{has_uid}
-pub use Rattle.mxf_views.specs.Resolved.{ResolvedParts, packages_of, resolved_by, resolved_from, resolved_of}
-pub use Rattle.mxf_views.specs.Resolved.{storage_among}
-unfoldable pub use Rattle.mxf_views.specs.Resolved.{preface_in, storage_in}
 pub use Rattle.mxf_views.specs.Spans.{is_in_one, is_in_span, sizes}
 pub use Rattle.mxf_views.specs.Sums.{AreInRange, AreMarks, SumsParts}
-pub use Rattle.mxf_views.specs.Targets.{fits, is_readable, refs_of, target_among}
-unfoldable pub use Rattle.mxf_views.specs.Targets.{target_at, target_of}
 pub use Rattle.mxf_views.specs.WellFormed.{Agree, EndsWithFooter, EndsWithRandomIndex, HasMetadata, IsFill}
 pub use Rattle.mxf_views.specs.WellFormed.{IsFooterPack, IsHeaderPack, IsPartitionPack, IsPrimerPack, IsRandomIndexPack}
 pub use Rattle.mxf_views.specs.WellFormed.{IsWellFormed, entry_of, is_readable_as, total_of}
 pub use Rattle.mxf_views.specs.WholeFile.{HasCopiesOf, HasIndexOf, HasPartitionsOf}
-pub use Rattle.mxf_views.specs.WorkedFiles.{numbers, pack, primer}
 pub use Rattle.mxf_views.specs.declared.chain.Chain.TheVariants.{Broken, Whole}
 pub use Rattle.mxf_views.specs.declared.chain.Link.{Link}
 pub use Rattle.mxf_views.specs.declared.chain.Link.TheVariants.{First, Held, Missing, Skips, Wrong}
 pub use Rattle.mxf_views.specs.declared.copy.CopyInfo.{CopyInfo}
-pub use Rattle.mxf_views.specs.declared.finding.Code.{Code}
-pub use Rattle.mxf_views.specs.declared.finding.Code.TheVariants.{F01, F03, F04, F09, F12, F13}
-pub use Rattle.mxf_views.specs.declared.finding.Finding.{Finding}
 pub use Rattle.mxf_views.specs.declared.index.place.StreamPlace.{StreamPlace}
 pub use Rattle.mxf_views.specs.declared.index.place.Place.{Place}
 pub use Rattle.mxf_views.specs.declared.index.place.Place.TheVariants.{Ambiguous, At, NotIndexed}
 pub use Rattle.mxf_views.specs.declared.kept.sums.Mark.{Mark}
 pub use Rattle.mxf_views.specs.declared.random_index.RipView.TheVariants.{Absent, One}
-pub use Rattle.mxf_views.specs.declared.reference.Found.{Found}
-pub use Rattle.mxf_views.specs.declared.reference.Found.TheVariants.{Several}
-pub use Rattle.mxf_views.specs.declared.reference.target.Ref.{Ref}
-pub use Rattle.mxf_views.specs.declared.reference.target.Target.{Target}
-pub use Rattle.mxf_views.specs.declared.reference.target.Target.TheVariants.{Unreadable}
-pub use Rattle.mxf_views.specs.declared.reference.target.Wanted.{Wanted}
-pub use Rattle.mxf_views.specs.declared.reference.target.Wanted.TheVariants.{Identification, Package, Storage}
 pub use Rattle.std.proofs.lemmas.Bool.{and_cases, and_from, and_parts, cases_lt, cases_order, false_from_ne_true}
-pub use Rattle.std.proofs.lemmas.Bool.{false≢true, lt-leb, or_cases, or_parts}
+pub use Rattle.std.proofs.lemmas.Bool.{lt-leb, or_cases, or_parts}
 pub use Rattle.std.proofs.lemmas.Cmp.{nat_cmp_total, tied_itself}
 pub use Rattle.std.proofs.lemmas.Fn.{filter_same}
-pub use Rattle.std.proofs.lemmas.List.{length-map, map-append}
+pub use Rattle.std.proofs.lemmas.List.{length-map}
 pub use Rattle.std.proofs.lemmas.List.Elements.{filter-append}
-pub use Rattle.std.proofs.lemmas.List.Sorted.{Contains-permutation, answers_always}
 pub use Rattle.std.proofs.lemmas.List.Sums.{count_by-le-length, length-filter, sum_by-append, sum_by-cons}
-pub use Rattle.std.proofs.lemmas.Option.{same_Some}
-pub use Rattle.std.proofs.lemmas.Slice.Eq.{bytes_eq-Decides}
 pub use Rattle.std.specs.Bool.{then_some}
 pub use Rattle.std.specs.FinSet.{nat_cmp-IsAntisymmetric}
 pub use Rattle.std.specs.List.{AllByRecursion, AllWithin, cons_option, list_all, list_any, range_with_len}
 pub use Rattle.std.specs.List.Sorted.{IsNonDecreasing, IsNonDecreasingBy}
 pub use Rattle.std.specs.Option.{option_map_or}
-pub use Rattle.std.specs.Ordering.{ordering_index}
 pub use Rattle.std.specs.Result.{result_ok}

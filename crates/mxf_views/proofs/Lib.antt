@@ -3,7 +3,6 @@ pub mod AboveKept
 pub mod AboveLaws
 pub mod AppendLaws
 pub mod BestLaws
-pub mod CauseLaws
 pub mod ChainLaws
 pub mod ClearChanges
 pub mod Common
@@ -11,15 +10,7 @@ pub mod CopyChanges
 pub mod CopyLaws
 pub mod CopyUpdates
 pub mod FileBytes
-pub mod FindingLaws
-pub mod FindingMembers
-pub mod FoundLaws
 pub mod GapsLaws
-pub mod HeaderCauses
-pub mod GoodFiles
-pub mod IdentifiedLaws
-pub mod IndexCauses
-pub mod KeptFindings
 pub mod KeptItems
 pub mod KeptLaws
 pub mod KeptNoteLaws
@@ -34,7 +25,6 @@ pub mod LaidPartitions
 pub mod LaidRandomIndex
 pub mod MarkLaws
 pub mod NumbersLaws
-pub mod OnlyFound
 pub mod PartitionLaws
 pub mod PartitionSearch
 pub mod PlaceLaws
@@ -43,14 +33,10 @@ pub mod PrimerLaws
 pub mod RandomIndexLaws
 pub mod ReachLaws
 pub mod ReadingLaws
-pub mod RefusedLaws
-pub mod ResolvedLaws
 pub mod RisingPartitions
 pub mod RunLaws
-pub mod SameViewsLaws
 pub mod SegmentLaws
 pub mod SetItemLaws
-pub mod SmallFiles
 pub mod SpanCounts
 pub mod SpanGaps
 pub mod StartLaws
@@ -58,4 +44,3 @@ pub mod StartWalk
 pub mod StartsOrder
 pub mod SumLaws
 pub mod TallyLaws
-pub mod UnreadableLaws

@@ -1,17 +1,13 @@
 -- What is said of partitions by their numbers, and of the partitions themselves, by definitions that look at no label.
 use Rattle.mxf_views.proofs.Common.{◌≡◌, ◌∙◌, ℕ, Bool, true, false, cond, List, [], ◌∷◌, Option, None, Some, ap, refl}
 use Rattle.mxf_views.proofs.Common.{sym, ◌==◌, ◌&&◌, ◌||◌, filter, find, if◌then◌else◌, list_any, map, nat_le, not}
-use Rattle.mxf_views.proofs.Common.{option_map, NoteParts, One, PartitionParts, RipEntry, RipParts, are_entries_of}
-use Rattle.mxf_views.proofs.Common.{footer_stands_at, is_footer, lies_between, partitions_of, rip_in, rip_view_among}
-use Rattle.mxf_views.proofs.Common.{rip_view_by, standing_of, stands_at, stands_between, ◌+◌, count_by, cons_option}
-use Rattle.mxf_views.proofs.Common.{count_by-cons, eqb-true, filter_map, found-In, link_of, list_all, tally}
-use Rattle.mxf_views.specs.Findings.{is_partition_cause}
+use Rattle.mxf_views.proofs.Common.{option_map, NoteParts, One, PartitionParts, RipEntry, RipParts, lies_between}
+use Rattle.mxf_views.proofs.Common.{rip_in, rip_view_among, rip_view_by, standing_of, stands_at, stands_between, ◌+◌}
+use Rattle.mxf_views.proofs.Common.{count_by, cons_option, count_by-cons, eqb-true, filter_map, found-In, link_of}
+use Rattle.mxf_views.proofs.Common.{list_all, tally}
 use Rattle.mxf_views.specs.Partitions.{in_numbers, link_by}
 use Rattle.mxf_views.specs.RandomIndex.{standing_by, standings_among}
 use Rattle.mxf_views.specs.declared.chain.Link.TheVariants.{First, Held, Missing, Skips, Wrong}
-use Rattle.mxf_views.specs.declared.finding.Code.{Code}
-use Rattle.mxf_views.specs.declared.finding.Code.TheVariants.{F05, F06, F07, F08}
-use Rattle.mxf_views.proofs.PartitionSearch.{footer_found, footer_lacked}
 
 pub any_mapped : {A B : Type 0} (t : B → Bool) (f : A → B) (xs : List A)
     → list_any t (map f xs) ≡ list_any (λ x. t (f x)) xs
@@ -86,62 +82,7 @@ link_there ps o q e =
           ∙ ap (λ (x : ℕ). Some (link_by ps x p.pack.numbers.previous_partition)) (sym here))
     ] refl e
 
--- ---- findings
-
-pub cause_in_numbers : (code : Code) (ps : List PartitionParts) (p : PartitionParts)
-    → is_partition_cause code ps (in_numbers p) ≡ is_partition_cause code ps p
-cause_in_numbers F05 ps p = refl
-cause_in_numbers F06 ps p = refl
-cause_in_numbers F07 ps p = refl
-cause_in_numbers F08 ps p = refl
-cause_in_numbers _ ps p = refl
-
-pub causes_in_numbers : (code : Code) (all ps : List PartitionParts)
-    → map (λ p. p.offset) (filter (is_partition_cause code all) (map in_numbers ps))
-    ≡ map (λ p. p.offset) (filter (is_partition_cause code all) ps)
-causes_in_numbers code all [] = refl
-causes_in_numbers code all (p ∷ ps) =
-    let ih = causes_in_numbers code all ps in
-    let test = is_partition_cause code all in
-    let offset = λ (q : PartitionParts). q.offset in
-    ap (λ b. map offset (cond b (in_numbers p ∷ filter test (map in_numbers ps)) (filter test (map in_numbers ps))))
-    (cause_in_numbers code all p)
-    ∙ elim (test p) as (λ b. map offset (cond b (in_numbers p ∷ filter test (map in_numbers ps))
-    (filter test (map in_numbers ps))) ≡ map offset (cond b (p ∷ filter test ps) (filter test ps))) [
-      | true ↦ ap (λ l. p.offset ∷ l) ih
-      | false ↦ ih
-    ]
-
-pub footer_there : (notes : List NoteParts) (o : ℕ) (q : PartitionParts)
-    → Some q ≡ option_map in_numbers (find (λ p. p.offset == o) (partitions_of notes))
-    → is_footer q.pack.part ≡ footer_stands_at o (partitions_of notes)
-footer_there notes o q e =
-    let at = λ (p : PartitionParts). p.offset == o in
-    elim (find at (partitions_of notes)) as (λ f. find at (partitions_of notes) ≡ f → Some q ≡ option_map in_numbers f
-    → is_footer q.pack.part ≡ footer_stands_at o (partitions_of notes)) [
-      | None ↦ λ f u. absurd cc
-      | Some p ↦ λ f u. (
-          let same : q ≡ in_numbers p = cc (u) in
-          ap (λ (x : PartitionParts). is_footer x.pack.part) same ∙ sym (footer_found notes o p f))
-    ] refl e
-
-pub footer_not_there : (ps : List PartitionParts) (o : ℕ)
-    → None ≡ option_map in_numbers (find (λ p. p.offset == o) ps) → false ≡ footer_stands_at o ps
-footer_not_there ps o e =
-    let at = λ (p : PartitionParts). p.offset == o in
-    elim (find at ps) as (λ f. find at ps ≡ f → None ≡ option_map in_numbers f → false ≡ footer_stands_at o ps) [
-      | None ↦ λ f u. sym (footer_lacked ps o f)
-      | Some p ↦ λ f u. absurd cc
-    ] refl e
-
 -- ---- random index packs
-
-pub entries_in_numbers : (ps : List PartitionParts) (es : List RipEntry)
-    → are_entries_of (map in_numbers ps) es ≡ are_entries_of ps es
-entries_in_numbers [] es = refl
-entries_in_numbers (p ∷ ps) [] = refl
-entries_in_numbers (p ∷ ps) (e ∷ es) =
-    ap (λ b. (e.body_sid == p.pack.numbers.body_sid && e.offset == p.offset) && b) (entries_in_numbers ps es)
 
 standing_in_numbers : (ps : List PartitionParts) (e : RipEntry)
     → standing_of (map in_numbers ps) e ≡ standing_of ps e

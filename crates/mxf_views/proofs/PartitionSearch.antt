@@ -1,10 +1,9 @@
 -- Partitions found by search among the clear notes.
 use Rattle.mxf_views.proofs.Common.{◌≡◌, ℕ, true, false, List, Option, Some, None, refl, sym, ap, ◌∙◌, eqb-true, eq-eqb}
-use Rattle.mxf_views.proofs.Common.{◌&&◌, ◌==◌, find, filter, is_some, option_and_then, and_from, false_from_ne_true}
-use Rattle.mxf_views.proofs.Common.{and_parts, NoteParts, In, clear_notes, CopyInfo}
-use Rattle.mxf_views.proofs.Common.{copies_of, copy_of, has_metadata, PartitionParts, is_footer, partition_at}
-use Rattle.mxf_views.proofs.Common.{partitions_of, In-filter, In-map, list_any-In, find-none, find-only, found-In}
-use Rattle.mxf_views.proofs.Common.{none_found, In-filter_map, same_bool, footer_stands_at, stands_at}
+use Rattle.mxf_views.proofs.Common.{◌==◌, find, filter, is_some, option_and_then, false_from_ne_true, NoteParts, In}
+use Rattle.mxf_views.proofs.Common.{clear_notes, CopyInfo, copies_of, copy_of, has_metadata, PartitionParts}
+use Rattle.mxf_views.proofs.Common.{partition_at, partitions_of, In-filter, In-map, list_any-In, find-none, find-only}
+use Rattle.mxf_views.proofs.Common.{found-In, none_found, In-filter_map, stands_at}
 use Rattle.mxf_views.proofs.CopyLaws.{copy_there}
 use Rattle.mxf_views.proofs.KeptItems.{kept_found, kept_there, one_kept}
 use Rattle.mxf_views.proofs.PartitionLaws.{offset-partition_at}
@@ -61,31 +60,6 @@ pub stands_if_found : (ps : List PartitionParts) (o : ℕ) (found : Option Parti
     → found ≡ find (λ p. p.offset == o) ps → is_some found ≡ stands_at o ps
 stands_if_found ps o None e = sym (stands_lacked ps o (sym e))
 stands_if_found ps o (Some p) e = sym (stands_found ps o p (sym e))
-
-pub footer_found : (notes : List NoteParts) (o : ℕ) (p : PartitionParts)
-    → find (λ p. p.offset == o) (partitions_of notes) ≡ Some p
-    → footer_stands_at o (partitions_of notes) ≡ is_footer p.pack.part
-footer_found notes o p e =
-    let ps = partitions_of notes in
-    let f = found-In (λ (p : PartitionParts). p.offset == o) ps p e in
-    let test = λ (q : PartitionParts). is_footer q.pack.part && q.offset == o in
-    same_bool (footer_stands_at o ps) (is_footer p.pack.part)
-    (λ t.
-    let s = (list_any-In test ps).0 t in
-    let b = and_parts (is_footer s.0.pack.part) (s.0.offset == o) s.2 in
-    let same : s.0 ≡ p = one_partition notes s.0 p s.1 f.0 (eqb-true s.0.offset o b.1
-    ∙ sym (eqb-true p.offset o f.1)) in
-    sym (ap (λ (q : PartitionParts). is_footer q.pack.part) same) ∙ b.0)
-    (λ t. (list_any-In test ps).1 (p, f.0, and_from (is_footer p.pack.part) (p.offset == o) t f.1))
-
-pub footer_lacked : (ps : List PartitionParts) (o : ℕ) → find (λ p. p.offset == o) ps ≡ None
-    → footer_stands_at o ps ≡ false
-footer_lacked ps o e =
-    let test = λ (q : PartitionParts). is_footer q.pack.part && q.offset == o in
-    false_from_ne_true (footer_stands_at o ps) (λ t.
-    let s = (list_any-In test ps).0 t in
-    none_found (λ (p : PartitionParts). p.offset == o) ps s.0 e s.1 (and_parts (is_footer s.0.pack.part)
-    (s.0.offset == o) s.2).1)
 
 -- ---- copies
 

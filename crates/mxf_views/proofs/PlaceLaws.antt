@@ -11,7 +11,8 @@ use Rattle.std.specs.Cmp.{IsTotalOrder, nat_cmp_is}
 use Rattle.std.specs.FinSet.{IsAntisymmetric}
 use Rattle.std.proofs.lemmas.Cmp.{on_total, then_total}
 use Rattle.mxf_views.specs.Places.{AreTwoLeast, IsBelow, IsGiven, IsOnlyPlace, IsPlace, in_stream, place_in}
-use Rattle.mxf_klv.proofs.Tests.{lt_from_less, ties}
+use Rattle.mxf_klv.proofs.Tests.{lt_from_less}
+use Rattle.mxf_klv.specs.NoteOrder.{ties}
 
 pub place_total : IsTotalOrder place_cmp
 place_total = then_total (on_total (λ p. p.body_sid) nat_cmp_total) (on_total (λ p. p.offset) nat_cmp_total)

@@ -9,7 +9,7 @@ use std::marker::Model;
 
 /// The clear notes of a catalogue that are left, at the keys of what is kept of them, which are file offsets.
 #[derive(Debug, Drop)]
-pub(crate) struct NotesAt<'a, T: Keyed> {
+pub struct NotesAt<'a, T: Keyed> {
     catalogue: &'a Catalogue,
     kept: &'a [T],
 }
@@ -25,7 +25,7 @@ impl<'a, T: Keyed> Model for NotesAt<'a, T> {
 }
 
 impl<'a, T: Keyed> NotesAt<'a, T> {
-    pub fn of(catalogue: &'a Catalogue, kept: &'a [T]) -> NotesAt<'a, T>
+    pub(crate) fn of(catalogue: &'a Catalogue, kept: &'a [T]) -> NotesAt<'a, T>
         ensures { result ≡ notes_at T.key catalogue.now kept.now }
     {
         NotesAt { catalogue, kept }

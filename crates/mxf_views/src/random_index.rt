@@ -166,14 +166,14 @@ fn standing_among(partitions: &[Partition], entry: &RipEntry) -> Standing
 
 /// Whether the packet has a random index pack.
 #[tactic(auto, unfolding(crate::specs::RandomIndex::is_rip_note))]
-pub(crate) fn is_rip(note: &Note) -> bool
+pub fn is_rip(note: &Note) -> bool
     ensures { result ≡ is_rip_note note.now }
 {
     note.kind() == Kind::Rip
 }
 
 /// The random index pack that the value of a note is, if it is kept and is one.
-pub(crate) fn read_rip(note: &Note) -> Option<Rip<'_>>
+pub fn read_rip(note: &Note) -> Option<Rip<'_>>
     ensures rip { result ≡ rip_in note.now }
     ensures bound { IfSome result (λ rip. length rip.entries < 2 ^ 64) }
 {

@@ -14,23 +14,18 @@ ghost use Rattle.mxf_views.specs.Partitions.{in_numbers, is_footer, is_greatest,
 ghost use Rattle.mxf_views.specs.Gaps.{gaps_of};
 ghost use Rattle.mxf_views.specs.Copies.{copies_of, preferred_of, sets_of};
 ghost use Rattle.mxf_views.specs.Labels.{is_in_copy, primer_for, primer_of, primer_there};
-ghost use Rattle.mxf_views.specs.References.{found_in};
-ghost use Rattle.mxf_views.specs.Resolved.{resolved_of};
 ghost use Rattle.std.specs.Prelude.{◌≤◌};
 ghost use Rattle.std.specs.Result.{OkIff};
 ghost use Rattle.mxf_views.specs.Places.{greatest_unit, place_of, segments_of, without_entries};
 ghost use Rattle.mxf_views.specs.RandomIndex.{rips_of};
 ghost use Rattle.mxf_views.specs.RandomIndexView.{rip_view_of};
-ghost use Rattle.mxf_views.specs.Findings.{findings_of};
 ghost use Rattle.mxf_views.specs.Kept.{MeetAt};
 ghost use Rattle.mxf_views.specs.Rises.{RiseBy};
 ghost use Rattle.mxf_views.specs.Headline.{IsTheRun};
-ghost use Rattle.mxf_views.specs.SameViews.{SameViews};
 
 use crate::chain::{Chain, Link, link_by};
 use crate::copy::sets::{Sets, no_sets, sets_of_copy};
 use crate::copy::{CopyInfo, preferred, read_primer};
-use crate::finding::Findings;
 use crate::gap::Gaps;
 use crate::index::place::{BadUnit, GREATEST_UNIT, Place};
 use crate::index::{SegmentAt, SegmentInNumbers, Segments, segment_there};
@@ -42,15 +37,12 @@ use crate::kept::reaches::copy_around;
 use crate::partition::{Partition, PartitionAt, Partitions, part_count};
 use crate::placed::NotesAt;
 use crate::random_index::RipView;
-use crate::reference::resolved::{Resolved, preface_among, resolved_by};
-use crate::reference::{Found, find_among};
 use mxf_catalogue::{AddFault, Catalogue, Change, MergeFault, Semilattice};
 use mxf_klv::{Note, OutOfMemory};
 use mxf_sets::{PackPart, Primer};
 use std::alloc::Global;
 use std::marker::Model;
 use thiserror::Error;
-use uuid::Uuid;
 
 /// A catalogue, with the views of its notes: what the packets that are held say of the file.
 ///
@@ -254,7 +246,7 @@ impl Views {
     }
 
     /// How a partition at a file offset names the one before it, by the offset that it states for that.
-    pub(crate) fn link_by(&self, offset: u64, previous: u64) -> Link
+    pub fn link_by(&self, offset: u64, previous: u64) -> Link
         ensures { result ≡ link_by (partitions_of self.now) offset previous }
     {
         link_by(self.partitions_in_numbers(), offset, previous)
@@ -330,7 +322,7 @@ impl Views {
     }
 
     /// The clear partition packs that aren't readable, rising.
-    pub(crate) fn unreadable_packs(&self) -> NotesAt<'_, u64>
+    pub fn unreadable_packs(&self) -> NotesAt<'_, u64>
         ensures { result ≡ filter (λ n. not (is_no_unreadable_pack n)) (clear_notes self.now) }
     {
         NotesAt::of(&self.catalogue, &self.kept.unreadable_packs)
@@ -418,27 +410,6 @@ impl Views {
         read_primer(note)
     }
 
-    /// What is found of an instance identifier among the sets of the copy of a partition.
-    pub fn find(&self, partition: u64, uid: Uuid) -> Found
-        ensures { result ≡ found_in self.now partition uid }
-    {
-        find_among(self.sets(partition), &uid)
-    }
-
-    /// What the Preface of the preferred copy names; None without such a copy. It takes memory.
-    pub fn resolved(&self, alloc: Global) -> Result<Option<Resolved>, OutOfMemory>
-        ensures { IfOk result (λ r. r ≡ resolved_of self.now) }
-    {
-        let Some(copy) = self.preferred() else {
-            return Ok(None);
-        };
-        let Some(note) = preface_among(self.sets(copy.partition)) else {
-            return Ok(None);
-        };
-        let resolved = resolved_by(alloc, self, copy.partition, note)?;
-        Ok(Some(resolved))
-    }
-
     /// The index table segments, rising.
     #[tactic(auto, unfolding(crate::specs::Places::segments_of))]
     pub fn segments(&self) -> Segments<'_>
@@ -486,24 +457,12 @@ impl Views {
     }
 
     /// The clear random index packs, readable or not, rising.
-    pub(crate) fn random_index_packs(&self) -> NotesAt<'_, u64>
+    pub fn random_index_packs(&self) -> NotesAt<'_, u64>
         ensures { result ≡ rips_of self.now }
     {
         NotesAt::of(&self.catalogue, &self.kept.random_index_packs)
     }
-
-    /// What the notes show to be wrong or missing, by file offset and then code, none twice. It takes memory.
-    pub fn findings(&self, alloc: Global) -> Result<Findings, OutOfMemory>
-        ensures { IfOk result (λ f. f ≡ findings_of self.now) }
-    {
-        Findings::of(alloc, self)
-    }
 }
-
-/// A law of [`Views`]: all views but the gaps and the findings are those of the clear notes.
-pub fn views_let_go_of_disputed_notes()
-    ensures { (a b : List NoteParts) → clear_notes a ≡ clear_notes b → SameViews a b }
-{}
 
 /// A law of [`Views::add`]: no note that shares a byte with an added new one is clear.
 pub fn added_notes_dispute_what_they_touch()

@@ -5,7 +5,7 @@ ghost use Rattle.mxf_klv.specs.PieceReading.{packets_in, rest_in};
 ghost use Rattle.mxf_views.specs.WellFormed.{IsWellFormed, file_bytes};
 ghost use Rattle.mxf_views.specs.WholeFile.{AreNotesOf, HasCopiesOf, HasIndexOf, HasPartitionsOf, HasRandomIndexOf};
 
-use mxf_klv::{each_piece_is_read_one_way, packets_are_read_as_written};
+use mxf_klv::laws::{each_piece_is_read_one_way, packets_are_read_as_written};
 
 /// A law of [`Views`](crate::Views): if a content is the notes of a well-formed file, there is no dispute and no gap,
 /// and the partitions, the link of each and their chain are those of the reading from the front.

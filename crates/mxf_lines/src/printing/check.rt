@@ -2,19 +2,18 @@
 ghost use Rattle.std.specs.Prelude.{◌≡◌, IfOk, length, flat_map};
 ghost use Rattle.std.specs.List.{list_all};
 ghost use Rattle.mxf_klv.specs.Written.{Puts};
-ghost use Rattle.mxf_views.specs.Findings.{findings_of};
+ghost use Rattle.mxf_findings.specs.Findings.{findings_of};
 ghost use Rattle.mxf_lines.specs.Answering.{check_lines, check_status, finding_lines, is_end, stop_lines};
 ghost use Rattle.mxf_lines.specs.FindingLines.{count_line, finding_line, stop_line};
 ghost use Rattle.mxf_lines.specs.Printing.{Prints};
 
 use super::AnswerFault;
 use super::line::{source_of, write_stop};
-use super::lines::{
-    Each, FieldWriter, Line, Lines, Printer, Series, Then, print_with_status, take_first,
-};
+use super::lines::{Each, Line, Lines, Printer, Series, Then, print_with_status, take_first};
+use mxf_findings::{Finding, Findings, findings};
+use mxf_forms::FieldWriter;
 use mxf_klv::Stop;
 use mxf_read::{Gathered, PieceReport};
-use mxf_views::{Finding, Findings};
 use std::alloc::AllocError;
 use std::io::Write;
 
@@ -32,7 +31,7 @@ pub fn print_checked<W: Write>(
         status ≡ check_status gathered.now.reports (findings_of gathered.now.views)) }
 {
     let reports = gathered.reports.as_slice();
-    let findings = gathered.views.findings(printer.alloc())?;
+    let findings = findings(printer.alloc(), &gathered.views)?;
     let status = u8::from(!(all_end(reports) && findings.len() == 0));
     let lines = Then(Each(StopLines(reports)), &findings);
     print_with_status(printer, writer, lines, status)

@@ -8,6 +8,7 @@ use super::line::{NoteLines, PartitionLines, PreferredLine};
 use super::lines::{Each, Lines, Printer, Then};
 use super::references::ReferenceLines;
 use super::sets::SetLines;
+use mxf_findings::resolved;
 use mxf_read::Gathered;
 use mxf_views::Views;
 use std::io::Write;
@@ -27,7 +28,7 @@ impl<'a> Lines for &'a Views {
 
     fn print_to<W: Write>(self, printer: &mut Printer, writer: &mut W) -> Result<(), AnswerFault> {
         // Out of memory comes here before the first line.
-        let resolved = self.resolved(printer.alloc())?;
+        let resolved = resolved(printer.alloc(), self)?;
         let catalogue = self.catalogue();
         let references = ReferenceLines {
             catalogue,

@@ -6,14 +6,15 @@ ghost use Rattle.mxf_lines.specs.FindLines.{find_lines, find_status, found_line,
 ghost use Rattle.mxf_lines.specs.FindLines.{match_fields};
 ghost use Rattle.mxf_lines.specs.FindLines.{is_found, recording_word, search_lines, searches_lines, unknown_line};
 ghost use Rattle.std.specs.Fmt.{signed_decimal};
-ghost use Rattle.mxf_lines.specs.Forms.{digits};
+ghost use Rattle.mxf_forms.specs.Forms.{digits};
 ghost use Rattle.mxf_lines.specs.Lines.{lines_where};
 ghost use Rattle.mxf_lines.specs.Printing.{Prints};
-ghost use Rattle.mxf_lines.specs.Writing.{with_field, with_fields};
+ghost use Rattle.mxf_forms.specs.Writing.{with_field, with_fields};
 
-use super::lines::{Each, FieldWriter, Line, Printer, Series, Then, print_with_status};
-use super::{AnswerFault, Form};
+use super::AnswerFault;
+use super::lines::{Each, Line, Printer, Series, Then, print_with_status};
 use mxf_find::{Match, Ranked, Ranking};
+use mxf_forms::{FieldWriter, Form};
 use std::alloc::{AllocError, Global};
 use std::io::Write;
 use std::marker::Model;

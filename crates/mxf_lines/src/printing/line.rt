@@ -8,10 +8,10 @@ mod piece;
 mod record;
 
 use super::AnswerFault;
-use super::hexadecimal::HexDigits;
-use super::lines::{Each, FieldWriter, Line, Lines, Printer, Series, Then};
+use super::lines::{Each, Line, Lines, Printer, Series, Then};
 pub use copy::PreferredLine;
 pub use item::ItemLine;
+use mxf_forms::{FieldWriter, HexDigits};
 pub use note::{NoteLines, write_note_fields};
 pub use partition::PartitionLines;
 pub use piece::{JoinLine, source_of, write_stop};

@@ -1,15 +1,13 @@
 //! What is printed as lines.
 ghost use Rattle.std.specs.Prelude.{◌≡◌, ℕ, IfOk, List, OnOk};
 ghost use Rattle.mxf_klv.specs.Written.{Puts};
-ghost use Rattle.mxf_lines.specs.Forms.{PrintedLine};
+ghost use Rattle.mxf_forms.specs.Forms.{PrintedLine};
 ghost use Rattle.mxf_lines.specs.Printing.{Gives, Prints};
 
-mod field_writer;
 mod joined;
 mod printer;
 
 use super::AnswerFault;
-pub use field_writer::FieldWriter;
 pub use joined::{Each, Then, take_first};
 pub use printer::{Line, Printer};
 use std::io::Write;

@@ -9,8 +9,10 @@ ghost use Rattle.mxf_lines.specs.MapLines.{AreToldExtents, extent_line, map_line
 ghost use Rattle.mxf_lines.specs.MapLines.{row_width, rows_of, share_text};
 ghost use Rattle.mxf_lines.specs.Printing.{Prints};
 
-use super::lines::{Each, FieldWriter, Line, Lines, Printer, Series, Then};
-use super::{AnswerFault, Form};
+use super::AnswerFault;
+use super::lines::{Each, Line, Lines, Printer, Series, Then};
+use mxf_asked::Grid;
+use mxf_forms::{FieldWriter, Form};
 use mxf_klv::OutOfMemory;
 use mxf_places::AtHand;
 use mxf_map::{Map, MapExtent, Mark, extents};
@@ -48,29 +50,6 @@ impl fmt::Display for ShareText {
 
     fn fmt<W: fmt::Write>(&self, f: &mut fmt::Formatter<W>) -> fmt::Result {
         write!(f, "{}.{}", self.0 / 10, self.0 % 10)
-    }
-}
-
-/// How many cells a picture has at most: its rows, and the cells in each.
-#[derive(Clone, Copy, Debug, PartialEq, Eq)]
-pub struct Grid {
-    columns: u32,
-    rows: u32,
-
-    ghost some_columns: { 1 ≤ columns },
-    ghost some_rows: { 1 ≤ rows },
-}
-
-impl Grid {
-    /// This number of cells in a row, and of rows; `None` if either is 0.
-    pub fn new(columns: u32, rows: u32) -> Option<Grid>
-        ensures some { IfSome result (λ g. (g.columns ≡ columns) × (g.rows ≡ rows)) }
-        ensures none { IfNone result ((columns ≡ 0) ⊎ (rows ≡ 0)) }
-    {
-        if columns == 0 || rows == 0 {
-            return None;
-        }
-        Some(Grid { columns, rows })
     }
 }
 
@@ -127,10 +106,11 @@ pub fn print_map<W: Write>(
         × IsMap (record { notes = views.now; at = at_hand.now }) (grid.columns * grid.rows) m
         × AreToldExtents (record { notes = views.now; at = at_hand.now }) m.end with_extents extents) }
 {
-    let cells = u64::from(grid.columns) * u64::from(grid.rows);
+    let columns = grid.columns();
+    let cells = u64::from(columns) * u64::from(grid.rows());
     let map = Map::of(alloc, views, at_hand, cells)?;
     let extents = told_extents(alloc, views, at_hand, map.end(), with_extents)?;
-    print_picture(alloc, &map, &extents, grid.columns, form, writer)
+    print_picture(alloc, &map, &extents, columns, form, writer)
 }
 
 /// The ranges of bytes below the end of a map, in bytes, that stand alike, if they are asked for.

@@ -4,7 +4,8 @@ ghost use Rattle.mxf_lines.specs.PlanLines.{disputed_place_line, disputes_line, 
 ghost use Rattle.mxf_lines.specs.PlanLines.{plan_lines, planned_line, restore_line};
 
 use super::AnswerFault;
-use super::lines::{Each, FieldWriter, Line, Lines, Printer, Then};
+use super::lines::{Each, Line, Lines, Printer, Then};
+use mxf_forms::FieldWriter;
 use mxf_restore::{DisputedPlace, Disputes, Order, Plan};
 use std::alloc::AllocError;
 use std::io::Write;

@@ -6,9 +6,10 @@ ghost use Rattle.mxf_lines.specs.Printing.{Prints};
 ghost use Rattle.mxf_lines.specs.RenewalLines.{dropped_line, renewal_lines, renewed_line, renewed_name};
 ghost use Rattle.mxf_lines.specs.RenewalLines.{renewed_words};
 
+use super::AnswerFault;
 use super::line::write_note_fields;
-use super::lines::{Each, FieldWriter, Line, Lines, Printer, Then};
-use super::{AnswerFault, Form};
+use super::lines::{Each, Line, Lines, Printer, Then};
+use mxf_forms::{FieldWriter, Form};
 use mxf_verify::{DroppedNote, Renewed};
 use std::alloc::{AllocError, Global};
 use std::io::Write;

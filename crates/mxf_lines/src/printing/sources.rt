@@ -1,17 +1,17 @@
 //! Sources beside each other, and their lines.
 ghost use Rattle.std.specs.Prelude.{◌≡◌, ◌+◌, ◌^◌, ◌<◌, IfOk, codes, length, map, string_bytes};
 ghost use Rattle.mxf_klv.specs.Written.{Puts, Writes};
-ghost use Rattle.mxf_lines.specs.Forms.{field};
+ghost use Rattle.mxf_forms.specs.Forms.{field};
 ghost use Rattle.mxf_lines.specs.Printing.{Prints};
 ghost use Rattle.mxf_lines.specs.SourceLines.{digest_value, disputed_line, disputed_lines, named_lines, source_line};
 ghost use Rattle.mxf_lines.specs.SourceLines.{sources_line, sources_lines, sources_status};
-ghost use Rattle.mxf_lines.specs.Writing.{with_field};
+ghost use Rattle.mxf_forms.specs.Writing.{with_field};
 
-use super::hexadecimal::HexDigits;
+use super::AnswerFault;
 use super::line::write_note_fields;
-use super::lines::{Each, FieldWriter, Line, Printer, Series, Then, print_with_status};
-use super::{AnswerFault, Form};
+use super::lines::{Each, Line, Printer, Series, Then, print_with_status};
 use mxf_catalogue::DisputedNotes;
+use mxf_forms::{FieldWriter, Form, HexDigits};
 use mxf_klv::{Held, Note};
 use mxf_readings::{Readings, SourceCounts};
 use sha2::{Digest, Sha256};

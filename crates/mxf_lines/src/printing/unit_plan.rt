@@ -10,10 +10,11 @@ ghost use Rattle.mxf_lines.specs.Printing.{Prints};
 ghost use Rattle.mxf_lines.specs.UnitPlanLines.{AreToldDisputes, asked_of, is_open, told_disputes, unit_plan_lines};
 ghost use Rattle.mxf_lines.specs.UnitPlanLines.{unit_plan_status, wanted_of};
 
+use super::AnswerFault;
 use super::lines::{Each, Printer, Then, print_with_status};
 use super::plan::PlannedLine;
 use super::units::UnitsLine;
-use super::{AnswerFault, Form};
+use mxf_forms::Form;
 use mxf_partial::UnitPlan;
 use mxf_places::AtHand;
 use mxf_restore::{Disputes, Order};

@@ -7,12 +7,12 @@ ghost use Rattle.mxf_units.specs.Ranges.{needed_from, units_from};
 ghost use Rattle.mxf_lines.specs.Printing.{Prints};
 ghost use Rattle.mxf_lines.specs.UnitLines.{entry_fields, extent_fields, extent_length, flags_value, hand_count};
 ghost use Rattle.mxf_lines.specs.UnitLines.{held_count, unit_line, unit_lines, units_line, units_status};
-ghost use Rattle.mxf_lines.specs.Forms.{field};
-ghost use Rattle.mxf_lines.specs.Writing.{with_field, with_fields};
+ghost use Rattle.mxf_forms.specs.Forms.{field};
+ghost use Rattle.mxf_forms.specs.Writing.{with_field, with_fields};
 
 use super::AnswerFault;
-use super::hexadecimal::HexDigits;
-use super::lines::{FieldWriter, Line, Lines, Printer};
+use super::lines::{Line, Lines, Printer};
+use mxf_forms::{FieldWriter, HexDigits};
 use mxf_units::{EditUnit, Extent, UnitRange, UnitStanding, Units, UnitsLeft};
 use std::alloc::AllocError;
 use std::io::Write;

@@ -19,15 +19,14 @@ ghost use Rattle.mxf_lines.specs.VerificationLines.{range_lines, runs_of, span_f
 ghost use Rattle.mxf_lines.specs.VerificationLines.{unit_count_fields, unit_run_line, verification_lines};
 ghost use Rattle.mxf_lines.specs.VerificationLines.{verification_status, verified_fields, verified_line};
 ghost use Rattle.mxf_lines.specs.VerifiedStatus.{AreAllVerified, AreNoted, IsAllKnown, IsAsItSays};
-ghost use Rattle.mxf_lines.specs.Writing.{with_fields};
+ghost use Rattle.mxf_forms.specs.Writing.{with_fields};
 
+use super::AnswerFault;
 use super::check::StopLines;
 use super::line::write_note_fields;
-use super::lines::{
-    Each, FieldWriter, Line, Lines, Printer, Series, Then, print_with_status, take_first,
-};
-use super::{AnswerFault, Form};
+use super::lines::{Each, Line, Lines, Printer, Series, Then, print_with_status, take_first};
 use mxf_catalogue::{Cover, CoverRuns, Run};
+use mxf_forms::{FieldWriter, Form};
 use mxf_klv::{Note, Stop};
 use mxf_read::PieceReport;
 use mxf_verify::{

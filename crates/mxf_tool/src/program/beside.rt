@@ -1,22 +1,17 @@
 //! Sources beside each other: which of them holds which note.
-use super::fault::RunFault;
-use super::telling::line_on_screen;
-use super::{Inputs, Printed, System, open_sources, print_answer, told, ungathered};
-use crate::contents::{Contents, gather_each};
-use crate::exit::Exit;
-use crate::source::Source;
-use crate::system_fault::LastFault;
+use super::{Inputs, Printed, print_answer, told};
 use mxf_catalogue::Catalogue;
-use mxf_lines::Form;
+use mxf_forms::Form;
+use mxf_hints::{Contents, Exit, RunFault};
 use mxf_readings::Readings;
-use std::alloc::{AllocError, Global};
+use mxf_sources::{System, names_of, read_each};
 
 /// Prints what each source holds, and which source has which disputed note.
 pub fn print_beside<'a, R: System>(rt: &R, inputs: Inputs<'_, 'a>) -> Result<Exit, RunFault<'a>> {
     let Ok(names) = names_of(rt.alloc(), inputs.sources) else {
         return Err(RunFault::OutOfMemory);
     };
-    let read = read_each(rt, inputs)?;
+    let read = read_each(rt, inputs.telling.screen, inputs.sources)?;
     print_read(rt, inputs, &names, &read)
 }
 
@@ -36,25 +31,6 @@ fn print_read<'a, R: System>(
         false,
         exit,
     )
-}
-
-/// The words that name the sources, as a terminal shows them.
-pub fn names_of(alloc: Global, sources: &[Source<'_>]) -> Result<Vec<String>, AllocError> {
-    let mut names = Vec::new(alloc);
-    for source in sources {
-        names.push(line_on_screen(alloc, source)?)?;
-    }
-    Ok(names)
-}
-
-/// What each source holds by itself. All are opened before the first is read.
-fn read_each<'a, R: System>(rt: &R, inputs: Inputs<'_, 'a>) -> Result<Contents, RunFault<'a>> {
-    let last = LastFault::new();
-    let opened = open_sources(rt, inputs.telling.screen, inputs.sources, &last)?;
-    match gather_each(rt.alloc(), opened.parts) {
-        Ok(contents) => Ok(contents),
-        Err(fault) => Err(ungathered(&fault, inputs.sources, &last)),
-    }
 }
 
 /// Prints on standard output which of the sources with these names and contents holds which note.

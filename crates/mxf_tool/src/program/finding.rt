@@ -1,20 +1,13 @@
 //! Fragments in recordings: which recording has the packets of each, and where they lie in it.
-use super::beside::names_of;
-use super::fault::RunFault;
-use super::sources::unread;
-use super::{Inputs, Printed, System, print_answer};
-use crate::contents::gather_one;
-use crate::exit::Exit;
-use crate::part::part_of;
-use crate::source::Source;
-use crate::system_fault::LastFault;
-use crate::watching::{Screen, Watched};
+use super::{Inputs, Printed, print_answer};
 use mxf_catalogue::Catalogue;
 use mxf_find::{Fragment, Ranking, Recording, find};
+use mxf_hints::{Exit, RunFault};
 use mxf_klv::OutOfMemory;
 use mxf_lines::Searched;
+use mxf_saving::Source;
+use mxf_sources::{System, names_of, read_all_alone, read_alone};
 use std::alloc::{AllocError, Global};
-use std::fs;
 
 /// Prints in which recordings each fragment lies. The fragments are read first, each by itself, and then one recording
 /// after the other. Nothing is printed before all are read.
@@ -22,43 +15,9 @@ pub fn print_found_in<'a, R: System>(rt: &R, inputs: Inputs<'_, 'a>) -> Result<E
     let Ok(names) = names_of(rt.alloc(), inputs.beside) else {
         return Err(RunFault::OutOfMemory);
     };
-    let contents = read_fragments(rt, inputs)?;
+    let contents = read_all_alone(rt, inputs.telling.screen, inputs.sources)?;
     let searched = search(rt, inputs, &contents)?;
     print_answer(rt, Printed::Found(&searched, &names), inputs.form)
-}
-
-/// What each fragment holds by itself.
-fn read_fragments<'a, R: System>(
-    rt: &R,
-    inputs: Inputs<'_, 'a>,
-) -> Result<Vec<Catalogue>, RunFault<'a>> {
-    let mut contents = Vec::new(rt.alloc());
-    for source in inputs.sources {
-        let content = read_alone(rt, inputs.telling.screen, source)?;
-        if contents.push(content).is_err() {
-            return Err(RunFault::OutOfMemory);
-        }
-    }
-    Ok(contents)
-}
-
-/// What a source holds by itself. It is opened and read.
-fn read_alone<'a, R: System>(
-    rt: &R,
-    screen: Screen,
-    source: &Source<'a>,
-) -> Result<Catalogue, RunFault<'a>> {
-    let last = LastFault::new();
-    let path = source.path();
-    let file = match fs::open(rt, path) {
-        Ok(file) => file,
-        Err(fault) => return Err(unread(path, &fault)),
-    };
-    let part = part_of(source, Watched::new(rt, screen, source, file, &last));
-    match gather_one(rt.alloc(), part) {
-        Ok(gathered) => Ok(gathered.views.into_catalogue()),
-        Err(fault) => Err(RunFault::of_part(path, fault, last.get())),
-    }
 }
 
 /// In which recordings the fragments with these contents lie. One recording after the other is read, and kept no longer

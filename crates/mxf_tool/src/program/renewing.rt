@@ -1,45 +1,14 @@
 //! Saving what earlier sources hold, renewed by later ones.
-ghost use Rattle.std.specs.Prelude.{◌≡◌, IfOk};
-ghost use Rattle.mxf_readings.specs.Readings.{all_notes};
-
-use super::fault::RunFault;
-use super::offsets::{is_contradicted, tell_offsets};
-use super::telling::tell_on_screen;
-use super::{
-    Held, Inputs, Opened, Printed, System, allow_output, completed, hold_opened, open_sources,
-    print_answer, settled, settled_reports, told, ungathered, unsaved,
-};
-use crate::command_line::{Renewing, Saving};
-use crate::contents::{Contents, gather_each};
-use crate::exit::Exit;
-use crate::saving::Reservation;
-use crate::shift::Shift;
-use crate::source::Source;
-use crate::system_fault::LastFault;
+use super::{Inputs, Printed, allow_output, print_answer, told, unsaved};
+use mxf_asked::{Renewing, Saving};
 use mxf_catalogue::Catalogue;
-use mxf_hand::{Extent, PutTogether};
+use mxf_hints::{Exit, RunFault, Shift, is_contradicted, tell_offsets, tell_on_screen};
 use mxf_klv::OutOfMemory;
-use mxf_read::{PieceReport, PieceReports};
-use mxf_readings::joined;
+use mxf_read::PieceReport;
+use mxf_saving::{Reservation, Source};
+use mxf_sources::{HeldBySources, Later, Sides, System, hold_both};
 use mxf_verify::{Renewed, renew};
-use mxf_views::Views;
 use std::alloc::{AllocError, Global};
-use std::io::Read;
-
-/// What the later sources hold together, and what was noted of their pieces.
-#[derive(Drop)]
-struct Later {
-    views: Views,
-    reports: PieceReports,
-    shifts: Vec<Option<Shift>>,
-}
-
-/// What is renewed, and what it is renewed by.
-#[derive(Drop)]
-struct Sides {
-    earlier: Held,
-    later: Later,
-}
 
 /// Writes the catalogue of what the earlier sources hold together, renewed by the later ones, and prints what was
 /// dropped. Its place is held before the first source is opened.
@@ -76,7 +45,12 @@ fn renew_at<'a, 'r, R: System>(
     renewing: Renewing<'a>,
     place: Reservation<'r, R>,
 ) -> Result<Exit, RunFault<'a>> {
-    let Sides { earlier, later } = hold_both(rt, inputs)?;
+    let Sides { earlier, later } = hold_both(
+        rt,
+        inputs.telling.screen,
+        inputs.beside,
+        inputs.sources,
+    )?;
     let Later {
         views,
         reports,
@@ -124,7 +98,7 @@ fn told_both<'a, R: System>(
     rt: &R,
     inputs: Inputs<'_, 'a>,
     is_strict: bool,
-    earlier: &Held,
+    earlier: &HeldBySources,
     later: &[PieceReport],
     exit: Exit,
 ) -> Result<Exit, RunFault<'a>> {
@@ -136,80 +110,13 @@ fn told_both<'a, R: System>(
     told(rt, has_hints, inputs.sources, later, true, exit)
 }
 
-/// What the earlier sources hold together, and what the later ones do. All are opened before the first is read.
-fn hold_both<'a, R: System>(rt: &R, inputs: Inputs<'_, 'a>) -> Result<Sides, RunFault<'a>> {
-    let last = LastFault::new();
-    let screen = inputs.telling.screen;
-    let earlier = open_sources(rt, screen, inputs.beside, &last)?;
-    let later = open_sources(rt, screen, inputs.sources, &last)?;
-    let earlier = settled(
-        hold_opened(rt, earlier, inputs.beside, &last)?,
-        inputs.beside,
-    );
-    let later = hold_later(rt, later, inputs.sources, &last)?;
-    Ok(Sides { earlier, later })
-}
-
-/// What sources hold together that were opened. Each is read by itself, so that it is known what its own partition
-/// packs say.
-fn hold_later<'r, 'a, R: System, F: Read + Drop>(
-    rt: &'r R,
-    opened: Opened<F>,
-    sources: &[Source<'a>],
-    last: &'r LastFault,
-) -> Result<Later, RunFault<'a>> {
-    let Opened { parts, extents } = opened;
-    match gather_each(rt.alloc(), parts) {
-        Ok(contents) => later_of(rt, contents, extents, sources, last),
-        Err(fault) => Err(ungathered(&fault, sources, last)),
-    }
-}
-
-/// What several contents hold together, with what is put together of bytes at hand.
-fn later_of<'r, 'a, R: System>(
-    rt: &'r R,
-    contents: Contents,
-    extents: Vec<Extent>,
-    sources: &[Source<'a>],
-    last: &'r LastFault,
-) -> Result<Later, RunFault<'a>> {
-    let Contents {
-        contents,
-        shifts,
-        reports,
-    } = contents;
-    let Ok(views) = views_of_all(rt.alloc(), &contents) else {
-        return Err(RunFault::OutOfMemory);
-    };
-    drop(contents);
-    let PutTogether { views, .. } = completed(rt, views, &extents, sources, last)?;
-    let reports = settled_reports(&views, &extents, PieceReports::of(reports), sources);
-    Ok(Later {
-        views,
-        reports,
-        shifts,
-    })
-}
-
-/// The views of what several contents hold together.
-fn views_of_all(alloc: Global, contents: &[Catalogue]) -> Result<Views, OutOfMemory>
-    ensures { IfOk result (λ views. views ≡ all_notes contents.now) }
-{
-    let all = joined(alloc, contents)?;
-    all.laws();
-    match Views::of(alloc, all) {
-        Ok(views) => Ok(views),
-        Err(_) => Err(OutOfMemory),
-    }
-}
-
 /// Renews the earlier catalogue by the later one, writes it to the place that is held, and prints what was dropped.
 fn save_renewed<'a, 'r, R: System>(
     rt: &'r R,
     inputs: Inputs<'_, 'a>,
     renewing: Renewing<'a>,
     place: Reservation<'r, R>,
-    earlier: &Held,
+    earlier: &HeldBySources,
     later: Catalogue,
 ) -> Result<Exit, RunFault<'a>> {
     let notes = earlier.gathered.views.catalogue();

@@ -2,22 +2,16 @@
 ghost use Rattle.std.specs.Prelude.{◌≡◌, IfOk};
 ghost use Rattle.mxf_tool.specs.Verifying.{AreAskedBy, AreToldOf, open_of};
 
-use super::fault::RunFault;
-use super::index::tell_index;
-use super::offsets::tell_offsets;
-use super::stops::tell_foreign;
-use super::telling::tell_on_screen;
-use super::unit_range::range_of;
-use super::{
-    Held, Inputs, Printed, System, hold_opened, open_sources, print_answer, told, ungathered,
-};
-use crate::command_line::{IndexedUnits, Verifying};
-use crate::exit::Exit;
-use crate::system_fault::LastFault;
+use super::{Inputs, Printed, print_answer, told};
+use mxf_asked::{IndexedUnits, Verifying};
+use mxf_forms::Form;
+use mxf_hints::{Exit, RunFault, range_of, tell_foreign, tell_index, tell_offsets, tell_on_screen};
 use mxf_klv::OutOfMemory;
-use mxf_lines::{Form, Verified};
+use mxf_lines::Verified;
 use mxf_places::AtHand;
 use mxf_read::{Gathered, Part};
+use mxf_saving::LastFault;
+use mxf_sources::{HeldBySources, System, hold_opened, open_sources, ungathered};
 use mxf_units::{UnitRange, Units};
 use mxf_verify::{Verification, VerifiedUnits, VerifyFault, verify};
 use mxf_views::Views;
@@ -42,7 +36,7 @@ pub fn print_verified<'a, R: System>(
     let last = LastFault::new();
     let reference = open_sources(rt, inputs.telling.screen, inputs.beside, &last)?;
     let opened = open_sources(rt, inputs.telling.screen, inputs.sources, &last)?;
-    let Held { gathered, .. } = hold_opened(rt, reference, inputs.beside, &last)?;
+    let HeldBySources { gathered, .. } = hold_opened(rt, reference, inputs.beside, &last)?;
     verify_by(rt, inputs, asked, &gathered, opened.parts, &last)
 }
 

@@ -80,7 +80,7 @@ pub(crate) fn sets_of_copy<'a>(catalogue: &'a Catalogue, copy: &CopyInfo) -> Set
 }
 
 /// The items of a value, if they make up all of it.
-pub(crate) fn whole_items(value: &[u8]) -> Option<Items<'_>>
+pub fn whole_items(value: &[u8]) -> Option<Items<'_>>
     ensures { result ≡ whole_items value.now }
 {
     items(value).ok()

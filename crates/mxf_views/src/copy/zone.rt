@@ -43,7 +43,7 @@ pub(crate) fn is_fill(note: &Note) -> bool
 
 /// Whether the packet is a Preface.
 #[tactic(auto, unfolding(crate::specs::Copies::is_preface_note))]
-pub(crate) fn is_preface(note: &Note) -> bool
+pub fn is_preface(note: &Note) -> bool
     ensures { result ≡ is_preface_note note.now }
 {
     note.kind() == Kind::Preface
@@ -51,7 +51,7 @@ pub(crate) fn is_preface(note: &Note) -> bool
 
 /// Whether the packet is a header metadata set.
 #[tactic(auto, unfolding(crate::specs::Copies::is_set_note))]
-pub(crate) fn is_set(note: &Note) -> bool
+pub fn is_set(note: &Note) -> bool
     ensures { result ≡ is_set_note note.now }
 {
     matches!(

@@ -11,7 +11,7 @@ use std::cmp::Ordering;
 use thiserror::Error;
 
 /// The greatest edit unit: segments state theirs as signed numbers of eight bytes.
-pub(crate) const GREATEST_UNIT: u64 = 9_223_372_036_854_775_807;
+pub const GREATEST_UNIT: u64 = 9_223_372_036_854_775_807;
 
 /// A place in an essence stream.
 #[derive(Clone, Copy, Debug, PartialEq, Eq, PartialOrd, Ord)]

@@ -1,4 +1,5 @@
-use Rattle.std.proofs.Common.{◌∙◌, ap, not, sym}
+use Rattle.std.proofs.Common.{◌↔◌, ◌∙◌, IsTrue, ap, map, not, subst, sym}
+use Rattle.mxf_klv.specs.Rising.{In}
 use Rattle.mxf_hand.proofs.SettlingLaws.{begins-disputed, begins-undisputed, not_twice}
 use Rattle.mxf_hand.proofs.settling.begins_whole.Goals as goal
 
@@ -10,4 +11,5 @@ returns-in-Some c =
 
 pub returns-in-None : goal.returns-in-None
 returns-in-None c =
-    c.begins_disputed.ensures ∙ begins-disputed c.args.catalogue.now c.args.offset (sym c.in-None.ensures.first)
+    begins-disputed c.args.catalogue.now c.args.offset (sym c.in-None.ensures.first) c.has_key.result
+    (subst (λ s. IsTrue c.has_key.result ↔ In c.args.offset (map (λ o. o) s)) c.requires.starts c.has_key.ensures)

@@ -1,7 +1,8 @@
 //! The lines of the copies of the header metadata.
 ghost use Rattle.mxf_lines.specs.Lines.{copy_line, preferred_line};
 
-use super::{AllocError, FieldWriter, Line};
+use super::{AllocError, Line};
+use mxf_forms::FieldWriter;
 use mxf_views::CopyInfo;
 
 /// A copy: its partition, its start, the bytes stated and covered, and whether it is finished.

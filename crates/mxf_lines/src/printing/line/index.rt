@@ -2,11 +2,10 @@
 ghost use Rattle.std.specs.Prelude.{◌≡◌, IfOk, [], ◌∷◌, length, flat_map};
 ghost use Rattle.mxf_lines.specs.IndexLines.{place_line, rip_entry_line, rip_entry_lines, rip_fields, rip_line};
 ghost use Rattle.mxf_lines.specs.IndexLines.{rip_lines, segment_line, stream_fields};
-ghost use Rattle.mxf_lines.specs.Writing.{with_fields};
+ghost use Rattle.mxf_forms.specs.Writing.{with_fields};
 
-use super::{
-    AllocError, AnswerFault, Each, FieldWriter, Line, Lines, Printer, Series, Then, Write,
-};
+use super::{AllocError, AnswerFault, Each, Line, Lines, Printer, Series, Then, Write};
+use mxf_forms::FieldWriter;
 use mxf_sets::{RipEntry, SegmentNumbers};
 use mxf_views::{Place, RipView, SegmentAt, Segments, Standing, Standings};
 

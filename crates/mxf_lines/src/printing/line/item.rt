@@ -1,10 +1,11 @@
 //! The line of an item of a header metadata set.
 ghost use Rattle.std.specs.Prelude.{◌≡◌, IfOk, codes, take};
-ghost use Rattle.mxf_lines.specs.Forms.{field};
+ghost use Rattle.mxf_forms.specs.Forms.{field};
 ghost use Rattle.mxf_lines.specs.ItemLines.{item_line, label_shown, value_shown};
-ghost use Rattle.mxf_lines.specs.Writing.{with_field};
+ghost use Rattle.mxf_forms.specs.Writing.{with_field};
 
-use super::{AllocError, FieldWriter, HexDigits, Line};
+use super::{AllocError, Line};
+use mxf_forms::{FieldWriter, HexDigits};
 use mxf_sets::Item;
 
 /// Writes the label of a tag, or none.

@@ -3,10 +3,11 @@ ghost use Rattle.std.specs.Prelude.{◌≡◌, [], ◌∷◌, IfOk, length, flat
 ghost use Rattle.mxf_klv.specs.Rising.{In};
 ghost use Rattle.mxf_catalogue.specs.Disputes.{is_disputed};
 ghost use Rattle.mxf_lines.specs.Lines.{note_fields, note_line};
-ghost use Rattle.mxf_lines.specs.Writing.{with_fields};
+ghost use Rattle.mxf_forms.specs.Writing.{with_fields};
 
-use super::{AllocError, FieldWriter, Line, Series};
+use super::{AllocError, Line, Series};
 use mxf_catalogue::{Catalogue, Notes};
+use mxf_forms::FieldWriter;
 use mxf_klv::Note;
 use std::marker::Model;
 

@@ -4,10 +4,11 @@ ghost use Rattle.mxf_views.specs.Partitions.{link_of, partitions_of};
 ghost use Rattle.mxf_lines.specs.Lines.{chain_line, gap_line};
 ghost use Rattle.mxf_lines.specs.PartitionLines.{container_line, container_lines, linked_fields, pack_fields};
 ghost use Rattle.mxf_lines.specs.PartitionLines.{part_fields, partition_line, partition_lines, pattern_fields, place_fields};
-ghost use Rattle.mxf_lines.specs.Writing.{with_fields};
+ghost use Rattle.mxf_forms.specs.Writing.{with_fields};
 
-use super::{AllocError, Each, FieldWriter, HexDigits, Line, Series, Then};
+use super::{AllocError, Each, Line, Series, Then};
 use mxf_catalogue::Run;
+use mxf_forms::{FieldWriter, HexDigits};
 use mxf_sets::{BatchItems, PartitionNumbers, PartitionPack, pattern_name};
 use mxf_views::{Chain, Gaps, Link, PartitionAt, Partitions, Views};
 

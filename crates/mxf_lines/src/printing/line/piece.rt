@@ -2,10 +2,11 @@
 ghost use Rattle.std.specs.Prelude.{◌≡◌, ◌+◌, IfOk, length};
 ghost use Rattle.mxf_catalogue.specs.Disputes.{disputed_notes};
 ghost use Rattle.mxf_lines.specs.Lines.{join_line, piece_line, stop_fields};
-ghost use Rattle.mxf_lines.specs.Writing.{with_fields};
+ghost use Rattle.mxf_forms.specs.Writing.{with_fields};
 
-use super::{AllocError, FieldWriter, Line};
+use super::{AllocError, Line};
 use mxf_catalogue::Catalogue;
+use mxf_forms::FieldWriter;
 use mxf_klv::Stop;
 use mxf_read::PieceReport;
 

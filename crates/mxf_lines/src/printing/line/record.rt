@@ -1,14 +1,15 @@
 //! The lines of what records say.
 ghost use Rattle.std.specs.Prelude.{◌≡◌, [], ◌∷◌, ◌++◌, List, IfOk, codes, string_bytes, option_map};
-ghost use Rattle.mxf_lines.specs.Forms.{Field};
+ghost use Rattle.mxf_forms.specs.Forms.{Field};
 ghost use Rattle.mxf_lines.specs.ReferenceLines.{hex_fields, identification_lines, kind_fields, named_word};
 ghost use Rattle.mxf_lines.specs.ReferenceLines.{owner_member, package_details, package_lines, shown_fields};
 ghost use Rattle.mxf_lines.specs.ReferenceLines.{product_lines, text_fields, timestamp_fields};
 ghost use Rattle.mxf_lines.specs.ReferenceLines.{property_word, tracks_fields, uid_fields, value_line, value_lines};
 ghost use Rattle.mxf_lines.specs.ShownText.{shown_value, shown_char, shown_text};
-ghost use Rattle.mxf_lines.specs.Writing.{with_fields};
+ghost use Rattle.mxf_forms.specs.Writing.{with_fields};
 
-use super::{AllocError, AnswerFault, FieldWriter, HexDigits, Line, Lines, Printer, Then, Write};
+use super::{AllocError, AnswerFault, Line, Lines, Printer, Then, Write};
+use mxf_forms::{FieldWriter, HexDigits};
 use mxf_klv::{Kind, OutOfMemory};
 use mxf_sets::{Identification, Package, TextFault, Timestamp, text};
 use std::alloc::Global;

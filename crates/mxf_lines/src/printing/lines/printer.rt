@@ -1,12 +1,13 @@
 //! Lines that are written one after another.
 ghost use Rattle.std.specs.Prelude.{◌≡◌, ◌^◌, ◌<◌, [], ◌∷◌, IfOk, OnOk};
 ghost use Rattle.mxf_klv.specs.Written.{Puts};
-ghost use Rattle.mxf_lines.specs.Forms.{PrintedLine, line_in};
+ghost use Rattle.mxf_forms.specs.Forms.{PrintedLine, line_in};
 ghost use Rattle.mxf_lines.specs.Printing.{Prints};
-ghost use Rattle.mxf_lines.specs.Writing.{with_line, written};
+ghost use Rattle.mxf_forms.specs.Writing.{with_line, written};
 
-use super::{FieldWriter, Lines};
-use crate::printing::{AnswerFault, Form};
+use super::Lines;
+use crate::printing::AnswerFault;
+use mxf_forms::{FieldWriter, Form};
 use mxf_klv::Progress;
 use std::alloc::{AllocError, Global};
 use std::io::Write;

@@ -2,7 +2,7 @@ use Rattle.std.proofs.Common.{◌∙◌, drop, nat_lt, true}
 use Rattle.std.proofs.lemmas.Bool.{le-ltb, lt-ltb}
 use Rattle.std.specs.Option.{option_map_or}
 use Rattle.mxf_klv.proofs.RisingBy.{by_itself, never_falls}
-use Rattle.mxf_catalogue.proofs.Windows.{window}
+use Rattle.mxf_klv.proofs.Windows.{window}
 use Rattle.mxf_restore.proofs.section.cuts_in.Goals as goal
 
 pub up_to-requires : goal.up_to-requires

@@ -1,8 +1,8 @@
 use Rattle.std.proofs.Common.{◌≡◌, ◌∷◌, [], IfOk, subst, sym}
 use Rattle.mxf_views.specs.Words.{link_name}
-use Rattle.mxf_lines.specs.Forms.{word}
+use Rattle.mxf_forms.specs.Forms.{word}
 use Rattle.mxf_lines.specs.PartitionLines.{linked_fields, pack_fields}
-use Rattle.mxf_lines.specs.Writing.{Written}
+use Rattle.mxf_forms.specs.Writing.{Written}
 use Rattle.mxf_lines.proofs.LineLaws.{fields_after}
 use Rattle.mxf_lines.proofs.printing.line.partition.write_linked.Goals as goal
 

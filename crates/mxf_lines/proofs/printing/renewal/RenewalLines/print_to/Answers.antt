@@ -3,7 +3,7 @@ use Rattle.mxf_klv.specs.Parts.{NoteParts}
 use Rattle.mxf_klv.specs.Written.{Puts}
 use Rattle.mxf_catalogue.specs.Disputes.{disputed_notes}
 use Rattle.mxf_verify.specs.declared.renewal.DroppedNote.{DroppedNote}
-use Rattle.mxf_lines.specs.Forms.{PrintedLine}
+use Rattle.mxf_forms.specs.Forms.{PrintedLine}
 use Rattle.mxf_lines.specs.Printing.{Prints}
 use Rattle.mxf_lines.specs.RenewalLines.{dropped_line, renewed_line}
 use Rattle.mxf_lines.proofs.printing.renewal.RenewalLines.print_to.Goals as goal

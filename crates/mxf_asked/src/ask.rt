@@ -1,0 +1,19 @@
+//! What a run is asked for of what sources hold together.
+use mxf_units::UnitRange;
+
+/// What a run is asked for.
+#[derive(Clone, Copy, Debug, PartialEq, Eq)]
+pub enum Ask {
+    /// What was noted of each piece, and all that is known of the recording.
+    Show,
+    /// What is found wrong or missing.
+    Check,
+    /// Where the edit unit begins in its essence stream, by the index of this IndexSID.
+    Locate { index: u32, unit: u64 },
+    /// How many notes the parts hold together.
+    Join,
+    /// What to restore next.
+    Plan,
+    /// Where the edit units of a range lie in the file, by the index of this IndexSID.
+    Units { index: u32, range: UnitRange },
+}

@@ -1,0 +1,83 @@
+//! What is to be done, of which sources, and in which form.
+use crate::ask::Ask;
+use crate::grid::Grid;
+use crate::units::{AskedUnits, IndexedUnits};
+use mxf_forms::Form;
+
+/// What the command line asks for, and in which form, of the sources that words name and a list after them.
+#[derive(Clone, Copy)]
+pub struct Request<'m, 'a> {
+    pub task: Task<'a>,
+    pub form: Form,
+    pub named: NamedSources<'m, 'a>,
+    /// The sources beside these: the earlier ones of a renewal, those of a reference, or the recordings in which
+    /// fragments are looked for.
+    pub beside: NamedSources<'m, 'a>,
+}
+
+/// Sources that words name, and a list after them.
+#[derive(Clone, Copy)]
+pub struct NamedSources<'m, 'a> {
+    pub words: Option<&'m [&'a str]>,
+    pub list: Option<&'a str>,
+}
+
+/// What is to be done.
+#[derive(Clone, Copy)]
+pub enum Task<'a> {
+    /// To print what the sources hold together.
+    Tell(Told),
+    /// To print which source holds which note.
+    Sources,
+    /// To print how sources stand to a reference.
+    Verify(Verifying),
+    /// To print in which recordings the sources lie.
+    Find,
+    /// To save what the sources hold together.
+    Join(Saving<'a>),
+    /// To save what earlier sources hold together, renewed by the others.
+    Renew(Renewing<'a>),
+}
+
+/// What is printed of what the sources hold together.
+#[derive(Clone, Copy)]
+pub enum Told {
+    /// An answer.
+    Answer(Ask),
+    /// A map, with the ranges of its bytes if they are asked for.
+    Map {
+        grid: Grid,
+        with_extents: bool,
+    },
+    /// Where edit units lie, by the index of an IndexSID, or by the only one that is held.
+    Units {
+        index: Option<u32>,
+        units: AskedUnits,
+    },
+    /// What to restore for edit units.
+    UnitPlan(IndexedUnits),
+}
+
+/// What is asked of a verification: whether all of the reference is to be verified, and which edit units are told.
+#[derive(Clone, Copy)]
+pub struct Verifying {
+    pub is_whole: bool,
+    pub units: Option<IndexedUnits>,
+}
+
+/// Where a catalogue is saved.
+#[derive(Clone, Copy)]
+pub struct Saving<'a> {
+    pub out: &'a str,
+    /// Whether the run ends with another status if a piece isn't noted whole, or a note is disputed.
+    pub is_strict: bool,
+    /// Whether nothing is saved, and only what would be is printed.
+    pub is_dry: bool,
+}
+
+/// Where a renewed catalogue is saved, and whether earlier notes are dropped without a question.
+#[derive(Clone, Copy)]
+pub struct Renewing<'a> {
+    pub saving: Saving<'a>,
+    pub drops: bool,
+}

@@ -1,0 +1,97 @@
+//! The subcommands that look at sources beside others: `sources`, `verify` and `find`.
+use super::options::{besides, flag, named, number, option, with_args, with_sources, with_units};
+use clap::{Arg, Command, value_parser};
+use std::alloc::{AllocError, Global};
+
+/// What the help of `sources` ends with.
+const SOURCES_HELP: &str = source_help!(
+    "Lines:
+  source I notes N alone A disputed D SRC  source I has N packets: A of them no other has, D of them are disputed
+  disputed OFFSET KIND WIDTH LENGTH KEY SUM from I I ..  a packet that lies where another does, and who has it
+  sources N notes M disputed D  together, N sources have M packets, and D of them are disputed";
+    "SRC", "it", "join",
+    "Example: mxf_tool sources at:0:copy.mxf cat:clip.cat"
+);
+
+/// What the help of `verify` ends with.
+const VERIFY_HELP: &str = source_help!(
+    "What the sources of --against hold is the reference. The bytes of at: and range: among SRC.. are read by its packets,
+and those of a catalogue among them are set beside them.
+
+Lines:
+  stop OFFSET STOP  a piece of --against doesn't end with a packet
+  differs I OFFSET KIND WIDTH LENGTH KEY  source I has another packet there; with --index then the edit units, or - -
+  cut OFFSET KIND WIDTH LENGTH KEY  no source has all bytes of this packet, so it wasn't compared
+  unknown START END     the reference says nothing of these bytes
+  unverified START END  these bytes of the reference weren't compared
+  units FIRST LAST WORD  verified, differs, part, unverified, or as units says why it isn't known where they lie
+  verified N of M packets B of T bytes differs D cut C unknown U  the sum, with --index then the units
+
+Status 0 says that a packet is the same, none differs, and each piece of --against ends with a packet or with one that is
+cut; with --whole also that all of the reference is there and no other byte, or with --index all of these units.";
+    "SRC or SOURCE", "of --against it", "join or renew",
+    "Example: mxf_tool verify --against cat:clip.cat --whole at:0:clip.mxf"
+);
+
+/// What the help of `find` ends with.
+const FIND_HELP: &str = source_help!(
+    "Each SRC is a fragment, and is looked for by itself: range:0:PATH are bytes that lie nobody knows where. Each SOURCE of
+--in and of --recordings is a recording by itself.
+
+Lines:
+  found I K OFFSET N of M heads H SOURCE  recording K has N of the M packets of fragment I, if the bytes of it that the
+                                          word calls OFFSET lie at this one; H of them by their lengths alone
+  unknown I M           no recording tells where fragment I lies
+  fragments N found F   F of N fragments lie in one recording with all their packets, and in no other
+
+Status 0 says that each fragment does.";
+    "SRC or SOURCE", "it", "join or renew",
+    "Example: mxf_tool find --in cat:monday.cat --in cat:tuesday.cat range:0:fragment.bin"
+);
+
+/// The subcommand that looks at sources beside each other.
+pub fn beside<'a>(alloc: Global) -> Result<Command<'a>, AllocError> {
+    let about = "Prints which source holds which packet, where sources disagree";
+    with_sources(alloc, named(alloc, "sources", about, SOURCES_HELP))
+}
+
+/// The subcommand that compares sources with a reference.
+pub fn verify<'a>(alloc: Global) -> Result<Command<'a>, AllocError> {
+    let about = "Prints whether the sources are as a reference says, packet by packet";
+    let verify = named(alloc, "verify", about, VERIFY_HELP).arg(whole(alloc))?;
+    let verify = with_args(verify, against(alloc), units_index(alloc))?;
+    with_sources(alloc, with_units(alloc, verify)?)
+}
+
+/// The subcommand that looks for fragments in recordings.
+pub fn find<'a>(alloc: Global) -> Result<Command<'a>, AllocError> {
+    let about = "Prints which recording has the packets of each source, and where they lie in it";
+    let find = named(alloc, "find", about, FIND_HELP);
+    with_sources(alloc, with_args(find, within(alloc)?, recordings(alloc))?)
+}
+
+fn whole<'a>(alloc: Global) -> Arg<'a> {
+    let help =
+        "Ends with status 1 if a byte is unverified or unknown; with --index if a unit isn't verified";
+    flag(alloc, "whole", help)
+}
+
+fn against<'a>(alloc: Global) -> Arg<'a> {
+    let help = "A source of the reference, as SRC; it may be given more than once";
+    besides(alloc, "against", help).required(true)
+}
+
+fn units_index<'a>(alloc: Global) -> Arg<'a> {
+    let help = "The IndexSID of the index table whose edit units are asked for";
+    number(alloc, "index", value_parser!(u32), help)
+}
+
+fn within<'a>(alloc: Global) -> Result<Arg<'a>, AllocError> {
+    let help = "A source that is a recording by itself, as SRC; it may be given more than once";
+    besides(alloc, "in", help).required_unless_present("recordings")
+}
+
+fn recordings<'a>(alloc: Global) -> Arg<'a> {
+    let help = "A file with further recordings, a source a line; - is standard input";
+    option(alloc, "recordings", "FILE", help)
+}

@@ -1,0 +1,24 @@
+//! The subcommands that print what sources hold, and what is wrong in it: `show` and `check`.
+use super::options::{named, with_sources};
+use clap::Command;
+use std::alloc::{AllocError, Global};
+
+/// What the help of `show` ends with.
+const SHOW_HELP: &str = source_help!("Example: mxf_tool show at:0:clip.mxf");
+
+/// What the help of `check` ends with.
+const CHECK_HELP: &str = source_help!(
+    "Example: mxf_tool check at:0:front.bin at:62914560:rest.bin"
+);
+
+/// The subcommand that prints what sources hold.
+pub fn show<'a>(alloc: Global) -> Result<Command<'a>, AllocError> {
+    let about = "Prints what the sources hold together";
+    with_sources(alloc, named(alloc, "show", about, SHOW_HELP))
+}
+
+/// The subcommand that prints what is wrong or missing.
+pub fn check<'a>(alloc: Global) -> Result<Command<'a>, AllocError> {
+    let about = "Prints what is wrong or missing in what the sources hold together";
+    with_sources(alloc, named(alloc, "check", about, CHECK_HELP))
+}

@@ -1,0 +1,2 @@
+pub mod HexadecimalLaws
+pub mod StringLaws

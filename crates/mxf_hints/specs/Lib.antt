@@ -1,0 +1,5 @@
+pub mod AskedUnits
+pub mod Contents
+pub mod Exits
+pub mod Parts
+pub mod Shifts

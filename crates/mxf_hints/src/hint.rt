@@ -1,0 +1,232 @@
+//! What to do about a fault, told in a second line if standard error is a terminal.
+use crate::fault::RunFault;
+use crate::shift::Shift;
+use crate::sized::SizedWord;
+use mxf_saving::{
+    Beginning, NOT_FOUND, OutputRefusal, SaveFault, Source, SystemFault, TOO_MANY_FILES,
+    begins_with_scheme,
+};
+use std::fmt;
+
+/// What to do about a fault. Of a file that is refused as a catalogue or a list, or of a word that names no source and
+/// a file, it is known what it begins with.
+#[derive(Clone, Copy)]
+pub struct Hint<'f, 'a> {
+    pub fault: &'f RunFault<'a>,
+    pub beginning: Option<Beginning>,
+}
+
+impl fmt::Display for Hint<'_, '_> {
+    fn fmt<W: fmt::Write>(&self, f: &mut fmt::Formatter<W>) -> fmt::Result {
+        f.write_str("hint: ")?;
+        match self.fault {
+            RunFault::OutOfMemory => f.write_str(
+                "join fewer sources at once, and then the catalogues of these joins",
+            ),
+            RunFault::Signed { .. } => f.write_str("write the number without a sign"),
+            RunFault::BadLastUnit { .. } => {
+                f.write_str(
+                    "name by --from a first unit that isn't above --to, and ask for 1000000 units at most",
+                )
+            }
+            RunFault::NoLastUnit => f.write_str(
+                "no segment that is held gives this index a last unit from the first on: name the last by --to, or another index by --index",
+            ),
+            RunFault::TooManyUnits => {
+                f.write_str("ask for 1000000 units at most, and name the last by --to")
+            }
+            RunFault::NoIndex => f.write_str(
+                "no index table segment is held: plan says what to restore",
+            ),
+            RunFault::SeveralIndexes { .. } => f.write_str("name one of them by --index"),
+            RunFault::BadSource { word } => write_source(f, *word, self.beginning),
+            RunFault::NoSource => f.write_str("name a source as a word, or in a line of the list"),
+            RunFault::BadLine { path, .. } => write_list(f, *path, self.beginning),
+            RunFault::BadOutput { path, why } => write_refusal(f, *path, *why),
+            RunFault::NothingToKeep { path } => write!(
+                f,
+                "no source has a packet: {path} stays as it was"
+            ),
+            RunFault::WrongOffset { word, shift } => write_shift(f, word, *shift),
+            RunFault::TwoLists => f.write_str("name one of the two lists by its path"),
+            RunFault::BadUnit => f.write_str("the greatest edit unit is 9223372036854775807"),
+            RunFault::Unread { path, cause } => write_unread(f, *path, *cause),
+            RunFault::BadCatalogue { path, .. } => write_form(f, *path, self.beginning),
+            RunFault::Unwritten { cause } => write_cause(f, "standard output", *cause),
+            RunFault::Unsaved { path, fault } => write_unsaved(f, *path, fault),
+        }
+    }
+}
+
+/// Writes why no catalogue is saved at a path.
+fn write_refusal<W: fmt::Write>(
+    f: &mut fmt::Formatter<W>,
+    path: &str,
+    why: OutputRefusal,
+) -> fmt::Result {
+    let what = match why {
+        OutputRefusal::StandardOutput => "standard output, into which lines go",
+        OutputRefusal::Source => "the file of a source",
+        OutputRefusal::Recording => "a recording, or a part of one",
+        OutputRefusal::Other => "no catalogue, and not empty",
+    };
+    write!(
+        f,
+        "{path} is {what}, which a catalogue would replace: name another file"
+    )
+}
+
+/// Writes at which OFFSET a source belongs by its partition packs.
+fn write_shift<W: fmt::Write>(
+    f: &mut fmt::Formatter<W>,
+    word: &Source<'_>,
+    shift: Shift,
+) -> fmt::Result {
+    let right = word.place().and_then(|(offset, _)| shift.right(offset));
+    match right {
+        Some(right) => {
+            let moved = word.at(right);
+            write!(
+                f,
+                "by its partition packs it is {moved}; --drop saves it at this OFFSET all the same"
+            )
+        }
+        None => f.write_str(
+            "its partition packs say that it begins below 0: is there something before its first packet?",
+        ),
+    }
+}
+
+/// Writes what the word may have been meant for, which names no source.
+fn write_source<W: fmt::Write>(
+    f: &mut fmt::Formatter<W>,
+    word: &str,
+    beginning: Option<Beginning>,
+) -> fmt::Result {
+    match (beginning, SizedWord::of(word)) {
+        (Some(Beginning::Label), _) => write!(
+            f,
+            "{word} begins with a packet: name it at:0:{word}, or at:OFFSET:{word} if it isn't the recording's beginning"
+        ),
+        (Some(Beginning::Catalogue), _) => write!(
+            f,
+            "{word} looks like a catalogue: name it cat:{word}"
+        ),
+        (_, Some(sized)) => write!(f, "OFFSET is a number of bytes: name it {sized}"),
+        _ if word.as_bytes().starts_with(b"\xef\xbb\xbf") => {
+            f.write_str("the list begins with a byte order mark: save it without one")
+        }
+        _ if word.ends_with("\r") => f.write_str(
+            "the lines of the list end with a carriage return: end them with a line feed alone",
+        ),
+        _ => f.write_str(
+            "a source is at:OFFSET:PATH or range:OFFSET:PATH, with OFFSET in decimal digits alone, or cat:PATH",
+        ),
+    }
+}
+
+/// Writes what the file that was read as a list looks like.
+fn write_list<W: fmt::Write>(
+    f: &mut fmt::Formatter<W>,
+    path: &str,
+    beginning: Option<Beginning>,
+) -> fmt::Result {
+    match beginning {
+        Some(Beginning::Label | Beginning::Catalogue) => {
+            write_source(f, path, beginning)?;
+            f.write_str(", without --sources")
+        }
+        _ => f.write_str("a line of a list is a source in UTF-8"),
+    }
+}
+
+/// Writes what the system says of a path, and what to do about it if nothing stands there.
+fn write_unread<W: fmt::Write>(
+    f: &mut fmt::Formatter<W>,
+    path: &str,
+    cause: Option<SystemFault>,
+) -> fmt::Result {
+    write_cause(f, path, cause)?;
+    match cause {
+        Some(NOT_FOUND) => f.write_str(advice_on(path)),
+        _ => Ok(()),
+    }
+}
+
+/// What to do about a path that is spelled as no file's is, after what the system says of it.
+fn advice_on(path: &str) -> &'static str {
+    if path == "-" {
+        ": standard input is /dev/stdin"
+    } else if path.starts_with("~/") {
+        ": nothing replaces the ~ here: write the whole path"
+    } else if path.ends_with("\r") {
+        ": the lines of the list end with a carriage return: end them with a line feed alone"
+    } else if path.ends_with(" ") {
+        ": the path ends with a space"
+    } else if begins_with_scheme(path) {
+        ": this is spelled as a source: here a path alone is named"
+    } else {
+        ""
+    }
+}
+
+/// Writes the path and what the system says of it.
+fn write_cause<W: fmt::Write>(
+    f: &mut fmt::Formatter<W>,
+    path: &str,
+    cause: Option<SystemFault>,
+) -> fmt::Result {
+    match cause {
+        Some(TOO_MANY_FILES) => write!(
+            f,
+            "{path}: {TOO_MANY_FILES}: all sources are open at once, those of a list too; join them in groups, a file each, and then these files; or raise the limit by ulimit -n"
+        ),
+        Some(cause) => write!(f, "{path}: {cause}"),
+        None => write!(f, "{path}: the system gives no cause"),
+    }
+}
+
+/// Writes what the file that was refused as a catalogue looks like.
+fn write_form<W: fmt::Write>(
+    f: &mut fmt::Formatter<W>,
+    path: &str,
+    beginning: Option<Beginning>,
+) -> fmt::Result {
+    match beginning {
+        Some(Beginning::Label) => write!(
+            f,
+            "{path} looks like a piece of a recording: name it at:OFFSET:{path}"
+        ),
+        Some(Beginning::Catalogue) => write!(
+            f,
+            "{path} begins as a catalogue: it was damaged or cut, or a newer program wrote it"
+        ),
+        Some(Beginning::Nothing) => write!(f, "{path} is empty"),
+        Some(Beginning::Other) => write!(f, "{path} is no catalogue that join or renew wrote"),
+        None => write!(
+            f,
+            "{path} is no regular file, and gave no catalogue that join or renew wrote"
+        ),
+    }
+}
+
+/// Writes why a catalogue wasn't saved.
+fn write_unsaved<W: fmt::Write>(
+    f: &mut fmt::Formatter<W>,
+    path: &str,
+    fault: &SaveFault,
+) -> fmt::Result {
+    match fault {
+        SaveFault::Reserved(part) => {
+            let part = part.as_str();
+            write!(
+                f,
+                "another run holds {part} and writes this catalogue: run this one again when it has ended; if none runs, remove that file"
+            )
+        }
+        SaveFault::Write(cause) => write_cause(f, path, *cause),
+        SaveFault::OutOfMemory | SaveFault::Refused(_) | SaveFault::NothingToKeep => {
+            f.write_str("nothing was written")
+        }
+    }
+}

@@ -1,0 +1,2 @@
+//! The law of shifts.
+pub use crate::shift::one_shift;

@@ -1,0 +1,18 @@
+//! The parts that sources name.
+ghost use Rattle.std.specs.Prelude.{◌≡◌};
+ghost use Rattle.mxf_saving.specs.Sources.{source_parts};
+ghost use Rattle.mxf_hints.specs.Parts.{part_of};
+
+use mxf_read::Part;
+use mxf_saving::Source;
+
+/// The part that a source names, by a reader of its file.
+pub fn part_of<R>(source: &Source<'_>, from: R) -> Part<R>
+    ensures { result ≡ part_of (source_parts source.now) from }
+{
+    match *source {
+        Source::Piece { offset, .. } => Part::Piece { offset, from },
+        Source::Range { offset, .. } => Part::Range { offset, from },
+        Source::Saved { .. } => Part::Saved { from },
+    }
+}

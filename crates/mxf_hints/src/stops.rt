@@ -1,0 +1,176 @@
+//! Telling of pieces and ranges that end before their bytes do, or have none.
+use crate::front::{Front, SEARCHED};
+use crate::telling::tell_on_screen;
+use mxf_klv::Stop;
+use mxf_read::PieceReport;
+use mxf_saving::Source;
+use std::alloc::AllocError;
+use std::fmt;
+use std::rt::Files;
+
+/// That the packets of a source stop at a place.
+#[derive(Clone, Copy)]
+struct StoppedSource<'a> {
+    source: Source<'a>,
+    stop: Stop,
+    place: u64,
+}
+
+impl fmt::Display for StoppedSource<'_> {
+    fn fmt<W: fmt::Write>(&self, f: &mut fmt::Formatter<W>) -> fmt::Result {
+        let StoppedSource {
+            source,
+            stop,
+            place,
+        } = *self;
+        write!(f, "{source}: stop {stop} {place}")
+    }
+}
+
+/// What to do about a piece that doesn't begin at a packet, or a range without a start.
+#[derive(Clone, Copy)]
+struct FrontHint<'a> {
+    source: Source<'a>,
+    front: Front,
+}
+
+impl fmt::Display for FrontHint<'_> {
+    fn fmt<W: fmt::Write>(&self, f: &mut fmt::Formatter<W>) -> fmt::Result {
+        let path = self.source.path();
+        match (self.front, self.source) {
+            (Front::Empty, _) => write!(f, "hint: {path} is empty"),
+            (Front::Catalogue, _) => write!(
+                f,
+                "hint: {path} looks like a catalogue: name it cat:{path}"
+            ),
+            (Front::RunIn(bytes), Source::Piece { offset: 0, .. }) => {
+                let first = bytes.saturating_add(1);
+                write!(
+                    f,
+                    "hint: {path} has {bytes} bytes before its first packet: name it at:0:<(tail -c +{first} '{path}')"
+                )
+            }
+            (Front::Nothing, Source::Piece { offset: 0, .. }) => write!(
+                f,
+                "hint: no packet begins in {path}, or its first {SEARCHED} bytes: it is no MXF file, or begins inside a longer packet"
+            ),
+            (Front::Midst, Source::Piece { offset: 0, .. }) => write!(
+                f,
+                "hint: {path} doesn't begin at a packet: if its front is damaged, name it range:0:{path}; if it begins inside a packet, OFFSET isn't 0"
+            ),
+            (Front::RunIn(_) | Front::Midst, Source::Piece { offset, .. }) => write!(
+                f,
+                "hint: {path} doesn't begin at a packet: if it begins inside one, name it range:{offset}:{path}"
+            ),
+            _ => write!(
+                f,
+                "hint: no packet begins in {path}, or its first {SEARCHED} bytes"
+            ),
+        }
+    }
+}
+
+/// The place of a stop before the end of the bytes that are there; `None` if all packets of the source are noted.
+fn place_of(stop: Stop) -> Option<u64> {
+    match stop {
+        Stop::End | Stop::Truncated(_) => None,
+        Stop::NotUl(place) | Stop::BadLength(place) | Stop::TooFar(place) | Stop::NoStart(place) =>
+            Some(place),
+    }
+}
+
+/// Whether none of a source's bytes are a packet's, as far as its stop says: it stops at its first byte, or has no
+/// start.
+fn is_without_packets(report: &PieceReport) -> bool {
+    match report.report.stop {
+        Stop::NotUl(place) => place == report.offset,
+        Stop::NoStart(_) => true,
+        _ => false,
+    }
+}
+
+/// Tells on a terminal of each piece and range whose packets weren't all noted, if stops are asked for, and what to
+/// do about one that has none.
+pub fn tell_stops<R: Files + Eprint + AllocGlobal>(
+    rt: &R,
+    sources: &[Source<'_>],
+    reports: &[PieceReport],
+    with_stops: bool,
+) -> Result<(), AllocError> {
+    for report in reports {
+        if let Some(source) = sources.get(report.part) {
+            tell_stop(rt, *source, report, with_stops)?;
+        }
+    }
+    Ok(())
+}
+
+/// Tells on a terminal of each piece and range that has no packet, a run-in, or is a catalogue. Whether one is.
+pub fn tell_foreign<R: Files + Eprint + AllocGlobal>(
+    rt: &R,
+    sources: &[Source<'_>],
+) -> Result<bool, AllocError> {
+    let mut is_told = false;
+    for source in sources {
+        let source = *source;
+        if let Source::Saved { .. } = source {
+            continue;
+        }
+        let front = Front::of(rt, source.path());
+        match (front, source) {
+            (Front::Nothing | Front::Empty | Front::Catalogue, _)
+            | (Front::RunIn(_), Source::Piece { offset: 0, .. }) => {
+                tell_on_screen(rt, &FrontHint { source, front })?;
+                is_told = true;
+            }
+            _ => {}
+        }
+    }
+    Ok(is_told)
+}
+
+/// Tells of a piece that has no byte.
+fn tell_empty<R: Files + Eprint + AllocGlobal>(
+    rt: &R,
+    source: Source<'_>,
+    report: &PieceReport,
+) -> Result<(), AllocError> {
+    if report.report.noted > 0 {
+        return Ok(());
+    }
+    match Front::of(rt, source.path()) {
+        Front::Empty => {
+            let front = Front::Empty;
+            tell_on_screen(rt, &FrontHint { source, front })
+        }
+        _ => Ok(()),
+    }
+}
+
+/// Tells of one piece or range.
+fn tell_stop<R: Files + Eprint + AllocGlobal>(
+    rt: &R,
+    source: Source<'_>,
+    report: &PieceReport,
+    with_stops: bool,
+) -> Result<(), AllocError> {
+    let stop = report.report.stop;
+    let Some(place) = place_of(stop) else {
+        return tell_empty(rt, source, report);
+    };
+    if with_stops {
+        tell_on_screen(
+            rt,
+            &StoppedSource {
+                source,
+                stop,
+                place,
+            },
+        )?;
+    }
+    if is_without_packets(report) {
+        let front = Front::of(rt, source.path());
+        tell_on_screen(rt, &FrontHint { source, front })?;
+    }
+    Ok(())
+}

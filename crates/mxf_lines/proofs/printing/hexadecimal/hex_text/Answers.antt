@@ -1,6 +1,0 @@
-use Rattle.std.proofs.Common.{◌∙◌}
-use Rattle.mxf_lines.proofs.HexadecimalLaws.{encode_lower-is}
-use Rattle.mxf_lines.proofs.printing.hexadecimal.hex_text.Goals as goal
-
-pub returns : goal.returns
-returns c = c.in_ok-encode.ensures ∙ encode_lower-is c.args.bytes.now

@@ -1,9 +1,0 @@
--- The line so far, with the characters that are to come, escaped.
-use Rattle.std.proofs.Common.{◌≡◌, ◌++◌, string_bytes}
-use Rattle.std.specs.Str.Iter.{chars_rest}
-use Rattle.mxf_lines.specs.Forms.{escaped}
-use Rattle.mxf_lines.proofs.printing.lines.field_writer.append_escaped.Given as goal
-
-abbrev pub invariant-loop-c : goal.invariant-loop-c
-invariant-loop-c l =
-    string_bytes l.line ++ escaped (chars_rest l.c-iterator) ≡ string_bytes l.initial.line ++ escaped l.fn.text

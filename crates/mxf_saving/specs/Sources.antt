@@ -1,0 +1,81 @@
+-- The texts that name sources on the command line (this project's profile).
+use Rattle.std.specs.Prelude.{◌≡◌, ℕ, ◌+◌, ◌-◌, ◌*◌, ◌<◌, ◌≤◌, ◌⊎◌, true, List, [], ◌∷◌, ◌++◌}
+use Rattle.std.specs.Prelude.{length, slice_index, codes, Result, Ok, Err}
+use Rattle.std.specs.Str.{all_ascii_digits}
+use Rattle.mxf_klv.specs.Note.{greatest_end}
+use Rattle.mxf_saving.specs.declared.source.Source.{Source}
+use Rattle.mxf_saving.specs.declared.source.Source.TheVariants as sources
+use Rattle.mxf_saving.specs.declared.source.SourceWordFault.{SourceWordFault}
+use Rattle.mxf_saving.specs.declared.source.SourceWordFault.TheVariants.{NoScheme, BadOffset, NoPath}
+
+-- A source: a piece of a file from an offset on, a range, whose first byte may lie inside a packet, or a saved
+-- catalogue.
+pub data SourceParts : Type 0 where
+  Piece : ℕ → List ℕ → SourceParts
+  Range : ℕ → List ℕ → SourceParts
+  Saved : List ℕ → SourceParts
+
+abbrev pub source_parts : Source → SourceParts
+source_parts (sources.Piece offset path) = Piece offset path.now
+source_parts (sources.Range offset path) = Range offset path.now
+source_parts (sources.Saved path) = Saved path.now
+
+-- The path of the file of a source.
+abbrev pub path_of : SourceParts → List ℕ
+path_of (Piece offset path) = path
+path_of (Range offset path) = path
+path_of (Saved path) = path
+
+abbrev pub at_scheme : List ℕ
+at_scheme = codes "at:"
+
+abbrev pub range_scheme : List ℕ
+range_scheme = codes "range:"
+
+abbrev pub cat_scheme : List ℕ
+cat_scheme = codes "cat:"
+
+-- The value of a decimal digit.
+abbrev pub digit_of : ℕ → ℕ
+digit_of c = c - slice_index (codes "0") 0
+
+-- The number that decimal digits write, after the number so far.
+abbrev pub decimal_from : ℕ → List ℕ → ℕ
+decimal_from n [] = n
+decimal_from n (c ∷ cs) = decimal_from (n * 10 + digit_of c) cs
+
+-- The text is one or more decimal digits that write the offset, which is at most the greatest end of a packet.
+pub record IsOffset (text : List ℕ) (offset : ℕ) : Type 0 where
+  pub some : 0 < length text
+  pub digits : all_ascii_digits text ≡ true
+  pub value : offset ≡ decimal_from 0 text
+  pub within : offset ≤ greatest_end
+
+-- What follows `at:` or `range:` is an offset, a colon and a path.
+pub record SplitsSource (rest digits path : List ℕ) (offset : ℕ) : Type 0 where
+  pub whole : rest ≡ digits ++ (codes ":" ++ path)
+  pub place : IsOffset digits offset
+
+-- What such a text names: an offset and a path. Else it has no offset with a colon after it, or the path is empty.
+abbrev pub ReadsPlace : List ℕ → Result (ℕ × List ℕ) SourceWordFault → Type 0
+ReadsPlace text (Ok (offset, path)) = (0 < length path) × ((digits : List ℕ) × SplitsSource text digits path offset)
+ReadsPlace text (Err NoScheme) = ⊥
+ReadsPlace text (Err BadOffset) = (digits path : List ℕ) (offset : ℕ) → SplitsSource text digits path offset → ⊥
+ReadsPlace text (Err NoPath) = (digits : List ℕ) × (offset : ℕ) × SplitsSource text digits [] offset
+
+-- A text begins with the scheme of a piece or of a range, and the rest follows.
+abbrev pub IsPlaced : List ℕ → List ℕ → Type 0
+IsPlaced text rest = (text ≡ at_scheme ++ rest) ⊎ (text ≡ range_scheme ++ rest)
+
+-- What a source text names: `at:OFFSET:PATH` a piece, `range:OFFSET:PATH` a range, `cat:PATH` a catalogue. Else it
+-- begins with no scheme; or after `at:` or `range:` stands no offset with a colon after it; or the path is empty.
+abbrev pub ReadsSource : List ℕ → Result SourceParts SourceWordFault → Type 0
+ReadsSource text (Ok (Piece offset path)) =
+    (rest : List ℕ) × (text ≡ at_scheme ++ rest) × ReadsPlace rest (Ok (offset, path))
+ReadsSource text (Ok (Range offset path)) =
+    (rest : List ℕ) × (text ≡ range_scheme ++ rest) × ReadsPlace rest (Ok (offset, path))
+ReadsSource text (Ok (Saved path)) = (text ≡ cat_scheme ++ path) × (0 < length path)
+ReadsSource text (Err NoScheme) = (rest : List ℕ) → ¬ IsPlaced text rest × (text ≡ cat_scheme ++ rest → ⊥)
+ReadsSource text (Err BadOffset) = (rest : List ℕ) × IsPlaced text rest × ReadsPlace rest (Err BadOffset)
+ReadsSource text (Err NoPath) =
+    (text ≡ cat_scheme) ⊎ ((rest : List ℕ) × IsPlaced text rest × ReadsPlace rest (Err NoPath))

@@ -1,0 +1,2 @@
+//! The law of sources.
+pub use crate::source::one_source;

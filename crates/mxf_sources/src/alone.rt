@@ -1,0 +1,68 @@
+//! What sources hold, each by itself.
+use crate::lists::unread;
+use crate::opened::{open_sources, ungathered};
+use crate::system::System;
+use mxf_catalogue::Catalogue;
+use mxf_hints::{Contents, RunFault, gather_each, gather_one, line_on_screen, part_of};
+use mxf_saving::{LastFault, Source};
+use mxf_watching::{Screen, Watched};
+use std::alloc::{AllocError, Global};
+use std::fs;
+
+/// The words that name the sources, as a terminal shows them.
+pub fn names_of(alloc: Global, sources: &[Source<'_>]) -> Result<Vec<String>, AllocError> {
+    let mut names = Vec::new(alloc);
+    for source in sources {
+        names.push(line_on_screen(alloc, source)?)?;
+    }
+    Ok(names)
+}
+
+/// What each source holds by itself. All are opened before the first is read.
+pub fn read_each<'a, R: System>(
+    rt: &R,
+    screen: Screen,
+    sources: &[Source<'a>],
+) -> Result<Contents, RunFault<'a>> {
+    let last = LastFault::new();
+    let opened = open_sources(rt, screen, sources, &last)?;
+    match gather_each(rt.alloc(), opened.parts) {
+        Ok(contents) => Ok(contents),
+        Err(fault) => Err(ungathered(&fault, sources, &last)),
+    }
+}
+
+/// What each source holds by itself. One after the other is opened and read.
+pub fn read_all_alone<'a, R: System>(
+    rt: &R,
+    screen: Screen,
+    sources: &[Source<'a>],
+) -> Result<Vec<Catalogue>, RunFault<'a>> {
+    let mut contents = Vec::new(rt.alloc());
+    for source in sources {
+        let content = read_alone(rt, screen, source)?;
+        if contents.push(content).is_err() {
+            return Err(RunFault::OutOfMemory);
+        }
+    }
+    Ok(contents)
+}
+
+/// What a source holds by itself. It is opened and read.
+pub fn read_alone<'a, R: System>(
+    rt: &R,
+    screen: Screen,
+    source: &Source<'a>,
+) -> Result<Catalogue, RunFault<'a>> {
+    let last = LastFault::new();
+    let path = source.path();
+    let file = match fs::open(rt, path) {
+        Ok(file) => file,
+        Err(fault) => return Err(unread(path, &fault)),
+    };
+    let part = part_of(source, Watched::new(rt, screen, source, file, &last));
+    match gather_one(rt.alloc(), part) {
+        Ok(gathered) => Ok(gathered.views.into_catalogue()),
+        Err(fault) => Err(RunFault::of_part(path, fault, last.get())),
+    }
+}

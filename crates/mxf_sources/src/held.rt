@@ -1,0 +1,152 @@
+//! What sources hold together, with what is put together of bytes at hand.
+use crate::opened::{Opened, open_sources, ungathered};
+use crate::reopened::Reopened;
+use crate::system::System;
+use mxf_hand::{Extent, Given, PutTogether, SourceFault, put_together, settle};
+use mxf_hints::RunFault;
+use mxf_places::AtHand;
+use mxf_read::{GatherFault, Gathered, PartFault, PieceReports, gather};
+use mxf_saving::{LastFault, Source};
+use mxf_views::Views;
+use mxf_watching::Screen;
+use std::alloc::Global;
+use std::io::Read;
+
+/// What sources hold together, which of their bytes are at hand, and where they lie.
+#[derive(Drop)]
+pub struct HeldBySources {
+    pub gathered: Gathered,
+    pub at_hand: AtHand,
+    pub extents: Vec<Extent>,
+}
+
+/// What the sources hold together. All are opened before the first is read.
+pub fn hold_sources<'a, R: System>(
+    rt: &R,
+    screen: Screen,
+    sources: &[Source<'a>],
+) -> Result<HeldBySources, RunFault<'a>> {
+    let last = LastFault::new();
+    let opened = open_sources(rt, screen, sources, &last)?;
+    hold_opened(rt, opened, sources, &last)
+}
+
+/// What sources hold together that were opened. If one of them is a range, packets are put together of bytes at hand.
+pub fn hold_opened<'r, 'a, R: System, F: Read + Drop>(
+    rt: &'r R,
+    opened: Opened<F>,
+    sources: &[Source<'a>],
+    last: &'r LastFault,
+) -> Result<HeldBySources, RunFault<'a>> {
+    let Opened { parts, extents } = opened;
+    match gather(rt.alloc(), parts) {
+        Ok(gathered) => complete(rt, gathered, extents, sources, last),
+        Err(fault) => Err(ungathered(&fault, sources, last)),
+    }
+}
+
+/// The same, with the stops of pieces as ends that what is held makes up for.
+pub fn settled<'a>(
+    alloc: Global,
+    held: HeldBySources,
+    sources: &[Source<'_>],
+) -> Result<HeldBySources, RunFault<'a>> {
+    let HeldBySources {
+        gathered,
+        at_hand,
+        extents,
+    } = held;
+    let Gathered { views, reports } = gathered;
+    let reports = settled_reports(alloc, &views, &extents, reports, sources)?;
+    Ok(HeldBySources {
+        gathered: Gathered { views, reports },
+        at_hand,
+        extents,
+    })
+}
+
+/// The reports of pieces, with the stops as ends that what is held makes up for, if one of the sources is a range.
+pub fn settled_reports<'a>(
+    alloc: Global,
+    views: &Views,
+    extents: &[Extent],
+    reports: PieceReports,
+    sources: &[Source<'_>],
+) -> Result<PieceReports, RunFault<'a>> {
+    if !has_range(sources) {
+        return Ok(reports);
+    }
+    match settle(alloc, views, extents, reports) {
+        Ok(settled) => Ok(settled),
+        Err(_) => Err(RunFault::OutOfMemory),
+    }
+}
+
+/// Whether one of the sources is a range.
+fn has_range(sources: &[Source<'_>]) -> bool {
+    sources.iter().any(|source| source.is_range())
+}
+
+/// Puts packets together of bytes at hand.
+fn complete<'r, 'a, R: System>(
+    rt: &'r R,
+    gathered: Gathered,
+    extents: Vec<Extent>,
+    sources: &[Source<'a>],
+    last: &'r LastFault,
+) -> Result<HeldBySources, RunFault<'a>> {
+    let Gathered { views, reports } = gathered;
+    let PutTogether { views, at_hand } = completed(rt, views, &extents, sources, last)?;
+    let gathered = Gathered { views, reports };
+    Ok(HeldBySources {
+        gathered,
+        at_hand,
+        extents,
+    })
+}
+
+/// Puts packets together of bytes at hand, if one of the sources is a range.
+pub fn completed<'r, 'a, R: System>(
+    rt: &'r R,
+    views: Views,
+    extents: &[Extent],
+    sources: &[Source<'a>],
+    last: &'r LastFault,
+) -> Result<PutTogether, RunFault<'a>> {
+    if !has_range(sources) {
+        let at_hand = AtHand::nothing(rt.alloc());
+        return Ok(PutTogether { views, at_hand });
+    }
+    match put_views_together(rt, views, extents, sources, last) {
+        Ok(together) => Ok(together),
+        Err(fault) => Err(unread_again(fault, sources, last)),
+    }
+}
+
+/// Puts packets together of bytes at hand: the files of the sources are opened once more where their bytes are asked
+/// for.
+fn put_views_together<R: System>(
+    rt: &R,
+    views: Views,
+    extents: &[Extent],
+    sources: &[Source<'_>],
+    last: &LastFault,
+) -> Result<PutTogether, SourceFault> {
+    let given = Given::of(rt.alloc(), Vec::from_slice(rt.alloc(), extents)?)?;
+    let mut reopened = Reopened::new(rt, sources, last);
+    put_together(rt.alloc(), views, given, &mut reopened)
+}
+
+/// Why bytes of the sources weren't read again.
+fn unread_again<'a>(fault: SourceFault, sources: &[Source<'a>], last: &LastFault) -> RunFault<'a> {
+    match fault {
+        SourceFault::OutOfMemory => RunFault::OutOfMemory,
+        SourceFault::ReadFault { source_number } => {
+            let fault = GatherFault {
+                part: source_number,
+                fault: PartFault::ReadFault,
+            };
+            ungathered(&fault, sources, last)
+        }
+    }
+}

@@ -1,0 +1,86 @@
+//! Sources that are read again: their files are opened once more, by their paths.
+ghost use Rattle.std.specs.Prelude.{◌≤◌, IfOk, length};
+
+use mxf_hand::{Extent, Sources};
+use mxf_klv::MAX;
+use mxf_read::Step;
+use mxf_saving::{LastFault, Source};
+use std::fs::{self, File};
+use std::io::{self, ErrorKind, Read, Seek, SeekFrom};
+use std::rt::Files;
+
+/// A file that is open, and the number of its source.
+#[derive(Drop)]
+struct OpenFile {
+    source: usize,
+    file: File,
+}
+
+/// The sources of a run, whose files are opened again where their bytes are asked for. One at most is open.
+#[derive(Drop)]
+pub struct Reopened<'r, 's, R: Files<File = File>> {
+    rt: &'r R,
+    sources: &'s [Source<'s>],
+    open: Option<OpenFile>,
+    last: &'r LastFault,
+}
+
+impl<'r, 's, R: Files<File = File>> Reopened<'r, 's, R> {
+    /// None is open yet. What the system says of a failed call is kept in `last`.
+    pub fn new(rt: &'r R, sources: &'s [Source<'s>], last: &'r LastFault) -> Reopened<'r, 's, R> {
+        Reopened {
+            rt,
+            sources,
+            open: None,
+            last,
+        }
+    }
+
+    /// The file of a source, which is opened unless it is open.
+    fn take_file(&mut self, source: usize) -> io::Result<File> {
+        if let Some(open) = self.open.take() {
+            if open.source == source {
+                return Ok(open.file);
+            }
+        }
+        match self.sources.get(source) {
+            Some(named) => fs::open(self.rt, named.path()),
+            None => Err(io::Error::from(ErrorKind::NotFound)),
+        }
+    }
+
+    /// Reads once of the file of a source, after that many of its bytes.
+    fn read_behind(&mut self, source: usize, position: u64, room: &mut [u8]) -> io::Result<usize>
+        ensures { IfOk result (λ count. count ≤ length room.new) }
+    {
+        let mut file = self.take_file(source)?;
+        file.seek(SeekFrom::Start(position))?;
+        let count = file.read(room)?;
+        self.open = Some(OpenFile { source, file });
+        Ok(count)
+    }
+}
+
+impl<R: Files<File = File>> Sources for Reopened<'_, '_, R> {
+    fn read_at(&mut self, source: usize, position: u64, room: &mut [u8]) -> Step {
+        match self.read_behind(source, position, room) {
+            Ok(0) => Step::Ended,
+            Ok(count) => Step::Took(count),
+            Err(fault) if fault.kind() == ErrorKind::Interrupted => Step::Interrupted,
+            Err(fault) => {
+                self.last.keep(&fault);
+                Step::Failed
+            }
+        }
+    }
+}
+
+/// Where the bytes of a source lie whose file has this size, in bytes: none of a catalogue.
+pub fn extent_of(source: &Source<'_>, size: u64) -> Extent {
+    match *source {
+        Source::Piece { offset, .. } | Source::Range { offset, .. } => {
+            Extent::new(offset.min(MAX), size)
+        }
+        Source::Saved { .. } => Extent::new(0, 0),
+    }
+}

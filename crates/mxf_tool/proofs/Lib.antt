@@ -1,4 +1,0 @@
-pub mod ContentsLaws
-pub mod ListLaws
-pub mod ShiftLaws
-pub mod SourceLaws

@@ -1,5 +1,0 @@
-use Rattle.mxf_tool.proofs.ShiftLaws as laws
-use Rattle.mxf_tool.proofs.shift.one_shift.Goals as goal
-
-pub returns : goal.returns
-returns c = laws.one_shift

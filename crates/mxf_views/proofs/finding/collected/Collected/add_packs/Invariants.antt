@@ -1,8 +1,0 @@
-use Rattle.mxf_views.proofs.Common.{◌≡◌, ◌++◌, map, F04, finding, findings_for}
-use Rattle.mxf_views.proofs.finding.collected.Collected.add_packs.Given as goal
-
-abbrev pub invariant-loop-note : goal.invariant-loop-note
-invariant-loop-note l =
-    l.self ++
-    (map (finding F04) (map (λ n. n.offset) l.note-iterator))
-    ≡ l.fn.self ++ (findings_for F04 l.views)

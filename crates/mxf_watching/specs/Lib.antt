@@ -1,0 +1,2 @@
+pub mod OnScreen
+pub mod Progress
