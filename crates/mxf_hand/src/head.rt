@@ -1,12 +1,11 @@
 //! Heads by their offsets, and the bytes of their key and length.
 ghost use Rattle.std.specs.Prelude.{◌≡◌, ◌≢◌, ◌+◌, ◌==◌, ◌<◌, ◌≤◌, ◌++◌, ◌∷◌, [], ℕ, IfOk, OnOk, filter, get_or, length};
-ghost use Rattle.std.specs.Prelude.{map, not, nat_le, nat_lt, ◌&&◌, true, false};
-ghost use Rattle.std.specs.List.Sorted.{IsNonDecreasingBy};
+ghost use Rattle.std.specs.Prelude.{map, not, true, false};
 ghost use Rattle.mxf_klv.specs.Note.{covered_end};
 ghost use Rattle.mxf_hand.specs.Heads.{heads_to, key_and_length};
 
 use mxf_catalogue::Catalogue;
-use mxf_klv::{Ber, Encode, Keyed, Note, OutOfMemory, below};
+use mxf_klv::{Ber, Encode, Keyed, Note, OutOfMemory, between};
 use mxf_places::KEY_AND_LENGTH;
 use std::alloc::Global;
 use std::marker::Model;
@@ -60,7 +59,7 @@ impl<'a> Heads<'a> {
     pub fn ending_at(&self, alloc: Global, end: u64) -> Result<Vec<HeadNote<'a>>, OutOfMemory>
         ensures { IfOk result (λ v. map (λ h. h.0.now) v.items ≡ heads_to end self.now) }
     {
-        let near = between(&self.heads, end.saturating_sub(KEY_AND_LENGTH), end);
+        let near = between(&self.heads, end.saturating_sub(KEY_AND_LENGTH), Some(end));
         heads_ending(alloc, near, end)
     }
 }
@@ -107,18 +106,6 @@ fn push_ending<'a>(
     }
     ending.push(head)?;
     Ok(())
-}
-
-/// The heads that begin at or above an offset and below another, in bytes.
-fn between<'b, 'a>(heads: &'b [HeadNote<'a>], from: u64, to: u64) -> &'b [HeadNote<'a>]
-    requires { IsNonDecreasingBy (λ h. h.0.now.offset) heads.now }
-    ensures { result.now ≡ filter (λ h. nat_le from h.0.now.offset && nat_lt h.0.now.offset to) heads.now }
-{
-    let end = below(heads, to);
-    let start = below(heads, from).min(end);
-    let (front, _) = heads.split_at(end);
-    let (_, between) = front.split_at(start);
-    between
 }
 
 /// The bytes of key and length of a packet. They take memory.

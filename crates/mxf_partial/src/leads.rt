@@ -1,13 +1,13 @@
 //! What is restored to find partitions and index table segments.
-ghost use Rattle.std.specs.Prelude.{◌≡◌, ◌≤◌, ◌++◌, true, false, filter, flat_map, length, nat_lt, IfOk, OnOk};
-ghost use Rattle.std.specs.List.{AllWithin, filter_map};
+ghost use Rattle.std.specs.Prelude.{◌≡◌, ◌++◌, flat_map, IfOk, OnOk};
+ghost use Rattle.std.specs.List.{filter_map};
 ghost use Rattle.std.specs.List.Sorted.{IsNonDecreasingBy};
-ghost use Rattle.std.specs.Option.{option_map_or, option_to_list};
+ghost use Rattle.std.specs.Option.{option_to_list};
 ghost use Rattle.mxf_restore.specs.Fronts.{front_of};
-ghost use Rattle.mxf_partial.specs.Fronts.{earlier, first_source, front_by, front_order, lies_between};
+ghost use Rattle.mxf_partial.specs.Fronts.{earlier, first_source, front_by, front_order};
 ghost use Rattle.mxf_partial.specs.Helping.{helping_of};
 
-use mxf_klv::{OutOfMemory, below};
+use mxf_klv::{OutOfMemory, between};
 use mxf_places::Reason;
 use mxf_restore::{NamedPlace, Order, Section, SectionOrders};
 use std::alloc::Global;
@@ -162,31 +162,5 @@ fn earlier(first: Option<Option<u64>>, source: Option<u64>) -> Option<u64>
         (None, source) => source,
         (Some(Some(first)), Some(source)) => Some(first.min(source)),
         _ => None,
-    }
-}
-
-/// The places from an offset on, in bytes, up to an end if there is one.
-fn between(asked: &[NamedPlace], from: u64, end: Option<u64>) -> &[NamedPlace]
-    requires { IsNonDecreasingBy (λ n. n.place) asked.now }
-    ensures { result.now ≡ filter (lies_between from end) asked.now }
-{
-    let to = count_below(asked, end);
-    let start = below(asked, from).min(to);
-    let (front, _) = asked.split_at(to);
-    let (_, between) = front.split_at(start);
-    between
-}
-
-/// The number of the places below an end, in bytes; all of them if there is none.
-fn count_below(asked: &[NamedPlace], end: Option<u64>) -> usize
-    requires { IsNonDecreasingBy (λ n. n.place) asked.now }
-    ensures bound { result ≤ length asked.now }
-    ensures below { AllWithin (λ n. option_map_or (λ e. nat_lt n.place e) end true ≡ true) asked.now 0 result }
-    ensures above { AllWithin (λ n. option_map_or (λ e. nat_lt n.place e) end true ≡ false) asked.now result
-        (length asked.now) }
-{
-    match end {
-        Some(end) => below(asked, end),
-        None => asked.len(),
     }
 }

@@ -23,7 +23,7 @@ use Rattle.mxf_klv.proofs.Lists.{all-In}
 use Rattle.mxf_klv.proofs.Tests.{not_true, not-true-false, same_bool}
 use Rattle.mxf_catalogue.proofs.HeadWords.{own_head}
 use Rattle.mxf_catalogue.proofs.Ranges.{offsets_rise}
-use Rattle.mxf_views.proofs.NumbersLaws.{count_mapped}
+use Rattle.mxf_readings.proofs.CountLaws.{count-alike, count-both, count-front, count-some, count_mapped, some-count}
 use Rattle.mxf_verify.specs.Comparing.{Contradicts, SharesHeldByte, is_held_byte_shared}
 use Rattle.mxf_verify.specs.Opposing.{AreBounds, IsOpposed}
 use Rattle.mxf_verify.proofs.ComparingLaws.{holds_first, share-by_test}
