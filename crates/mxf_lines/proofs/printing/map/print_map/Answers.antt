@@ -23,7 +23,9 @@ returns-clause-lines g c = λ m extents is told.
     let own = c.in_ok-map.map in
     let known : KnownParts = record { notes = c.args.views.now; at = c.args.at_hand.now } in
     let here : IsMap known (c.args.grid.columns * c.args.grid.rows) own =
-    subst (λ (k : ℕ). IsMap known k own) (λ i. c.from.ensures i * c.from-2.ensures i) c.in_ok-map.ensures in
+    subst (λ (k : ℕ). IsMap known k own)
+    (λ i. (c.from.ensures ∙ c.columns-columns.ensures.columns) i * (c.from-2.ensures ∙ c.rows.ensures.rows) i)
+    c.in_ok-map.ensures in
     let same : own ≡ m = one_map known (c.args.grid.columns * c.args.grid.rows) own m here is in
     let mine = c.in_ok-extents.extents.items in
     let own_told : AreToldExtents known own.end c.args.with_extents mine =
@@ -32,4 +34,5 @@ returns-clause-lines g c = λ m extents is told.
     (subst (λ (k : MapParts). AreToldExtents known k.end c.args.with_extents mine) same own_told) told in
     subst (Prints c.args.form (Writes {X = Unit {0}} (g.W.Write.contents c.args.writer.now)
     (g.W.Write.contents c.print_picture.new.writer)) c.print_picture.result)
-    (λ i. map_lines c.args.grid.columns (same i) ((c.deref.ensures.value ∙ all) i)) c.print_picture.ensures
+    (λ i. map_lines (c.columns-columns.ensures.columns i) (same i) ((c.deref.ensures.value ∙ all) i))
+    c.print_picture.ensures
