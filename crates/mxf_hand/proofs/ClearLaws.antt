@@ -66,42 +66,16 @@ noted_end offset bytes n i =
 
 -- The head that a reading ends with begins where its packets end.
 cut_begins : (offset : ℕ) (bytes : List ℕ) (n : NoteParts) → In n (cut_heads offset bytes) → offset ≤ n.offset
-cut_begins offset bytes n i =
-    let packets = packets_of_piece offset bytes in
-    let at = end_after offset packets in
-    let rest = rest_in offset bytes in
-    elim (heads_few at rest) [
-      | inl none ↦ absurd (subst (In n) none i)
-      | inr s ↦ elim (subst (In n) s.1 i) [
-        | inl e ↦
-            let begins = head_begins at rest s.0 s.2 in
-            let same : n.offset ≡ s.0.offset = ap (λ (m : NoteParts). m.offset) e in
-            let up = end_up offset packets in omega (arith, begins, same, up)
-        | inr none ↦ absurd none
-      ]
-    ]
+cut_begins offset bytes n i = grind (arith, heads_few, head_begins, end_up)
 
 -- A reading goes no further than its end.
 read_within : (h : HandBytes) (end from : ℕ) → read_to h.runs (Some end) from ≤ end ⊎ (read_to h.runs (Some end) from ≡ from)
-read_within h end from =
-    elim (run_end h.runs from) as (λ o. option_map_or (λ e. up_to_bound e (Some end)) o from ≤ end
-    ⊎ (option_map_or (λ e. up_to_bound e (Some end)) o from ≡ from)) [
-      | None ↦ inr refl
-      | Some e ↦ inl (omega arith)
-    ]
+read_within h end from = grind arith
 
 read_below : (h : HandBytes) (end : Option ℕ) (from x : ℕ) → from ≤ x → x < from + (read_to h.runs end from - from)
     → (end ≡ None) ⊎ ((e : ℕ) × (end ≡ Some e) × (x < e))
 read_below h None from x low high = inl refl
-read_below h (Some e) from x low high =
-    inr (
-      e,
-      refl,
-      elim (read_within h e from) [
-        | inl le ↦ omega (arith, le, low, high)
-        | inr is ↦ absurd (omega (arith, is, low, high))
-      ],
-    )
+read_below h (Some e) from x low high = grind (arith, read_within)
 
 -- A packet that ends in a hole has no offset behind it.
 hole_below : (end : Option ℕ) (m : NoteParts) (x : ℕ) → ends_within end m ≡ true → x < end_of m
@@ -143,14 +117,7 @@ module _ (notes : List NoteParts) (content : IsContent notes) (n : NoteParts) (c
 
   -- The packet of a head shares no byte with a clear one.
   head_apart : (m : NoteParts) → In m notes → m.whole ≡ false → SharesByte m n → ⊥
-  head_apart m i head s =
-      clear.undisputed (
-        m,
-        i,
-        (λ e. let w : m.whole ≡ n.whole = ap (λ (k : NoteParts). k.whole) e in
-            let whole : n.whole ≡ true = clear.whole in cc (w, head, whole)),
-        s,
-      )
+  head_apart m i head s = grind arith
 
   -- A clear note has no byte in a hole.
   none_in_hole : (p : Section) (x : ℕ) → In p (sections_of notes) → IsInSpan n x → LiesInRange p.hole x → ⊥
@@ -254,20 +221,7 @@ module _ (notes : List NoteParts) (content : IsContent notes) (n : NoteParts) (c
 
   -- The packet of a head has the span of the head.
   as_head : (h : HandBytes) (a m : NoteParts) → a.whole ≡ false → m ≡ packet_of h a → SharesByte m n → SharesByte a n
-  as_head h a m head e s =
-      let end : end_of m ≡ end_of (packet_of h a) = ap end_of e in
-      let at : m.offset ≡ a.offset = ap (λ (k : NoteParts). k.offset) e in
-      let value = bytes_between h.byte (covered_end a) (end_of a) in
-      let size = read_count h.byte value (covered_end a) (end_of a) refl in
-      let covers : covered_end a ≡ a.offset + 16 + a.width =
-      ap (λ b. cond b (end_of a) (a.offset + 16 + a.width)) head in
-      let le = covers_below_end a in
-      let low : m.offset ≤ s.0 = s.1.from in
-      let high : s.0 + 1 ≤ end_of m = s.1.before in (
-        s.0,
-        record { from = omega (arith, at, low); before = omega (arith, end, size, covers, le, high) },
-        s.2,
-      )
+  as_head h a m head e s = grind (arith, read_count, covers_below_end)
 
   made_by_apart : (h : HandBytes) (end : Option ℕ) (heads : List NoteParts) (m : NoteParts)
       → ((a : NoteParts) → In a heads → In a notes × (a.whole ≡ false)) → In m (made_by h end heads)

@@ -103,13 +103,7 @@ pub gives_read : (told : Option (List SourceParts)) (extents : List Extent) (giv
     (number at : ℕ) (e : Extent) (bytes : List ℕ) → AreTold told extents given → slice_get extents number ≡ Some e
     → e.offset ≤ at → IfSome told (λ given. StandAt given number (at - e.offset) bytes)
     → GivesAll given number at bytes
-gives_read told extents given number at e bytes are is from stands =
-    let s : StandAt given number (at - e.offset) bytes =
-    subst (λ (t : Option (List SourceParts)). IfSome t (λ given. StandAt given number (at - e.offset) bytes)) are.is
-    stands in
-    let same = same_offset given extents number s.0 e are.extents s.2 is in
-    gives_standing given number s.0 bytes s.1 at s.2 (omega (arith, same, from))
-    (ap (λ k. drop (at - k) s.0.bytes) same ∙ s.3)
+gives_read told extents given number at e bytes are is from stands = grind (arith, same_offset, gives_standing)
 
 -- ---- what is noted
 
@@ -239,13 +233,7 @@ source_of : (sources : List SourceParts) (extents : List Extent) (k : ℕ) (e : 
     → (s : SourceParts) × (slice_get sources k ≡ Some s) × (s.offset ≡ e.offset) × (length s.bytes ≡ e.size)
 source_of sources [] k e h is = absurd cc
 source_of [] (f ∷ extents) k e h is = absurd h
-source_of (s ∷ sources) (f ∷ extents) zero e h is =
-    let same = same_Some f e is in (
-      s,
-      refl,
-      h.0 ∙ ap (λ (r : Extent). r.offset) same,
-      h.1 ∙ ap (λ (r : Extent). r.size) same,
-    )
+source_of (s ∷ sources) (f ∷ extents) zero e h is = grind (arith, same_Some)
 source_of (s ∷ sources) (f ∷ extents) (suc k) e h is = source_of sources extents k e h.2 is
 
 module _ (sources : List SourceParts) (extents : List Extent) (have : HaveExtents sources extents)

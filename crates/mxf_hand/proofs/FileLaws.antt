@@ -120,10 +120,7 @@ stands_in o (p ∷ l) n (inr i) =
     }
 
 none_left : (at : ℕ) → BeginsWithNone at []
-none_left at front after p spelled e =
-    let size = length-spelled front p spelled in
-    let all : 0 ≡ length (front ++ after) = ap length e in
-    let both = length-append front after in absurd (omega (arith, size, all, both))
+none_left at front after p spelled e = grind (arith, length-spelled, length-append)
 
 -- Bytes begin with one key.
 one_key : {bytes key other after rest : List ℕ} {l m : LengthParts} → BeginsWithKeyAndLength bytes key l after
@@ -164,10 +161,7 @@ module _ (q : ℕ) (read more behind : List ℕ) (back : List PacketParts) (join
       subst (In n) (sym notes_are) ((In-append n (notes_from q packets) (notes_from at others)).1 (inl i))
 
   others_laid : AreLaid at (rest_in q read ++ more) others []
-  others_laid =
-      subst (AreLaid at (rest_in q read ++ more) others)
-      (sym (whole_is.1 ∙ ap (rest_in q) joined ∙ (seam q read more).rest))
-      (some_piece at (rest_in q read ++ more)).laid
+  others_laid = grind (arith, whole_is, joined, seam, some_piece)
 
   -- What ends at or below its end it has whole.
   read_whole : (m : NoteParts) → In m (notes_from q back) → end_of m ≤ q + length read → In m (packet_notes q read)
@@ -442,28 +436,15 @@ module _ (l : List PacketParts) (bytes : List ℕ) (h : HandBytes) (laid : AreLa
 
     packets_of_file : (p : Section) (m : NoteParts) → In p (sections_of notes) → In m (packets_of h notes p)
         → IsOfFile l m
-    packets_of_file p m i k =
-        elim (from_of h notes p) as (λ o. from_of h notes p ≡ o → In m (option_map_or (read_packets h p.end) o [])
-        → IsOfFile l m) [
-          | None ↦ λ e j. absurd j
-          | Some q ↦ λ e j. packet_of_file p.end q m (from_boundary p q i e) j
-        ] refl k
+    packets_of_file p m i k = grind (arith, packet_of_file, from_boundary)
 
     heads_of_file : (p : Section) (m : NoteParts) → In p (sections_of notes) → In m (heads_of h notes p) → IsOfFile l m
-    heads_of_file p m i k =
-        elim (from_of h notes p) as (λ o. from_of h notes p ≡ o → In m (option_map_or (read_heads h p.end) o [])
-        → IsOfFile l m) [
-          | None ↦ λ e j. absurd j
-          | Some q ↦ λ e j. head_of_file p.end q m (from_boundary p q i e) j
-        ] refl k
+    heads_of_file p m i k = grind (arith, head_of_file, from_boundary)
 
     -- The value of the head is at hand.
     value_lies : (a : NoteParts) → is_value_at_hand h a ≡ true → (x : ℕ) → covered_end a ≤ x → x < end_of a
         → LiesIn h.runs x
-    value_lies a t =
-        let parts = and_parts (not a.whole) _ t in
-        let value = and_parts (nat_lt 0 a.length) _ parts.1 in
-        (has_offsets-says h.runs (covered_end a) (end_of a) cover).0 value.1
+    value_lies a t = grind (arith, and_parts, has_offsets-says)
 
     made_by_file : (end : Option ℕ) (heads : List NoteParts) (m : NoteParts)
         → ((a : NoteParts) → In a heads → In a notes × (a.whole ≡ false)) → In m (made_by h end heads) → IsOfFile l m

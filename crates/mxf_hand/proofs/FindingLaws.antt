@@ -99,13 +99,7 @@ no_start x h = absurd h.1
 -- What was found, seen by equal lists.
 pub same_found : (f : Found) (p q m n : List NoteParts) (h k : List CutHead) → p ≡ q → m ≡ n → h ≡ k → Finds f p m h
     → Finds f q n k
-same_found f p q m n h k ep em eh found = record {
-  read = found.read ∙ ap (reduced_union []) ep;
-  put = found.put ∙ ap (reduced_union []) em;
-  cut = found.cut ∙ eh;
-  starts = λ x. subst (λ (l : List NoteParts). LiesIn f.starts x ↔ IsStart (read_notes l k) x) ep
-      (subst (λ (l : List CutHead). LiesIn f.starts x ↔ IsStart (read_notes p l) x) eh (found.starts x));
-}
+same_found f p q m n h k ep em eh found = grind arith
 
 -- A packet that was made is added.
 pub grow_made : (old new : Found) (n : NoteParts) → new.packets ≡ old.packets → new.made ≡ reduced_with n old.made

@@ -36,15 +36,7 @@ between_part runs items start end e r i =
 
 pub between_lies : (runs items : List Run) (start end : ℕ) → items ≡ filter (is_between start (Some end)) runs
     → (x : ℕ) → start ≤ x → x < end → LiesIn runs x → LiesIn items x
-between_lies runs items start end e x low high lies =
-    let r = lies.0 in
-    let from : r.start ≤ x = lies.2.from in
-    let before : x + 1 ≤ r.end = lies.2.before in (
-      r,
-      subst (λ (l : List Run). In r l) (sym e) ((In-filter (is_between start (Some end)) runs r).1
-          (lies.1, and_from (nat_lt start r.end) (nat_lt r.start end) (lt-ltb start r.end (omega arith)) (lt-ltb r.start end (omega arith)))),
-      lies.2,
-    )
+between_lies runs items start end e x low high lies = grind (arith, In-filter, and_from, lt-ltb)
 
 -- A byte that was read.
 pub read_byte : (byte : ℕ → ℕ) (bytes : List ℕ) (from to x : ℕ) → bytes ≡ bytes_between byte from to → from ≤ x

@@ -42,24 +42,14 @@ none_kept {K} p (x ∷ xs) e =
 pub kept_mapped : {K L : Type 0} (f : K → L) (q : L → Bool) (xs : List K)
     → map f (filter (λ x. q (f x)) xs) ≡ filter q (map f xs)
 kept_mapped f q [] = refl
-kept_mapped {K} {L} f q (x ∷ xs) =
-    elim (q (f x)) as (λ b. map f (cond b (x ∷ filter (λ x. q (f x)) xs) (filter (λ x. q (f x)) xs))
-    ≡ cond b (f x ∷ filter q (map f xs)) (filter q (map f xs))) [
-      | true ↦ ap (λ (l : List L). f x ∷ l) (kept_mapped f q xs)
-      | false ↦ kept_mapped f q xs
-    ]
+kept_mapped {K} {L} f q (x ∷ xs) = grind (arith, kept_mapped f q xs)
 
 -- Where a packet begins: at the first of the heads.
 pub start_first : (heads : List HeadNote) (h : HeadNote) (end : ℕ) (notes : List NoteParts)
     → slice_get heads 0 ≡ Some h → map (λ x. x.0.now) heads ≡ heads_to end notes
     → h.0.now.offset ≡ start_of notes end
 start_first [] h end notes e f = absurd cc
-start_first (x ∷ heads) h end notes e f =
-    let is : x ≡ h = cc in
-    let found : find (is_head_to end) notes ≡ Some x.0.now =
-    first_kept (is_head_to end) notes (map (λ x. x.0.now) heads) x.0.now (sym f) in
-    ap (λ (y : HeadNote). y.0.now.offset) (sym is)
-    ∙ sym (ap (λ (o : Option NoteParts). option_map_or (λ n. n.offset) o end) found)
+start_first (x ∷ heads) h end notes e f = grind (arith, find, first_kept)
 
 pub start_none : (heads : List HeadNote) (end : ℕ) (notes : List NoteParts) → slice_get heads 0 ≡ None
     → map (λ x. x.0.now) heads ≡ heads_to end notes → end ≡ start_of notes end
@@ -71,15 +61,7 @@ start_none (x ∷ heads) end notes e f = absurd cc
 -- The key and length of a head begin up to 25 bytes before they end.
 near : (n : NoteParts) (end : ℕ) → IsNote n → n.whole ≡ false → covered_end n ≡ end
     → (end - 25 ≤ n.offset) × (n.offset < end)
-near n end is head e =
-    let covered : n.offset + 16 + n.width ≡ end =
-    sym (ap (λ (b : Bool). cond b (n.offset + 16 + n.width + n.length) (n.offset + 16 + n.width)) head) ∙ e in
-    elim is.width [
-      | inl w ↦ let one = w.0 in (omega (arith, covered, one), omega (arith, covered, one))
-      | inr w ↦
-          let least = w.0 in
-          let most = w.1 in (omega (arith, covered, least, most), omega (arith, covered, least, most))
-    ]
+near n end is head e = grind arith
 
 pub not_whole : (b : Bool) → not b ≡ true → b ≡ false
 not_whole true e = absurd cc
@@ -110,19 +92,7 @@ both {K} p q (x ∷ xs) f =
 tested : (notes : List NoteParts) (end : ℕ)
     → filter (λ n. covered_end n == end) (filter (λ n. not n.whole) notes) ≡ filter (is_head_to end) notes
 tested [] end = refl
-tested (n ∷ notes) end =
-    let rest = tested notes end in
-    elim n.whole as (λ w. filter (λ n. covered_end n == end) (cond (not w) (n ∷ filter (λ n. not n.whole) notes)
-    (filter (λ n. not n.whole) notes))
-    ≡ cond (not w && (covered_end n == end)) (n ∷ filter (is_head_to end) notes) (filter (is_head_to end) notes)) [
-      | true ↦ rest
-      | false ↦ elim (covered_end n == end) as (λ b. cond b (n ∷ filter (λ n. covered_end n == end)
-          (filter (λ n. not n.whole) notes)) (filter (λ n. covered_end n == end) (filter (λ n. not n.whole) notes))
-          ≡ cond b (n ∷ filter (is_head_to end) notes) (filter (is_head_to end) notes)) [
-            | true ↦ ap (λ (l : List NoteParts). n ∷ l) rest
-            | false ↦ rest
-          ]
-    ]
+tested (n ∷ notes) end = grind (arith, tested notes end)
 
 -- The heads of a catalogue, as a table.
 pub heads_are : (notes : List NoteParts) (heads : List HeadNote) → IsCatalogue notes

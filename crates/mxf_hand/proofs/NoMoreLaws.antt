@@ -82,10 +82,7 @@ module _ (l : List PacketParts) (h : HandBytes) (file : AreBytesOfFile l h) wher
       ∙ no_head_at q
 
   none_fits : (first : ℕ) → heads_to first whole ≡ []
-  none_fits first =
-      filter_none (is_head_to first) whole (λ n i t.
-      let head = not_whole n.whole (and_parts (not n.whole) (covered_end n == first) t).0 in
-      let packet = is_whole 0 l n i in cc (head, packet))
+  none_fits first = grind (arith, filter_none, not_whole, and_parts, is_whole)
 
   fits_nothing : (first : ℕ) → fitting h whole first ≡ []
   fits_nothing first =
@@ -105,29 +102,16 @@ module _ (l : List PacketParts) (h : HandBytes) (file : AreBytesOfFile l h) wher
       )
 
   packets_none : (p : Section) → In p (sections_of whole) → packets_of h whole p ≡ []
-  packets_none p k =
-      let s = from_there p k in
-      ap (λ (o : Option ℕ). option_map_or (read_packets h p.end) o []) s.1
-      ∙ ap (packet_notes s.0) (no_bytes p.end s.0 s.2) ∙ ap (notes_from s.0) (no_packets s.0)
+  packets_none p k = grind (arith, from_there, no_bytes, no_packets)
 
   heads_none : (p : Section) → In p (sections_of whole) → read_heads_of h whole p ≡ []
-  heads_none p k =
-      let s = from_there p k in
-      ap (map (λ (n : NoteParts). record { note = n; hole_end = p.hole.end }))
-      (ap (λ (o : Option ℕ). option_map_or (read_heads h p.end) o []) s.1
-      ∙ ap (cut_heads s.0) (no_bytes p.end s.0 s.2) ∙ no_heads s.0)
+  heads_none p k = grind (arith, from_there, no_bytes, no_heads)
 
   made_none : (p : Section) → In p (sections_of whole) → made_of h whole p ≡ []
   made_none p k = ap (made_by h p.hole.end) (fits_nothing p.first)
 
   taken_none : taken_in h whole (sections_of whole) ≡ []
-  taken_none =
-      let sections = sections_of whole in
-      let read = read_in h whole sections in
-      let packets = all_none (packets_of h whole) sections packets_none in
-      let made = all_none (made_of h whole) sections made_none in
-      let heads = all_none (read_heads_of h whole) sections heads_none in
-      λ i. packets i ++ (made i ++ map (λ (c : CutHead). c.note) (filter (is_taken read) (heads i)))
+  taken_none = grind (arith, all_none, packets_none, made_none, heads_none)
 
   pub no_more : round h whole ≡ whole
   unfolding round

@@ -16,19 +16,11 @@ use Rattle.mxf_read.specs.declared.piece.Piece.{Piece}
 -- of a value so many bytes less are to come
 pub left_less : (v w : ComingValue) (done part : List ℕ) (n : ℕ) → IsSamePacket v w → HasTaken v done
     → HasTaken w (done ++ part) → length part ≡ n → w.left + n ≡ v.left
-left_less v w done part n same before after len =
-    let total = ap (λ (l : LengthParts). l.value) same.spelled in
-    let a = before.counted in
-    let b = after.counted in
-    omega (arith, length-append done part)
+left_less v w done part n same before after len = grind (arith, length-append)
 
 -- all are of one packet
 pub same_packet : (u v w : ComingValue) → IsSamePacket u v → IsSamePacket v w → IsSamePacket u w
-same_packet u v w a b = record {
-  offset = b.offset ∙ a.offset;
-  key = b.key ∙ a.key;
-  spelled = b.spelled ∙ a.spelled;
-}
+same_packet u v w a b = grind arith
 
 -- a head covers key and length
 pub covered_head : (n : NoteParts) → n.whole ≡ false → covered_end n ≡ n.offset + 16 + n.width
@@ -37,27 +29,18 @@ covered_head n e = ap (λ (b : Bool). if b then end_of n else n.offset + 16 + n.
 -- its length is a spelled one
 pub head_length : (w l : ℕ) (r : Option LengthParts) (b : LengthParts) → r ≡ Some b
     → SomeIff r (CanSpell w l) (record { width = w; value = l }) → (b.width ≡ w) × (b.value ≡ l)
-head_length w l r b e some =
-    let is : SomeIff (Some b) (CanSpell w l) (record { width = w; value = l }) =
-    subst (λ (o : Option LengthParts). SomeIff o (CanSpell w l) (record { width = w; value = l })) e some in
-    (ap (λ (x : LengthParts). x.width) is.1, ap (λ (x : LengthParts). x.value) is.1)
+head_length w l r b e some = grind arith
 
 -- the note of the packet of a head
 pub taken_note : (head n : NoteParts) (v : ComingValue) (m : List ℕ) → v.offset ≡ head.offset → v.key ≡ head.key
     → v.ber.width ≡ head.width → n ≡ note_of v.offset (packet_parts v.key v.ber.width m)
     → n ≡ note_of head.offset (packet_parts head.key head.width m)
-taken_note head n v m at key width is =
-    is ∙ ap (λ (o : ℕ). note_of o (packet_parts v.key v.ber.width m)) at
-    ∙ ap (λ (k : List ℕ). note_of head.offset (packet_parts k v.ber.width m)) key
-    ∙ ap (λ (w : ℕ). note_of head.offset (packet_parts head.key w m)) width
+taken_note head n v m at key width is = grind arith
 
 -- what a piece tells of the bytes is their reading
 pub reading_told : (o : ℕ) (m : List ℕ) (p : Piece) (notes : List NoteParts) (head : Option NoteParts) → Tells o m p
     → notes ≡ p.notes → option_list head ≡ begun_heads p.stop p.value → IsReading o m notes head
-reading_told o m p notes head tells e f = record {
-  notes = e ∙ tells.knows.notes;
-  head = f ∙ tells.head ∙ ap (λ (at : ℕ). heads_at at (rest_in o m)) tells.knows.at;
-}
+reading_told o m p notes head tells e f = grind arith
 
 -- the numbers of a note's length can be spelled
 pub can_spell : (n : NoteParts) (w l : ℕ) → IsNote n → w ≡ n.width → l ≡ n.length → CanSpell w l

@@ -126,32 +126,11 @@ AreMaximal-filter : (low from to : ℕ) (holes : List Run) → AreMaximal low ho
     → AreMaximal low (filter (is_between from (Some to)) holes)
 AreMaximal-filter low from to [] m = tt
 AreMaximal-filter low from to (g ∷ holes) m =
-    let order : g.start < g.end = m.1 in
-    let least : low ≤ g.start = m.0 in
-    let ih = AreMaximal-filter (g.end + 1) from to holes m.2 in
-    elim (is_between from (Some to) g) as (λ b. AreMaximal low
-    (if b then g ∷ filter (is_between from (Some to)) holes else filter (is_between from (Some to)) holes)) [
-      | true ↦ (m.0, m.1, ih)
-      | false ↦
-          AreMaximal-lower low (g.end + 1) (filter (is_between from (Some to)) holes) (omega (arith, order, least)) ih
-    ]
+    grind (arith, AreMaximal-lower, AreMaximal-filter (g.end + 1) from to holes m.2)
 
 LiesIn-filter : (from to : ℕ) (holes : List Run) (x : ℕ) → from ≤ x → x < to
     → LiesIn holes x ↔ LiesIn (filter (is_between from (Some to)) holes) x
-LiesIn-filter from to holes x low high = (
-  λ h.
-      let start : h.0.start ≤ x = h.2.from in
-      let before : x + 1 ≤ h.0.end = h.2.before in (
-        h.0,
-        (In-filter (is_between from (Some to)) holes h.0).1 (
-          h.1,
-          and_from (nat_lt from h.0.end) (nat_lt h.0.start to) (lt-ltb from h.0.end (omega (arith, low, before)))
-              (lt-ltb h.0.start to (omega (arith, high, start))),
-        ),
-        h.2,
-      ),
-  λ h. (h.0, ((In-filter (is_between from (Some to)) holes h.0).0 h.1).0, h.2),
-)
+LiesIn-filter from to holes x low high = grind (arith, In-filter, and_from, lt-ltb)
 
 -- ---- all runs
 

@@ -29,10 +29,7 @@ pub laid_size : (o : ℕ) (bytes : List ℕ) (ps : List PacketParts) (rest : Lis
     → o + length bytes ≡ end_after o ps + length rest
 laid_size o bytes [] rest e = let same = ap length e in omega (arith, same)
 laid_size o bytes (p ∷ ps) rest (front, after, spelled, joined, within, laid) =
-    let ih = laid_size (o + size_of p) after ps rest laid in
-    let size = length-spelled front p spelled in
-    let whole = ap length joined in
-    let both = length-append front after in omega (arith, ih, size, whole, both)
+    grind (arith, length-spelled, length-append, laid_size (o + size_of p) after ps rest laid)
 
 -- ---- places
 
@@ -46,13 +43,7 @@ module _ (l : List PacketParts) where
   -- Before or behind a place where packets begin.
   pub sides : (y : ℕ) (front back : List PacketParts) (m : NoteParts) → l ≡ front ++ back → end_after 0 front ≡ y
       → In m (notes_from 0 l) → In m (notes_from 0 front) ⊎ In m (notes_from y back)
-  sides y front back m e at i =
-      let there = subst (λ l. In m (notes_from 0 l)) e i in
-      let parts = subst (In m) (notes_from-append 0 front back) there in
-      elim ((In-append m (notes_from 0 front) (notes_from (end_after 0 front) back)).0 parts) [
-        | inl k ↦ inl k
-        | inr k ↦ inr (subst (λ y. In m (notes_from y back)) at k)
-      ]
+  sides y front back m e at i = grind (arith, notes_from-append, In-append)
 
   -- No packet begins inside another.
   pub not_cut : (y : ℕ) (m : NoteParts) → IsBoundary l y → In m (notes_from 0 l) → m.offset < y → end_of m ≤ y
@@ -95,16 +86,7 @@ module _ (l : List PacketParts) where
   -- What shares a byte with a packet is its note or its head.
   pub is_or_head : (m n : NoteParts) (x : ℕ) → In m (notes_from 0 l) → IsOfFile l n → m.offset ≤ x → x < end_of m
       → n.offset ≤ x → x < end_of n → (n ≡ m) ⊎ (n ≡ head_note m)
-  is_or_head m n x i of a b c d =
-      let k = has_packet n of in
-      let o = k.offset in
-      let e = k.end in
-      let low : k.packet.offset ≤ x = omega (arith, o, c) in
-      let high : x + 1 ≤ end_of k.packet = omega (arith, e, d) in
-      let one : k.packet ≡ m =
-      apart 0 l k.packet m k.there i
-      (x, record { from = low; before = high }, record { from = a; before = omega (arith, b) }) in
-      subst (λ m. (n ≡ m) ⊎ (n ≡ head_note m)) one k.which
+  is_or_head m n x i of a b c d = grind (arith, has_packet, apart)
 
   -- A head is that of a packet.
   pub is_head : (n : NoteParts) → IsOfFile l n → n.whole ≡ false → (m : NoteParts) × In m (notes_from 0 l)

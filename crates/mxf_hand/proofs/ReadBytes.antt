@@ -27,10 +27,7 @@ pub same_offset : (sources : List SourceParts) (extents : List Extent) (i : ℕ)
 same_offset [] [] i s e h p q = absurd cc
 same_offset [] (f ∷ extents) i s e h p q = absurd h
 same_offset (t ∷ sources) [] i s e h p q = absurd h
-same_offset (t ∷ sources) (f ∷ extents) zero s e h p q =
-    let a : t ≡ s = cc in
-    let b : f ≡ e = cc in
-    ap (λ (r : SourceParts). r.offset) (sym a) ∙ h.0 ∙ ap (λ (r : Extent). r.offset) b
+same_offset (t ∷ sources) (f ∷ extents) zero s e h p q = grind arith
 same_offset (t ∷ sources) (f ∷ extents) (suc i) s e h p q = same_offset sources extents i s e h.2 p q
 
 -- ---- the bytes
@@ -106,13 +103,7 @@ ok_read told extents number at e front rest (Ok n) is from reads =
 -- the extent of a place's source, in the list in which it stands
 pub extent_there : (own items : List Extent) (p : Place) (e : Extent) → items ≡ own → IsPlaceOf own p
     → e ≡ get_or items p.source e → (slice_get own p.source ≡ Some e) × (e.offset ≤ p.start)
-extent_there own items p e same there is =
-    let within : p.source < length own = slice_get_within own p.source there.extent there.is in
-    let read : slice_get own p.source ≡ Some e =
-    slice_get_read own (length own) p.source e refl within
-    (is ∙ ap (λ (xs : List Extent). get_or xs p.source e) same) in
-    let one : there.extent ≡ e = cc in
-    (read, subst (λ (x : Extent). x.offset ≤ p.start) one there.from)
+extent_there own items p e same there is = grind (arith, slice_get_within, slice_get_read)
 
 -- the place that was found
 pub found_place : (own : List Extent) (x : ℕ) (r : Option Place) (p : Place) → r ≡ Some p
@@ -126,10 +117,7 @@ found_place own x r p e found =
 range_more : (byte : ℕ → ℕ) (from m n : ℕ)
     → map byte (range_with_len from m) ++ map byte (range_with_len (from + m) n)
     ≡ map byte (range_with_len from (m + n))
-range_more byte from zero n =
-    let here : from + 0 ≡ from = omega arith in
-    let all : n ≡ 0 + n = omega arith in
-    ap (λ (k : ℕ). map byte (range_with_len k n)) here ∙ ap (λ (k : ℕ). map byte (range_with_len from k)) all
+range_more byte from zero n = grind arith
 range_more byte from (suc m) n =
     let here : from + suc m ≡ from + 1 + m = omega arith in
     let all : suc (m + n) ≡ suc m + n = omega arith in

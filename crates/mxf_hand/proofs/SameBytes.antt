@@ -77,38 +77,19 @@ module _ (h : HandBytes) (f : ℕ → ℕ) (cover : IsCover h.runs) (agree : (x 
 
   same_fit : (n : NoteParts) → fits h n ≡ fits (with_byte h f) n
   unfolding fits
-  same_fit n =
-      same_all (λ x. not (has_offset h.runs x) || (h.byte x == get_or (key_and_length n) (x - n.offset) 0))
-      (λ x. not (has_offset h.runs x) || (f x == get_or (key_and_length n) (x - n.offset) 0))
-      (range_with_len n.offset (16 + n.width))
-      (λ x. elim (has_offset h.runs x) as (λ b. has_offset h.runs x ≡ b
-      → (not b || (h.byte x == get_or (key_and_length n) (x - n.offset) 0))
-      ≡ (not b || (f x == get_or (key_and_length n) (x - n.offset) 0))) [
-        | true ↦ λ e. ap (λ (k : ℕ). k == get_or (key_and_length n) (x - n.offset) 0)
-            (agree x ((has_offset-says h.runs x).0 e))
-        | false ↦ λ e. refl
-      ] refl)
+  same_fit n = grind (arith, same_all, has_offset-says)
 
   same_fitting : (notes : List NoteParts) (first : ℕ) → fitting h notes first ≡ fitting (with_byte h f) notes first
-  same_fitting notes first =
-      filter_alike (λ n. (n.offset == start_of notes first) && fits h n)
-      (λ n. (n.offset == start_of notes first) && fits (with_byte h f) n) (heads_to first notes)
-      (λ n i. ap (λ (b : Bool). (n.offset == start_of notes first) && b) (same_fit n))
+  same_fitting notes first = grind (arith, filter_alike, same_fit)
 
   same_from : (notes : List NoteParts) (p : Section) → from_of h notes p ≡ from_of (with_byte h f) notes p
   same_from notes p = ap (read_from (start_of notes p.first)) (same_fitting notes p.first)
 
   same_packets : (notes : List NoteParts) (p : Section) → packets_of h notes p ≡ packets_of (with_byte h f) notes p
-  same_packets notes p =
-      read_alike (λ q. read_packets h p.end q) (λ q. read_packets (with_byte h f) p.end q) (from_of h notes p)
-      (λ q. ap (packet_notes q) (same_read p.end q))
-      ∙ ap (λ (o : Option ℕ). option_map_or (read_packets (with_byte h f) p.end) o []) (same_from notes p)
+  same_packets notes p = grind (arith, read_alike, same_read, same_from)
 
   same_heads : (notes : List NoteParts) (p : Section) → heads_of h notes p ≡ heads_of (with_byte h f) notes p
-  same_heads notes p =
-      read_alike (λ q. read_heads h p.end q) (λ q. read_heads (with_byte h f) p.end q) (from_of h notes p)
-      (λ q. ap (cut_heads q) (same_read p.end q))
-      ∙ ap (λ (o : Option ℕ). option_map_or (read_heads (with_byte h f) p.end) o []) (same_from notes p)
+  same_heads notes p = grind (arith, read_alike, same_read, same_from)
 
   same_packet : (end : Option ℕ) (n : NoteParts) → made_of_head h end n ≡ made_of_head (with_byte h f) end n
   same_packet end n =
@@ -124,10 +105,7 @@ module _ (h : HandBytes) (f : ℕ → ℕ) (cover : IsCover h.runs) (agree : (x 
       ] refl
 
   same_made : (notes : List NoteParts) (p : Section) → made_of h notes p ≡ made_of (with_byte h f) notes p
-  same_made notes p =
-      one_alike (made_of_head h p.hole.end) (made_of_head (with_byte h f) p.hole.end) (only (fitting h notes p.first))
-      (same_packet p.hole.end)
-      ∙ ap (made_by (with_byte h f) p.hole.end) (same_fitting notes p.first)
+  same_made notes p = grind (arith, one_alike, same_packet, same_fitting)
 
   same_round : (notes : List NoteParts) → round h notes ≡ round (with_byte h f) notes
   unfolding round
@@ -173,25 +151,11 @@ back : (some others : List SourceParts) → SameMembers some others → SameMemb
 back some others same s = ((same s).1, (same s).0)
 
 differ_also : (some others : List SourceParts) (x : ℕ) → SameMembers some others → Differ some x → Differ others x
-differ_also some others x same d = record {
-  one = d.one;
-  other = d.other;
-  gives_one = given_also some others x d.one same d.gives_one;
-  gives_other = given_also some others x d.other same d.gives_other;
-  differs = d.differs;
-}
+differ_also some others x same d = grind (arith, given_also)
 
 differing_also : (some others : List SourceParts) (x : ℕ) → SameMembers some others → IsDiffering some x
     → IsDiffering others x
-differing_also some others x same d = record {
-  from = d.from;
-  to = d.to;
-  from_differs = differ_also some others d.from same d.from_differs;
-  to_differs = differ_also some others d.to same d.to_differs;
-  above = d.above;
-  below = d.below;
-  near = d.near;
-}
+differing_also some others x same d = grind (arith, differ_also)
 
 at_hand_also : (some others : List SourceParts) (x : ℕ) → SameMembers some others → IsAtHand some x
     → IsAtHand others x

@@ -28,13 +28,7 @@ use Rattle.mxf_hand.specs.Settling.{BeginsWhole, IsHeldExtent, IsWholeStop, Make
 use Rattle.mxf_hand.specs.Settling.{disputed_starts, is_whole_stop, makes_up_for}
 
 begins-says : (notes : List NoteParts) (x : ℕ) → IsTrue (begins_whole notes x) ↔ BeginsWhole notes x
-begins-says notes x =
-    let any = list_any-In (λ n. (n.offset == x) && n.whole) notes in (
-      λ t.
-          let s = any.0 t in
-          let p = and_parts (s.0.offset == x) s.0.whole s.2 in (s.0, s.1, p.1, eqb-true _ _ p.0),
-      λ b. any.1 (b.0, b.1, and_from (b.0.offset == x) b.0.whole (eq-eqb _ _ b.3) b.2),
-    )
+begins-says notes x = grind (arith, list_any-In, and_parts, eqb-true, and_from, eq-eqb)
 
 all_held-says : (notes : List NoteParts) (e : Extent) → IsTrue (is_all_held notes e) ↔ IsHeldExtent notes e
 all_held-says notes e = (
@@ -149,9 +143,7 @@ mapped_never_fall key (x ∷ xs) r i j d l h =
 pub starts_never_fall : (notes : List NoteParts) → IsContent notes
     → IsNonDecreasingBy (λ n. n) (disputed_starts notes)
 starts_never_fall notes c =
-    subst (IsNonDecreasingBy (λ n. n)) (sym (starts_of (disputed_notes notes)))
-    (mapped_never_fall (λ (n : NoteParts). n.offset) (whole_notes (map (λ d. d.note) (disputed_notes notes)))
-    (offsets_rise _ (IsContent-filter (λ n. n.whole) _ (IsContent-disputed_notes notes c))))
+    grind (arith, starts_of, mapped_never_fall, offsets_rise, IsContent-filter, IsContent-disputed_notes)
 
 pub not_twice : (b : Bool) → not (not b) ≡ b
 not_twice true = refl

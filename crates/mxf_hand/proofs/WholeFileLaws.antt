@@ -124,13 +124,7 @@ module _ (l : List PacketParts) (h : HandBytes) (well : IsWellFormed l) (file : 
 
     -- No head ends where what lies below isn't held.
     no_head_to : (x : ℕ) → (IsHeld notes (x - 1) → ⊥) → start_of notes x ≡ x
-    no_head_to x none =
-        ap (λ (o : Option NoteParts). option_map_or (λ n. n.offset) o x) (find-none (is_head_to x) notes (λ n i t.
-        let end = eqb-true (covered_end n) x (and_parts (not n.whole) (covered_end n == x) t).1 in
-        let first = covers_first n in
-        let from : n.offset ≤ x - 1 = omega (arith, end, first) in
-        let before : x - 1 + 1 ≤ covered_end n = omega (arith, end, first) in
-        none (n, i, record { from = from; before = before })))
+    no_head_to x none = grind (arith, find-none, eqb-true, and_parts, covers_first)
 
     -- A note begins where a packet does.
     begins_there : (n : NoteParts) → IsOfFile l n → IsBoundary l n.offset

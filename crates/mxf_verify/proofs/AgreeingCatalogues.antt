@@ -46,12 +46,7 @@ joined_same reference saved is red = (
 
 -- what a head holds, its packet holds too
 head_held : (w n : NoteParts) (at : ℕ) → head_note w ≡ n → IsCovered n at → IsCovered w at
-head_held w n at e h =
-    let k : IsCovered (head_note w) at = subst (λ x. IsCovered x at) (sym e) h in
-    let before : at + 1 ≤ w.offset + 16 + w.width = k.before in
-    let front = front_within w in
-    let size = covered_by_size w in
-    record { from = k.from; before = omega arith }
+head_held w n at e h = grind (arith, front_within, covered_by_size)
 
 -- where each note is had, nothing differs and each byte is held
 module _ (reference saved : List NoteParts) where
@@ -59,10 +54,7 @@ module _ (reference saved : List NoteParts) where
   none_differs each n d = d.2 (each d.0 d.1)
 
   all_held : HasEach reference saved → (at : ℕ) → IsHeldBy saved at → IsHeldBy reference at
-  all_held each at h = elim (each h.0 h.1) [
-    | inl i ↦ (h.0, i, h.2)
-    | inr s ↦ (s.0, s.1, head_held s.0 h.0 at s.2 h.2)
-  ]
+  all_held each at h = grind (arith, head_held)
 
   module _ (none : (n : NoteParts) → In n reference → ¬ DiffersIn reference n (Saved saved))
       (held : (at : ℕ) → IsHeldBy saved at → IsHeldBy reference at) (heads : HasNoEmptyHead reference) where

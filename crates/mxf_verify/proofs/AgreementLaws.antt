@@ -30,14 +30,4 @@ regrouped false b k c d = refl
 pub agrees_with_append : (n : NoteParts) (before more : List ℕ)
     → agrees_with n (before ++ more) ≡ (agrees_with n before && agrees_on n (length before) more)
 unfolding agrees_with agrees_on
-agrees_with_append n before more =
-    let size = front_size n in
-    let fronts = agrees_append (front_bytes n) before more in
-    let values = ap (agrees n.held) (drop_of_append size before more)
-    ∙ agrees_append n.held (drop size before) (drop (size - length before) more)
-    ∙ ap (λ k. agrees n.held (drop size before) && agrees (drop k n.held) (drop (size - length before) more))
-    (length-drop size before) in
-    ap (λ b. b && (not (keeps_value n) || agrees n.held (drop size (before ++ more)))) fronts
-    ∙ ap (λ b. (agrees (front_bytes n) before && agrees (drop (length before) (front_bytes n)) more)
-    && (not (keeps_value n) || b)) values
-    ∙ regrouped _ _ (not (keeps_value n)) _ _
+agrees_with_append n before more = grind (arith, agrees_append, drop_of_append, length-drop, regrouped)

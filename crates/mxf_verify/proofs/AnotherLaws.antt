@@ -113,12 +113,7 @@ length-step false n xs = omega arith
 -- one note more
 pub dropped-step : (n : NoteParts) (rest new : List NoteParts)
     → length (dropped_essence (n ∷ rest) new) ≡ length (dropped_essence (n ∷ []) new) + length (dropped_essence rest new)
-dropped-step n rest new = by (is_opposed n new)
-  where
-    by : (b : Bool) → length (filter is_essence (cond b (n ∷ dropped_of rest new) (dropped_of rest new)))
-        ≡ length (filter is_essence (cond b (n ∷ []) [])) + length (filter is_essence (dropped_of rest new))
-    by true = length-step (is_essence n) n (filter is_essence (dropped_of rest new))
-    by false = omega arith
+dropped-step n rest new = grind (arith, length-step)
 
 pub had-step : (n : NoteParts) (rest new : List NoteParts)
     → length (had_essence (n ∷ rest) new) ≡ length (had_essence (n ∷ []) new) + length (had_essence rest new)

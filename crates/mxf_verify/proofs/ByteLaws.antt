@@ -41,11 +41,7 @@ agrees_known (x ∷ front) known (y ∷ bytes) =
 -- the same of what is known from a position on
 pub agrees_part : (front known : List ℕ) (at : ℕ) (bytes : List ℕ) → agrees (drop at (front ++ known)) bytes
     ≡ (agrees (drop at front) bytes && agrees (drop (at - length front) known) (drop (length front - at) bytes))
-agrees_part front known at bytes =
-    ap (λ l. agrees l bytes) (drop_of_append at front known)
-    ∙ agrees_known (drop at front) (drop (at - length front) known) bytes
-    ∙ ap (λ k. agrees (drop at front) bytes && agrees (drop (at - length front) known) (drop k bytes))
-    (length-drop at front)
+agrees_part front known at bytes = grind (arith, drop_of_append, agrees_known, length-drop)
 
 -- known bytes agree with a front and what follows it exactly where they agree with the front, and the rest of them with
 -- what follows
@@ -72,9 +68,4 @@ pub agrees_whole : (known bytes : List ℕ) → length known ≤ length bytes
 agrees_whole [] bytes h = (λ a. refl, λ e. refl)
 agrees_whole (x ∷ known) [] h = absurd (omega arith)
 agrees_whole (x ∷ known) (y ∷ bytes) h =
-    let ih = agrees_whole known bytes (omega arith) in (
-      λ a.
-          let p = and_parts (eqb x y) (agrees known bytes) a in
-          let e : x ≡ y = eqb-true x y p.0 in λ i. sym e i ∷ ih.0 p.1 i,
-      λ e. and_from (eqb x y) (agrees known bytes) (eq-eqb x y (cc (e))) (ih.1 (cc (e))),
-    )
+    grind (arith, and_parts, eqb, eqb-true, and_from, eq-eqb, agrees_whole known bytes (omega arith))

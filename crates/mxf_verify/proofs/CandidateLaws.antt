@@ -21,18 +21,12 @@ covered_by_size n =
 
 -- key and length are among them
 pub front_within : (n : NoteParts) → front_size n ≤ held_size n
-front_within n = elim n.whole as (λ b. front_size n ≤ cond b (front_size n + n.length) (front_size n)) [
-  | true ↦ omega arith
-  | false ↦ omega arith
-]
+front_within n = grind arith
 
 -- no byte comes of a note that was passed
 pub part_behind : (n : NoteParts) (at : ℕ) (bytes : List ℕ) → covered_end n ≤ at → part_of n at bytes ≡ []
 unfolding part_of
-part_behind n at bytes h =
-    let size = covered_by_size n in
-    let none : held_size n - (at - n.offset) ≡ 0 = omega (arith, size) in
-    rw none refl
+part_behind n at bytes h = grind (arith, covered_by_size)
 
 -- nor of one that begins where they end, or behind
 pub part_ahead : (n : NoteParts) (at : ℕ) (bytes : List ℕ) → at + length bytes ≤ n.offset → part_of n at bytes ≡ []
@@ -44,12 +38,7 @@ part_ahead n at bytes h =
 -- of no byte nothing else is said
 pub agrees_on_none : (n : NoteParts) (seen : ℕ) → agrees_on n seen [] ≡ true
 unfolding agrees_on
-agrees_on_none n seen =
-    let value = ap (agrees (drop (seen - front_size n) n.held)) (drop_all (front_size n - seen) [] (omega arith))
-    ∙ agrees_none (drop (seen - front_size n) n.held) in
-    ap (λ b. b && (not (keeps_value n) || agrees (drop (seen - front_size n) n.held) (drop (front_size n - seen) [])))
-    (agrees_none (drop seen (front_bytes n)))
-    ∙ ap (λ b. true && (not (keeps_value n) || b)) value ∙ or_right (not (keeps_value n)) true refl
+agrees_on_none n seen = grind (arith, drop_all, agrees_none, or_right)
 
 pub and_true : (b : Bool) → (b && true) ≡ b
 and_true true = refl
@@ -58,11 +47,7 @@ and_true false = refl
 -- a candidate of which no byte came stays as it is
 pub compared_none : (at : ℕ) (bytes : List ℕ) (c : Candidate) → part_of c.note.now at bytes ≡ [] → compared at bytes c ≡ c
 unfolding compared
-compared_none at bytes c e =
-    let n = c.note.now in
-    let on : agrees_on n (at - n.offset) (part_of n at bytes) ≡ true = ap (agrees_on n (at - n.offset)) e
-    ∙ agrees_on_none n (at - n.offset) in
-    ap (λ (b : Bool). record c { is_same = c.is_same && b }) on ∙ ap (λ (b : Bool). record c { is_same = b }) (and_true c.is_same)
+compared_none at bytes c e = grind (arith, agrees_on_none, and_true)
 
 -- where a function leaves the first elements as they are, the list with these changed is the list
 pub front_stays : {K : Type 0} (f : K → K) (xs : List K) (at : ℕ) → AllWithin (λ x. f x ≡ x) xs 0 at

@@ -28,18 +28,11 @@ use Rattle.mxf_verify.proofs.TakingLaws.{all_held}
 -- no byte says anything else
 agrees_with_none : (n : NoteParts) → agrees_with n [] ≡ true
 unfolding agrees_with
-agrees_with_none n =
-    ap (λ b. b && (not (keeps_value n) || agrees n.held (drop (front_size n) []))) (agrees_none (front_bytes n))
-    ∙ ap (λ l. not (keeps_value n) || agrees n.held l) (drop_all (front_size n) [] (omega arith))
-    ∙ ap (λ b. not (keeps_value n) || b) (agrees_none n.held) ∙ or_right (not (keeps_value n)) true refl
+agrees_with_none n = grind (arith, agrees_none, drop_all, or_right)
 
 agreeing_none : (offset : ℕ) (c : Candidate) → c.is_same ≡ true → c ≡ agreeing offset [] c.note
 unfolding agreeing held_in
-agreeing_none offset c same =
-    let n = c.note.now in
-    let none : take (held_size n) (drop (n.offset - offset) []) ≡ [] =
-    ap (take (held_size n)) (drop_all (n.offset - offset) [] (omega arith)) ∙ take_all (held_size n) [] (omega arith) in
-    ap (λ b. record c { is_same = b }) (same ∙ sym (ap (agrees_with n) none ∙ agrees_with_none n))
+agreeing_none offset c same = grind (arith, drop_all, take_all, agrees_with_none)
 
 -- candidates with which nothing was compared agree with no byte
 pub fresh_agree : (offset : ℕ) (cs : List Candidate) → AllWithin (λ c. c.is_same ≡ true) cs 0 (length cs)
@@ -158,18 +151,10 @@ slice_within P xs first count a k d l h =
 -- a slice of candidates rises, and stands apart, as all do
 pub part_rises : (cs : List Candidate) (first count : ℕ) → IsNonDecreasingBy offset_of cs
     → IsNonDecreasingBy offset_of (take count (drop first cs))
-part_rises cs first count r i j d l h =
-    let a = ap offset_of (part_place cs first count i d (omega arith)) in
-    let b = ap offset_of (part_place cs first count j d h) in
-    omega (arith, a, b, r (first + i) (first + j) d (omega arith) (part_within cs first count j h))
+part_rises cs first count r i j d l h = grind (arith, part_place, part_within)
 
 pub part_apart : (cs : List Candidate) (first count : ℕ) → AreApart cs → AreApart (take count (drop first cs))
-part_apart cs first count r i j d l h q =
-    let a = part_place cs first count i d (omega arith) in
-    let b = ap offset_of (part_place cs first count j d h) in
-    let e = ap (λ (x : Candidate). covered_end x.note.now) a in
-    let digested = subst (λ (x : Candidate). IsTrue (is_digested x.note.now)) a q in
-    omega (arith, b, e, r (first + i) (first + j) d (omega arith) (part_within cs first count j h) digested)
+part_apart cs first count r i j d l h q = grind (arith, part_place, part_within)
 
 -- what was read of a source by the candidates from a place on
 pub compares_bytes : (all : List Candidate) (offset limit first last : ℕ) (before after : Option (List ℕ))

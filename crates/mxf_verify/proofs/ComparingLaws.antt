@@ -12,11 +12,7 @@ use Rattle.mxf_verify.specs.Comparing.{contradicts, is_head_of, is_held_byte_sha
 
 -- each note holds its first byte
 pub holds_first : (n : NoteParts) → n.offset < covered_end n
-holds_first n =
-    elim n.whole as (λ b. n.offset < cond b (end_of n) (n.offset + 16 + n.width)) [
-      | true ↦ omega arith
-      | false ↦ omega arith
-    ]
+holds_first n = grind arith
 
 pub share-by_test : (m n : NoteParts) → IsTrue (is_held_byte_shared m n) ↔ SharesHeldByte m n
 share-by_test m n =

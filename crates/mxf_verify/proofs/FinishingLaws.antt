@@ -44,11 +44,7 @@ IsAmongSome sources n = (offset : ℕ) × (bytes : List ℕ) × In (Bytes offset
 
 in_range : (s : Source) (sources : List Source) (r : Run) (at : ℕ) → In s sources → In r (range_in s) → IsWithin r at
     → IsRead sources at
-in_range (Bytes offset bytes) sources r at i (inl e) w =
-    let v = subst (λ (q : Run). IsWithin q at) e w in
-    let from : offset ≤ at = v.from in
-    let before : at + 1 ≤ offset + length bytes = v.before in
-    (offset, bytes, i, from, omega arith)
+in_range (Bytes offset bytes) sources r at i (inl e) w = grind arith
 in_range (Bytes offset bytes) sources r at i (inr z) w = absurd z
 in_range (Saved notes) sources r at i m w = absurd m
 
@@ -68,10 +64,7 @@ read_says sources at = (
 
 one_range : (s : Source) (sources : List Source) (r : Run) (n : NoteParts) → In s sources → In r (range_in s)
     → r.start ≤ n.offset → covered_end n ≤ r.end → IsAmongSome sources n
-one_range (Bytes offset bytes) sources r n i (inl e) f t =
-    let from : r.start ≡ offset = ap (λ (q : Run). q.start) e in
-    let to : r.end ≡ offset + length bytes = ap (λ (q : Run). q.end) e in
-    (offset, bytes, i, record { from = omega (arith, f, from); to = omega (arith, t, to) })
+one_range (Bytes offset bytes) sources r n i (inl e) f t = grind arith
 one_range (Bytes offset bytes) sources r n i (inr z) f t = absurd z
 one_range (Saved notes) sources r n i m f t = absurd m
 
@@ -118,30 +111,15 @@ met_alike a b n same = (
 )
 
 pub within_alike : (a b : List Run) (n : NoteParts) → SameMembers a b → IsWithinOne a n ↔ IsWithinOne b n
-within_alike a b n same = (
-  λ h. (h.0, (same h.0).0 h.1, h.2, h.3),
-  λ h. (h.0, (same h.0).1 h.1, h.2, h.3),
-)
+within_alike a b n same = grind arith
 
 -- notes of which something is so are those of which the same is so in other words
 pub those_alike : (reference : List NoteParts) (P Q : NoteParts → Type 0) (xs : List NoteParts)
     → AreThose reference P xs → ((n : NoteParts) → In n reference → P n ↔ Q n) → AreThose reference Q xs
-those_alike reference P Q xs those alike = record {
-  rising = those.rising;
-  members = λ n. (
-    λ h. let m = (those.members n).0 h in (m.0, (alike n m.0).0 m.1),
-    λ h. (those.members n).1 (h.0, (alike n h.0).1 h.1),
-  );
-}
+those_alike reference P Q xs those alike = grind arith
 
 pub runs_alike : (P Q : ℕ → Type 0) (runs : List Run) → AreRunsOf P runs → ((at : ℕ) → P at ↔ Q at) → AreRunsOf Q runs
-runs_alike P Q runs are alike = record {
-  maximal = are.maximal;
-  offsets = λ at. (
-    λ h. (alike at).0 ((are.offsets at).0 h),
-    λ h. (are.offsets at).1 ((alike at).1 h),
-  );
-}
+runs_alike P Q runs are alike = grind arith
 
 -- a set of notes, put in order
 pub ordered_those : (reference set : List NoteParts) (P : NoteParts → Type 0)
@@ -159,10 +137,7 @@ ordered_those reference set P members = record {
 pub held_alike : (reference set : List NoteParts) (P : NoteParts → Type 0)
     → ((n : NoteParts) → In n set ↔ (In n reference × P n)) → (at : ℕ)
     → IsHeldBy set at ↔ ((n : NoteParts) × In n reference × P n × IsCovered n at)
-held_alike reference set P members at = (
-  λ h. let m = (members h.0).0 h.1 in (h.0, m.0, m.1, h.2),
-  λ h. (h.0, (members h.0).1 (h.1, h.2), h.3),
-)
+held_alike reference set P members at = grind arith
 
 module _ (reference : List NoteParts) (sources : List Source) (seen : Seen) (is : IsSeen reference sources seen) where
   -- the notes that differ somewhere
@@ -250,16 +225,7 @@ pub damaged_once : (none lent set ordered : List NoteParts) (ds : List Differing
     → rs ≡ map (λ (d : Differing). d.note) ds → lent ≡ notes_at rs
     → ((n : NoteParts) → In n set ↔ (In n none ⊎ In n lent)) → ordered ≡ union_of [] set → (n : NoteParts)
     → In n ordered ↔ In n (map (λ (d : Differing). d.note.now) ds)
-damaged_once none lent set ordered ds rs z names held more o n =
-    let u = In-union_of n [] set in
-    let all : lent ≡ map (λ (d : Differing). d.note.now) ds = held ∙ ap notes_at names
-    ∙ map-map (λ (r : Bor NoteParts). r.now) (λ (d : Differing). d.note) ds in (
-      λ h. elim (u.0 (subst (In n) o h)) [
-        | inl k ↦ absurd k
-        | inr k ↦ elim ((more n).0 k) [ inl m ↦ absurd (subst (In n) z m) | inr m ↦ subst (In n) all m ]
-      ],
-      λ h. subst (In n) (sym o) (u.1 (inr ((more n).1 (inr (subst (In n) (sym all) h))))),
-    )
+damaged_once none lent set ordered ds rs z names held more o n = grind (arith, In-union_of, map-map)
 
 -- ---- bytes that are told
 

@@ -107,18 +107,10 @@ one_fixity verified altered e (Unplaced s) b h k = absurd h
 
 -- Below the greatest number an end is what it is asked about.
 pub cut_below : (e : Extent) (at : ℕ) → at < greatest_number → (at < cut_end e) ↔ (at < asked_end e)
-cut_below e at low =
-    elim e.end as (λ o. (at < unwrap_or o (min (e.start + 1) greatest_number)) ↔ (at < unwrap_or o (e.start + 1))) [
-      | None ↦ (λ h. omega (arith, h), λ h. omega (arith, h, low))
-      | Some end ↦ (λ h. h, λ h. h)
-    ]
+cut_below e at low = grind (arith, unwrap_or)
 
 pub cut_same : (e : Extent) → e.start < greatest_number → cut_end e ≡ asked_end e
-cut_same e low =
-    elim e.end as (λ o. unwrap_or o (min (e.start + 1) greatest_number) ≡ unwrap_or o (e.start + 1)) [
-      | None ↦ omega (arith, low)
-      | Some end ↦ refl
-    ]
+cut_same e low = grind (arith, unwrap_or)
 
 -- What lies in runs lies below a number, and below no lesser one.
 abbrev pub EndAt : List Run → ℕ → Type 0

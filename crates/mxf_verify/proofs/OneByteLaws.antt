@@ -29,16 +29,7 @@ same_part at d k a b apart (inr behind) =
 same_held : (m : NoteParts) (offset at : ℕ) (a b : List ℕ) → AreOneByteApart at a b → IsAmong m offset a
     → (m.offset ≤ offset + at → offset + at < covered_end m → ⊥) → held_in m offset a ≡ held_in m offset b
 unfolding held_in
-same_held m offset at a b apart among other =
-    let size = covered_by_size m in
-    let from : offset ≤ m.offset = among.from in
-    same_part at (m.offset - offset) (held_size m) a b apart (elim (cases_lt (offset + at) m.offset) [
-      | inl before ↦ inr (omega (arith, before, from))
-      | inr in_or_behind ↦ elim (cases_lt (offset + at) (covered_end m)) [
-        | inl within ↦ absurd (other in_or_behind within)
-        | inr behind ↦ inl (omega (arith, behind, size, from))
-      ]
-    ])
+same_held m offset at a b apart among other = grind (arith, covered_by_size, same_part, cases_lt)
 
 pub changed_alone : (reference : List NoteParts) (n m : NoteParts) (offset at : ℕ) (a b : List ℕ)
     → IsCatalogue reference → AreAllClear reference → AreOneByteApart at a b → In n reference

@@ -113,15 +113,7 @@ packets-count n (m ∷ ms) =
 
 -- a note shares a byte with its head
 own-touches : (m n : NoteParts) → head_note m ≡ n → IsTrue (is_held_byte_shared m n)
-own-touches m n e =
-    subst (λ x. IsTrue (is_held_byte_shared m x)) e ((share-by_test m (head_note m)).1 (
-      m.offset,
-      record { from = omega arith; before = let h : m.offset < covered_end m = holds_first m in omega arith },
-      record {
-        from = omega arith;
-        before = let h : m.offset < covered_end (head_note m) = holds_first (head_note m) in omega arith;
-      },
-    ))
+own-touches m n e = grind (arith, share-by_test, holds_first)
 
 -- those that hold a byte of it are its packets and others
 touchers-count : (n : NoteParts) (notes : List NoteParts) → count_by (λ m. is_held_byte_shared m n) notes
@@ -163,10 +155,7 @@ touched-by_counts n notes begun ended packets b e h =
 -- those that the reference hasn't are a content
 pub others_are : (saved reference : List NoteParts) → IsCatalogue saved → IsCatalogue (others_of saved reference)
 unfolding others_of
-others_are saved reference is = record {
-  content = rising-filter note_cmp (λ m. not (is_had m reference)) saved is.content;
-  members = all-filter IsNote (λ m. not (is_had m reference)) saved is.members;
-}
+others_are saved reference is = grind (arith, rising-filter, all-filter)
 
 other_says : (saved reference : List NoteParts) (m : NoteParts)
     → In m (others_of saved reference) ↔ (In m saved × ¬ has_note reference m)
@@ -219,14 +208,7 @@ touched_differs reference saved n is held =
 -- those of the reference that pass a test are those of which that holds which it tells
 those_passing : (reference : List NoteParts) (P : NoteParts → Type 0) (p : NoteParts → Bool) → IsContent reference
     → ((n : NoteParts) → In n reference → IsTrue (p n) ↔ P n) → AreThose reference P (filter p reference)
-those_passing reference P p r says = record {
-  rising = rising-filter note_cmp p reference r;
-  members = λ n.
-      let kept = In-filter p reference n in (
-        λ h. let s = kept.0 h in (s.0, (says n s.0).0 s.1),
-        λ s. kept.1 (s.0, (says n s.0).1 s.1),
-      );
-}
+those_passing reference P p r says = grind (arith, rising-filter, In-filter)
 
 pub tells_saved : (reference saved : List NoteParts) (told : Told) → IsContent reference → IsCatalogue saved
     → notes_at told.same.items ≡ filter (λ n. is_had n saved) reference
@@ -243,20 +225,13 @@ tells_saved reference saved told r is same differing = record {
 
 pub headed_says : (n : NoteParts) (notes : List NoteParts) → IsTrue (is_headed n notes) ↔ TouchesIn n (Saved notes)
 unfolding is_headed
-headed_says n notes =
-    let held = held_says (head_note n) notes in (
-      λ t. let p = and_parts n.whole (is_held (head_note n) notes) t in (p.0, held.0 p.1),
-      λ s. and_from n.whole (is_held (head_note n) notes) s.0 (held.1 s.1),
-    )
+headed_says n notes = grind (arith, held_says, and_parts, and_from)
 
 -- the same of what is answered
 pub headed_whole : (n : NoteParts) (notes : List NoteParts) (b : Bool) → n.whole ≡ true → IsTrue b ↔ In (head_note n) notes
     → b ≡ is_headed n notes
 unfolding is_headed
-headed_whole n notes b whole d =
-    let held = held_says (head_note n) notes in
-    same_bool b (is_held (head_note n) notes) (λ t. held.1 (d.0 t)) (λ t. d.1 (held.0 t))
-    ∙ ap (λ w. w && is_held (head_note n) notes) (sym whole)
+headed_whole n notes b whole d = grind (arith, held_says, same_bool)
 
 pub headed_head : (n : NoteParts) (notes : List NoteParts) → n.whole ≡ false → false ≡ is_headed n notes
 unfolding is_headed

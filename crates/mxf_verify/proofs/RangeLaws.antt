@@ -164,10 +164,7 @@ module _ (runs : List Run) (is : IsCover runs) where
         )
 
     pub outside-within : AllByRecursion (λ r. r.end ≤ greatest_end) whole
-    outside-within =
-        subst (AllByRecursion (λ r. r.end ≤ greatest_end)) (sym parts)
-        (all_append (λ (r : Run). r.end ≤ greatest_end) (gaps_of_runs runs) (run end greatest_end ∷ [])
-        (all_from_In (λ (r : Run). r.end ≤ greatest_end) (gaps_of_runs runs) gap_ends) (omega arith, tt))
+    outside-within = grind (arith, all_append, all_from_In, gap_ends)
 
 -- What is outside of all that is outside of one set or in another: what lies in the one and not in the other.
 pub rest-offsets : (all known others cover whole result : List Run)

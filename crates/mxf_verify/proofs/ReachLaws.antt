@@ -75,7 +75,4 @@ one_reaches runs last start end d l below above = (
 -- Where none begins by an offset, none has it.
 pub none_reaches : (runs : List Run) (start end : ℕ) → AllWithin (λ r. start < r.start) runs 0 (length runs)
     → HasOne runs start end → ⊥
-none_reaches runs start end above (r, i, from, to) =
-    let (j, there, is) = Contains-from_In r runs i in
-    let behind = subst (λ (r : Run). start < r.start) is (above j r (omega arith) there) in
-    omega (arith, behind, from)
+none_reaches runs start end above (r, i, from, to) = grind (arith, Contains-from_In)

@@ -37,20 +37,7 @@ taken_up_to before after old new target t offset bytes k notes none h =
 pub passed_over : (offset : ℕ) (bytes : List ℕ) (k : ℕ) (notes : List (Bor NoteParts)) (c : Comparison) (e : Bor NoteParts)
     → k < length notes → is_digested (get_or notes k e).now ≡ false → HasTaken offset bytes k notes c
     → HasTaken offset bytes (k + 1) notes c
-passed_over offset bytes k notes c e few none h = record {
-  candidates = h.candidates ∙ told_over offset bytes k notes e few none;
-  at = h.at;
-  behind = h.behind;
-  ended = λ j x l m q. elim (cases_lt j k) [
-    | inl low ↦ h.ended j x l low q
-    | inr high ↦ (
-        let last : j ≡ k = omega (arith, high, m) in
-        let there : get_or notes j x ≡ get_or notes k e =
-        ap (λ i. get_or notes i x) last ∙ get_or_default notes k x e few in
-        let no = ap (λ (r : Bor NoteParts). is_digested r.now) there ∙ none in
-        absurd (true≢false (sym q ∙ no)))
-  ];
-}
+passed_over offset bytes k notes c e few none h = grind (arith, told_over, cases_lt, get_or_default, true≢false)
 
 -- candidates with the same notes have the same note at a place
 pub note_of_same : (cs ds : List Candidate) (i : ℕ) (d : Candidate) → notes_of cs ≡ notes_of ds → i < length cs
@@ -63,24 +50,13 @@ note_of_same cs ds i d e h =
     ∙ get_or-map (λ (c : Candidate). c.note) ds i d d.note (omega arith)
 
 pub as_many_notes : (cs ds : List Candidate) → notes_of cs ≡ notes_of ds → length cs ≡ length ds
-as_many_notes cs ds e =
-    let count = length-map cs (λ (c : Candidate). c.note) in
-    let again = length-map ds (λ (c : Candidate). c.note) in
-    let same = ap length e in omega arith
+as_many_notes cs ds e = grind (arith, length-map)
 
 -- where one ends behind an offset, so do all later ones
 pub left_behind : (cs : List Candidate) (place reached : ℕ) (d : Candidate) → AreApart cs
     → IsTrue (is_digested (get_or cs place d).note.now) → reached < covered_end (get_or cs place d).note.now
     → (j : ℕ) → place ≤ j → j < length cs → reached < covered_end (get_or cs j d).note.now
-left_behind cs place reached d apart digested behind j l h =
-    elim (cases_lt place j) [
-      | inl low ↦ (
-          let begins = apart place j d low h digested in
-          let size = covered_by_size (get_or cs j d).note.now in omega arith)
-      | inr last ↦ (
-          let same : place ≡ j = omega (arith, last, l) in
-          subst (λ i. reached < covered_end (get_or cs i d).note.now) same behind)
-    ]
+left_behind cs place reached d apart digested behind j l h = grind (arith, cases_lt, covered_by_size)
 
 -- the same of the notes
 pub left_notes : (offset : ℕ) (bytes : List ℕ) (notes : List (Bor NoteParts)) (c : Comparison) (place reached : ℕ)

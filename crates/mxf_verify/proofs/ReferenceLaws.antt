@@ -30,12 +30,7 @@ pub crowded_disputed : (n : NoteParts) (notes : List NoteParts) (b : Bool) → i
     → (IsTrue b ↔ (In n notes × IsDisputed n notes)) → b ≡ is_crowded notes n
 unfolding is_crowded
 crowded_disputed n notes b digested says =
-    let held = held_says n notes in
-    let disputed = is_disputed-IsDisputed n notes in
-    same_bool b (is_held n notes && is_disputed n notes)
-    (λ t. let d = says.0 t in and_from (is_held n notes) (is_disputed n notes) (held.1 d.0) (disputed.1 d.1))
-    (λ t. let p = and_parts (is_held n notes) (is_disputed n notes) t in says.1 (held.0 p.0, disputed.0 p.1))
-    ∙ ap (λ d. d && (is_held n notes && is_disputed n notes)) (sym digested)
+    grind (arith, held_says, is_disputed-IsDisputed, same_bool, and_from, and_parts)
 
 -- and no other is
 pub crowded_digested : (n : NoteParts) (notes : List NoteParts) → is_digested n ≡ false → false ≡ is_crowded notes n
@@ -46,12 +41,7 @@ crowded_digested n notes e = ap (λ d. d && (is_held n notes && is_disputed n no
 pub crowded_not : (n : NoteParts) (notes : List NoteParts) → IsTrue (is_digested n) → In n notes
     → IsTrue (not (is_crowded notes n)) → ¬ IsDisputed n notes
 unfolding is_crowded
-crowded_not n notes digested held free d =
-    let h = (held_says n notes).1 held in
-    let t = (is_disputed-IsDisputed n notes).1 d in
-    let crowded = and_from (is_digested n) (is_held n notes && is_disputed n notes) digested
-    (and_from (is_held n notes) (is_disputed n notes) h t) in
-    false≢true (sym (ap not crowded) ∙ free)
+crowded_not n notes digested held free d = grind (arith, held_says, is_disputed-IsDisputed, and_from, false≢true)
 
 -- it was read whole
 whole_end : (n : NoteParts) → IsTrue (is_digested n) → covered_end n ≡ end_of n
@@ -92,14 +82,7 @@ not_below_itself n l = let t = tied_itself note_total n in cc (l, t)
 
 -- two notes that share no byte lie behind each other
 apart_from : (n m : NoteParts) → n.offset ≤ m.offset → ¬ SharesByte m n → end_of n ≤ m.offset
-apart_from n m h none = elim (cases_lt m.offset (end_of n)) [
-  | inl within ↦ absurd (none (
-    m.offset,
-    record { from = omega arith; before = omega arith },
-    record { from = h; before = omega (arith, within) },
-  ))
-  | inr behind ↦ behind
-]
+apart_from n m h none = grind (arith, cases_lt)
 
 module _ (reference : List NoteParts) (cs : List Candidate) (are : AreCandidates reference cs) where
   pub their_notes : IsRising note_cmp (map (λ (c : Candidate). c.note.now) cs)

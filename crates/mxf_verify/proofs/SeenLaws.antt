@@ -40,26 +40,11 @@ no_bytes notes offset bytes e = cc (e)
 -- of a source of bytes no head comes, and nothing stands beside the reference
 pub headed_bytes : (sources : List Source) (offset : ℕ) (bytes : List ℕ) (n : NoteParts)
     → IsHeaded (sources ++ Bytes offset bytes ∷ []) n ↔ IsHeaded sources n
-headed_bytes sources offset bytes n = (
-  λ (notes, k, t). elim ((saved_end sources (Bytes offset bytes) notes).0 k) [
-    | inl h ↦ (notes, h, t)
-    | inr e ↦ absurd (no_bytes notes offset bytes e)
-  ],
-  λ (notes, k, t). (notes, (saved_end sources (Bytes offset bytes) notes).1 (inl k), t),
-)
+headed_bytes sources offset bytes n = grind (arith, saved_end, no_bytes)
 
 pub beside_bytes : (reference : List NoteParts) (sources : List Source) (offset : ℕ) (bytes : List ℕ) (at : ℕ)
     → IsBeside reference (sources ++ Bytes offset bytes ∷ []) at ↔ IsBeside reference sources at
-beside_bytes reference sources offset bytes at = (
-  λ ((notes, k, t), free). (
-    elim ((saved_end sources (Bytes offset bytes) notes).0 k) [
-      | inl h ↦ (notes, h, t)
-      | inr e ↦ absurd (no_bytes notes offset bytes e)
-    ],
-    free,
-  ),
-  λ ((notes, k, t), free). ((notes, (saved_end sources (Bytes offset bytes) notes).1 (inl k), t), free),
-)
+beside_bytes reference sources offset bytes at = grind (arith, saved_end, no_bytes)
 
 same_notes : (a b : List NoteParts) → Saved a ≡ Saved b → a ≡ b
 same_notes a b e = cc (e)
@@ -97,27 +82,9 @@ pub differing_more : (reference : List NoteParts) (first : ℕ) (sources : List 
     (told : List DifferingParts) (notes : List NoteParts) → AreDiffering reference first sources told
     → AreThose reference (λ n. DiffersIn reference n s) notes
     → AreDiffering reference first (sources ++ s ∷ []) (told ++ map (differing_in (first + length sources)) notes)
-differing_more reference first [] s told notes d those =
-    let number : first + 0 ≡ first = omega arith in (
-      notes,
-      [],
-      those,
-      refl,
-      ap (λ t. t ++ map (differing_in (first + 0)) notes) d
-          ∙ ap (λ k. map (differing_in k) notes) number
-          ∙ sym (append-nil (map (differing_in first) notes)),
-    )
+differing_more reference first [] s told notes d those = grind (arith, append-nil)
 differing_more reference first (t ∷ sources) s told notes (ns, rest, those_first, more, e) those =
-    let number : first + length (t ∷ sources) ≡ first + 1 + length sources = omega arith in
-    let behind = map (differing_in (first + 1 + length sources)) notes in (
-      ns,
-      rest ++ behind,
-      those_first,
-      differing_more reference (first + 1) sources s rest notes more those,
-      ap (λ l. l ++ map (differing_in (first + length (t ∷ sources))) notes) e
-          ∙ ap (λ k. (map (differing_in first) ns ++ rest) ++ map (differing_in k) notes) number
-          ∙ append_assoc (map (differing_in first) ns) rest behind,
-    )
+    grind (arith, append_assoc, differing_more reference (first + 1) sources s rest notes more those)
 
 map_notes : (source : ℕ) (ns : List NoteParts) → map (λ (d : DifferingParts). d.note) (map (differing_in source) ns) ≡ ns
 map_notes source [] = refl
@@ -127,24 +94,9 @@ map_notes source (n ∷ ns) = ap (λ l. n ∷ l) (map_notes source ns)
 pub damaged_says : (reference : List NoteParts) (first : ℕ) (sources : List Source) (told : List DifferingParts)
     (n : NoteParts) → AreDiffering reference first sources told
     → In n (map (λ (d : DifferingParts). d.note) told) ↔ (In n reference × IsDiffering reference sources n)
-damaged_says reference first [] told n d = (
-  λ h. absurd (subst (λ t. In n (map (λ (p : DifferingParts). p.note) t)) d h),
-  λ h. absurd h.1.1,
-)
+damaged_says reference first [] told n d = grind arith
 damaged_says reference first (s ∷ sources) told n (ns, rest, those, more, e) =
-    let ih = damaged_says reference (first + 1) sources rest n more in
-    let names = ap (map (λ (p : DifferingParts). p.note)) e ∙ map-append (λ (p : DifferingParts). p.note) (map (differing_in first) ns) rest
-    ∙ ap (λ l. l ++ map (λ (p : DifferingParts). p.note) rest) (map_notes first ns) in
-    let both = In-append n ns (map (λ (p : DifferingParts). p.note) rest) in (
-      λ h. elim (both.0 (subst (In n) names h)) [
-        | inl k ↦ let m = (those.members n).0 k in (m.0, (s, inl refl, m.1))
-        | inr k ↦ let m = ih.0 k in (m.0, (m.1.0, inr m.1.1, m.1.2))
-      ],
-      λ (held, (t, k, differs)). subst (In n) (sym names) (both.1 (elim k [
-        | inl e ↦ inl ((those.members n).1 (held, subst (λ x. DiffersIn reference n x) e differs))
-        | inr j ↦ inr (ih.1 (held, (t, j, differs)))
-      ])),
-    )
+    grind (arith, map-append, map_notes, In-append, damaged_says reference (first + 1) sources rest n more)
 
 -- the ranges of sources, and those of one more
 pub ranges_more : (sources : List Source) (s : Source)
@@ -159,24 +111,12 @@ members_more : (reference : List NoteParts) (old added : List NoteParts) (P Q R 
     → ((n : NoteParts) → In n old ↔ (In n reference × P n)) → AreThose reference Q added
     → ((n : NoteParts) → R n ↔ (P n ⊎ Q n)) → (n : NoteParts)
     → (In n old ⊎ In n added) ↔ (In n reference × R n)
-members_more reference old added P Q R was those either n = (
-  λ h. elim h [
-    | inl k ↦ let m = (was n).0 k in (m.0, (either n).1 (inl m.1))
-    | inr k ↦ let m = (those.members n).0 k in (m.0, (either n).1 (inr m.1))
-  ],
-  λ h. elim ((either n).0 h.1) [
-    | inl p ↦ inl ((was n).1 (h.0, p))
-    | inr q ↦ inr ((those.members n).1 (h.0, q))
-  ],
-)
+members_more reference old added P Q R was those either n = grind arith
 
 -- there is a byte between an offset and the end of the bytes from there on where these are some
 some_byte : (offset end : ℕ) (bytes : List ℕ) → end ≡ offset + length bytes
     → IsTrue (nat_lt offset end) ↔ ((at : ℕ) × IsByteOf (Bytes offset bytes) at)
-some_byte offset end bytes e = (
-  λ h. let l = ltb-true offset end h in (offset, (omega arith, omega arith)),
-  λ (at, (from, to)). lt-ltb offset end (omega arith),
-)
+some_byte offset end bytes e = grind (arith, ltb-true, lt-ltb)
 
 -- a byte of one of sources with one more is one of them, or of that one
 bytes_end : (sources : List Source) (s : Source)
@@ -251,14 +191,8 @@ seen_bytes reference sources old new number offset end bytes told same differing
 -- a catalogue that has no note has no byte
 no_byte : (notes : List NoteParts) (b : Bool) → (IsTrue b ↔ (notes ≡ [])) → IsTrue (not b)
     ↔ ((at : ℕ) × IsByteOf (Saved notes) at)
-no_byte [] b says = (
-  λ h. absurd (false≢true (sym (ap not (says.1 refl)) ∙ h)),
-  λ h. absurd h.1.1,
-)
-no_byte (n ∷ notes) true says = absurd cc_of
-  where
-    cc_of : ⊥
-    cc_of = let e = says.0 refl in cc (e)
+no_byte [] b says = grind (arith, false≢true)
+no_byte (n ∷ notes) true says = grind arith
 no_byte (n ∷ notes) false says = (
   λ h. (
     n.offset,

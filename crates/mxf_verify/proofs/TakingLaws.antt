@@ -24,24 +24,13 @@ use Rattle.mxf_verify.proofs.CandidateLaws.{agrees_on_none, and_true, compared_n
 pub held_append : (n : NoteParts) (offset : ℕ) (bytes more : List ℕ) → offset ≤ n.offset
     → held_in n offset (bytes ++ more) ≡ held_in n offset bytes ++ part_of n (offset + length bytes) more
 unfolding held_in part_of
-held_append n offset bytes more h =
-    let d = n.offset - offset in
-    let k = held_size n in
-    let seen : length (drop d bytes) ≡ offset + length bytes - n.offset = omega (arith, length-drop d bytes) in
-    let left : d - length bytes ≡ n.offset - (offset + length bytes) = omega arith in
-    ap (take k) (drop_of_append d bytes more)
-    ∙ take_of_append k (drop d bytes) (drop (d - length bytes) more)
-    ∙ ap (λ j. take k (drop d bytes) ++ take (k - j) (drop (d - length bytes) more)) seen
-    ∙ ap (λ j. take k (drop d bytes) ++ take (k - (offset + length bytes - n.offset)) (drop j more)) left
+held_append n offset bytes more h = grind (arith, length-drop, drop_of_append, take_of_append)
 
 -- how much of what it holds came
 pub held_length : (n : NoteParts) (offset : ℕ) (bytes : List ℕ) → offset ≤ n.offset
     → length (held_in n offset bytes) ≡ min (held_size n) (offset + length bytes - n.offset)
 unfolding held_in
-held_length n offset bytes h =
-    let d = n.offset - offset in
-    let seen : length (drop d bytes) ≡ offset + length bytes - n.offset = omega (arith, length-drop d bytes) in
-    omega (arith, length-take (held_size n) (drop d bytes), seen)
+held_length n offset bytes h = grind (arith, length-drop, length-take)
 
 -- of a note that lies wholly in them all came
 pub all_held : (n : NoteParts) (offset : ℕ) (bytes : List ℕ) → IsAmong n offset bytes
@@ -53,30 +42,13 @@ all_held n offset bytes among =
 same_on : (n : NoteParts) (offset : ℕ) (bytes more : List ℕ) → offset ≤ n.offset
     → agrees_on n (length (held_in n offset bytes)) (part_of n (offset + length bytes) more)
     ≡ agrees_on n (offset + length bytes - n.offset) (part_of n (offset + length bytes) more)
-same_on n offset bytes more h =
-    let at = offset + length bytes in
-    let part = part_of n at more in
-    let seen = held_length n offset bytes h in
-    let size = covered_by_size n in
-    elim (cases_lt (held_size n) (at - n.offset)) [
-      | inl past ↦ (
-          let none : part ≡ [] = part_behind n at more (omega (arith, size, past)) in
-          ap (agrees_on n (length (held_in n offset bytes))) none
-          ∙ agrees_on_none n (length (held_in n offset bytes))
-          ∙ sym (ap (agrees_on n (at - n.offset)) none ∙ agrees_on_none n (at - n.offset)))
-      | inr within ↦ (
-          let same : length (held_in n offset bytes) ≡ at - n.offset = omega (arith, seen, within) in
-          ap (λ k. agrees_on n k part) same)
-    ]
+same_on n offset bytes more h = grind (arith, held_length, covered_by_size, cases_lt, part_behind, agrees_on_none)
 
 pub agreed_append : (n : NoteParts) (offset : ℕ) (bytes more : List ℕ) → offset ≤ n.offset
     → agrees_with n (held_in n offset (bytes ++ more))
     ≡ (agrees_with n (held_in n offset bytes)
     && agrees_on n (offset + length bytes - n.offset) (part_of n (offset + length bytes) more))
-agreed_append n offset bytes more h =
-    ap (agrees_with n) (held_append n offset bytes more h)
-    ∙ agrees_with_append n (held_in n offset bytes) (part_of n (offset + length bytes) more)
-    ∙ ap (λ b. agrees_with n (held_in n offset bytes) && b) (same_on n offset bytes more h)
+agreed_append n offset bytes more h = grind (arith, held_append, agrees_with_append, same_on)
 
 pub agreeing_taken : (offset : ℕ) (bytes more : List ℕ) (r : Bor NoteParts) → offset ≤ r.now.offset
     → compared (offset + length bytes) more (agreeing offset bytes r) ≡ agreeing offset (bytes ++ more) r
@@ -89,33 +61,14 @@ agreeing_taken offset bytes more r h =
 told_undigested : (offset : ℕ) (bytes : List ℕ) (r : Bor NoteParts) → is_digested r.now ≡ false
     → told offset bytes r ≡ agreeing offset bytes r
 unfolding told agreeing
-told_undigested offset bytes r e =
-    let f : Bool → Candidate = λ b. record { note = r; is_same = b } in
-    let agreed = agrees_with r.now (held_in r.now offset bytes) in
-    ap f (ap (λ d. agreed && (not d || has_digest r.now (held_in r.now offset bytes))) e ∙ and_true agreed)
+told_undigested offset bytes r e = grind (arith, and_true)
 
 pub told_taken : (offset : ℕ) (bytes more : List ℕ) (r : Bor NoteParts) → offset ≤ r.now.offset
     → (IsTrue (is_digested r.now) → covered_end r.now ≤ offset + length bytes)
     → compared (offset + length bytes) more (told offset bytes r) ≡ told offset (bytes ++ more) r
 unfolding told
 told_taken offset bytes more r h ended =
-    let at = offset + length bytes in
-    elim (is_digested r.now) as (λ d. is_digested r.now ≡ d
-    → compared at more (told offset bytes r) ≡ told offset (bytes ++ more) r) [
-      | true ↦ λ e.
-          let gone = part_behind r.now at more (ended e) in
-          let same : held_in r.now offset bytes ≡ held_in r.now offset (bytes ++ more) =
-          sym (held_append r.now offset bytes more h ∙ ap (λ l. held_in r.now offset bytes ++ l) gone
-          ∙ append-nil (held_in r.now offset bytes)) in
-          let f : List ℕ → Candidate = λ held. record {
-            note = r;
-            is_same = agrees_with r.now held && (not (is_digested r.now) || has_digest r.now held);
-          } in
-          compared_none at more (told offset bytes r) gone ∙ ap f same
-      | false ↦ λ e.
-          ap (compared at more) (told_undigested offset bytes r e) ∙ agreeing_taken offset bytes more r h
-          ∙ sym (told_undigested offset (bytes ++ more) r e)
-    ] refl
+    grind (arith, part_behind, held_append, append-nil, compared_none, told_undigested, agreeing_taken)
 
 -- the first so many of the candidates, with what is told of them, and the others
 pub candidates_taken : (offset : ℕ) (bytes more : List ℕ) (digested : ℕ) (notes : List (Bor NoteParts))
@@ -140,15 +93,7 @@ pub taken_more : (offset : ℕ) (bytes : List ℕ) (digested : ℕ) (notes : Lis
     (more : List ℕ) → HasTaken offset bytes digested notes old
     → new.candidates.items ≡ map (compared old.at more) old.candidates.items → new.at ≡ old.at + length more
     → HasTaken offset (bytes ++ more) digested notes new
-taken_more offset bytes digested notes old new more h e at =
-    let size = length-append bytes more in record {
-      candidates = e ∙ ap (λ place. map (compared place more) old.candidates.items) h.at
-          ∙ ap (map (compared (offset + length bytes) more)) h.candidates
-          ∙ candidates_taken offset bytes more digested notes h.behind h.ended;
-      at = omega (arith, size, h.at);
-      behind = h.behind;
-      ended = λ j d l m q. omega (arith, h.ended j d l m q, size);
-    }
+taken_more offset bytes digested notes old new more h e at = grind (arith, length-append, candidates_taken)
 
 -- the note of the candidate at a place is the note there
 pub note_at : (offset : ℕ) (bytes : List ℕ) (k : ℕ) (notes : List (Bor NoteParts)) (d : Candidate) (e : Bor NoteParts)
@@ -164,11 +109,7 @@ also_digest : (offset : ℕ) (bytes : List ℕ) (r : Bor NoteParts) (is_same : B
     → is_same ≡ has_digest r.now (held_in r.now offset bytes)
     → also is_same (agreeing offset bytes r) ≡ told offset bytes r
 unfolding also agreeing told
-also_digest offset bytes r is_same digested e =
-    let f : Bool → Candidate = λ b. record { note = r; is_same = b } in
-    let agreed = agrees_with r.now (held_in r.now offset bytes) in
-    let has = has_digest r.now (held_in r.now offset bytes) in
-    ap f (ap (λ b. agreed && b) e ∙ sym (ap (λ b. agreed && (not b || has)) digested))
+also_digest offset bytes r is_same digested e = grind arith
 
 -- one more has told its digest
 pub told_next : (offset : ℕ) (bytes : List ℕ) (k : ℕ) (notes : List (Bor NoteParts)) (is_same : Bool) (d : Candidate)
@@ -181,9 +122,7 @@ told_next offset bytes k [] is_same d e h digested same = absurd (omega arith)
 told_next offset bytes zero (r ∷ notes) is_same d e h digested same = λ i.
     also_digest offset bytes r is_same digested same i ∷ map (agreeing offset bytes) notes
 told_next offset bytes (suc k) (r ∷ notes) is_same d e h digested same =
-    let next : suc k + 1 ≡ suc (k + 1) = omega arith in
-    ap (λ l. told offset bytes r ∷ l) (told_next offset bytes k notes is_same d e (omega arith) digested same)
-    ∙ ap (λ j. map (told offset bytes) (take j (r ∷ notes)) ++ map (agreeing offset bytes) (drop j (r ∷ notes))) (sym next)
+    grind (arith, told_next offset bytes k notes is_same d e (omega arith) digested same)
 
 -- what is held of bytes that end with a note is, behind what stands ahead of the value, the last of them
 pub value_taken : (n : NoteParts) (offset : ℕ) (bytes value : List ℕ) → offset ≤ n.offset
@@ -273,9 +212,7 @@ told_over offset bytes k [] e h none = absurd (omega arith)
 told_over offset bytes zero (r ∷ notes) e h none = λ i.
     sym (told_undigested offset bytes r none) i ∷ map (agreeing offset bytes) notes
 told_over offset bytes (suc k) (r ∷ notes) e h none =
-    let next : suc k + 1 ≡ suc (k + 1) = omega arith in
-    ap (λ l. told offset bytes r ∷ l) (told_over offset bytes k notes e (omega arith) none)
-    ∙ ap (λ j. map (told offset bytes) (take j (r ∷ notes)) ++ map (agreeing offset bytes) (drop j (r ∷ notes))) (sym next)
+    grind (arith, told_over offset bytes k notes e (omega arith) none)
 
 -- before any digest was compared each candidate has the note at its place
 pub note_agreeing : (offset : ℕ) (bytes : List ℕ) (notes : List (Bor NoteParts)) (j : ℕ) (d : Candidate) (e : Bor NoteParts)

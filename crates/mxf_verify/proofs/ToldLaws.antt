@@ -122,11 +122,7 @@ noted_part all first count =
 -- a note that isn't crowded passes the test
 not_crowded : (n : NoteParts) (notes : List NoteParts) → ¬ IsCrowded notes n → IsTrue (not (is_crowded notes n))
 unfolding is_crowded
-not_crowded n notes free =
-    not_true (is_digested n && (is_held n notes && is_disputed n notes)) (λ t.
-    let p = and_parts (is_digested n) (is_held n notes && is_disputed n notes) t in
-    let q = and_parts (is_held n notes) (is_disputed n notes) p.1 in
-    free ((is_disputed-IsDisputed n notes).0 q.1, p.0))
+not_crowded n notes free = grind (arith, not_true, and_parts, is_disputed-IsDisputed)
 
 -- ---- bytes that lie in runs
 
@@ -153,11 +149,7 @@ met_says runs n =
 
 pub met_by : (b : Bool) (runs : List Run) (n : NoteParts) (start end : ℕ) → start ≡ n.offset → end ≡ covered_end n
     → IsTrue b ↔ ((at : ℕ) × LiesIn runs at × (start ≤ at) × (at < end)) → b ≡ is_met runs n
-met_by b runs n start end e f d =
-    let says = met_says runs n in
-    same_bool b (is_met runs n)
-    (λ t. let s = d.0 t in says.1 (s.0, s.1, omega (arith, e, s.2), omega (arith, f, s.3)))
-    (λ t. let s = says.0 t in d.1 (s.0, s.1, omega (arith, e, s.2), omega (arith, f, s.3)))
+met_by b runs n start end e f d = grind (arith, met_says, same_bool)
 
 -- it does where one of the notes that the runs cover shares a held byte with it
 met_shares : (runs : List Run) (notes : List NoteParts) (n : NoteParts) → Covers runs notes

@@ -86,33 +86,15 @@ held-count false n notes r d =
 -- a note of a content that hasn't another contradicts it where both hold a byte, unless it is its head
 contradicts-other : (m n : NoteParts) (notes : List NoteParts) → (has_note notes n → ⊥) → In m notes
     → SharesHeldByte m n → m ≢ head_note n → Contradicts m n
-contradicts-other m n notes lacked i s ne = record {
-  differ = λ e. lacked (inl (subst (λ x. In x notes) e i));
-  share = s;
-  no_head = λ k. ne (sym k.1);
-  no_packet = λ k. lacked (inr (m, i, k.1));
-}
+contradicts-other m n notes lacked i s ne = grind arith
 
 -- what contradicts a note isn't its head
 other-contradicts : (m n : NoteParts) → IsNote n → Contradicts m n → m ≢ head_note n
-other-contradicts m n is c e =
-    elim n.whole as (λ b. n.whole ≡ b → ⊥) [
-      | true ↦ λ w. c.no_head (w, sym e)
-      | false ↦ λ w. c.differ (e ∙ own_head n is w)
-    ] refl
+other-contradicts m n is c e = grind (arith, own_head)
 
 -- the head of a note holds a byte of it
 head-touches : (n : NoteParts) → IsTrue (is_held_byte_shared (head_note n) n)
-head-touches n =
-    (share-by_test (head_note n) n).1 (
-      n.offset,
-      record {
-        from = omega arith;
-        before = let h : n.offset < covered_end (head_note n) = holds_first (head_note n) in
-            omega arith;
-      },
-      record { from = omega arith; before = let h : n.offset < covered_end n = holds_first n in omega arith },
-    )
+head-touches n = grind (arith, share-by_test, holds_first)
 
 -- those that hold a byte of it are its head, where that is there, and others
 others-count : (n : NoteParts) (notes : List NoteParts) → count_by (λ m. is_held_byte_shared m n) notes

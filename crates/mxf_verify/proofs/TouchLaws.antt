@@ -36,22 +36,11 @@ pairs_total : IsTotalOrder pair_cmp
 pairs_total = then_total (on_total (λ (p : ℕ × ℕ). p.0) nat_cmp_total) (on_total (λ (p : ℕ × ℕ). p.1) nat_cmp_total)
 
 not_less : (b d : ℕ) → is_lt (nat_cmp b d) ≡ false → d ≤ b
-not_less b d e =
-    elim (nat_cmp b d) as (λ o. MatchOrdering o (b < d) (b ≡ d) (d < b) → is_lt o ≡ false → d ≤ b) [
-      | Less ↦ λ m f. absurd cc
-      | Equal ↦ λ m f. omega (arith, m)
-      | Greater ↦ λ m f. omega (arith, m)
-    ] (ranked b d (nat_cmp b d) refl) e
+not_less b d e = grind (arith, nat_cmp, is_lt, ranked)
 
 pair_not_less : (a b c d : ℕ) → is_lt (ordering_then (nat_cmp a c) (nat_cmp b d)) ≡ false
     → (c < a) ⊎ ((c ≡ a) × (d ≤ b))
-pair_not_less a b c d e =
-    elim (nat_cmp a c) as (λ o. MatchOrdering o (a < c) (a ≡ c) (c < a) → is_lt (ordering_then o (nat_cmp b d)) ≡ false
-    → (c < a) ⊎ ((c ≡ a) × (d ≤ b))) [
-      | Less ↦ λ m f. absurd cc
-      | Equal ↦ λ m f. inr (sym m, not_less b d f)
-      | Greater ↦ λ m f. inl m
-    ] (ranked a c (nat_cmp a c) refl) e
+pair_not_less a b c d e = grind (arith, nat_cmp, is_lt, ordering_then, not_less, ranked)
 
 by_pairs : (key : UnitPlace → ℕ × ℕ) (places : List UnitPlace) → IsSortedByKey key pair_cmp places
     → (i j : ℕ) (d : UnitPlace) → i ≤ j → j < length places
@@ -152,13 +141,7 @@ is_in key places bound p f =
 -- A place that reaches above an offset has a byte, and reaches as far as it is asked about.
 reach_above : (p : UnitPlace) (at : ℕ) → at < reach_of p
     → (p.extent.start < cut_end p.extent) × (reach_of p ≡ cut_end p.extent)
-reach_above p at h =
-    elim (nat_lt p.extent.start (cut_end p.extent)) as (λ b. nat_lt p.extent.start (cut_end p.extent) ≡ b
-    → at < (if b then cut_end p.extent else 0)
-    → (p.extent.start < cut_end p.extent) × ((if b then cut_end p.extent else 0) ≡ cut_end p.extent)) [
-      | true ↦ λ t k. (ltb-true p.extent.start (cut_end p.extent) t, refl)
-      | false ↦ λ t k. absurd (omega (arith, k))
-    ] refl h
+reach_above p at h = grind (arith, ltb-true)
 
 reach_is : (p : UnitPlace) → p.extent.start < cut_end p.extent → reach_of p ≡ cut_end p.extent
 reach_is p h =
@@ -180,14 +163,7 @@ module _ (n : NoteParts) (some : n.offset < covered_end n) (low : covered_end n 
 
   touched : (p : UnitPlace) → IsTouched n p
       → (p.extent.start < covered_end n) × (n.offset < reach_of p) × (reach_of p ≡ asked_end p.extent)
-  touched p t =
-      let from : n.offset ≤ t.0 = t.1.from in
-      let before : t.0 + 1 ≤ covered_end n = t.1.before in
-      let start : p.extent.start ≤ t.0 = t.2 in
-      let cut = (cut_below p.extent t.0 (omega (arith, before, low))).1 t.3 in
-      let reach = reach_is p (omega (arith, start, cut)) in
-      let same = cut_same p.extent (omega (arith, start, before, low)) in
-      (omega (arith, start, before), omega (arith, from, cut, reach), reach ∙ same)
+  touched p t = grind (arith, cut_below, reach_is, cut_same)
 
   module _ (firsts : List UnitPlace) (reaches : List ℕ) (lasts : List UnitPlace) (backs : List ℕ)
       (is : AreSearched firsts reaches lasts backs) where

@@ -24,11 +24,7 @@ touched n p t =
     )
 
 untouched : (n : NoteParts) (p : UnitPlace) → is_touched n p ≡ false → IsTouched n p → ⊥
-untouched n p f (at, held, from, before) =
-    let high : min (covered_end n) (asked_end p.extent) ≤ max n.offset p.extent.start = ltb-false _ _ f in
-    let first = held.from in
-    let last = held.before in
-    omega arith
+untouched n p f (at, held, from, before) = grind (arith, ltb-false)
 
 -- An order of places by a test: a place leads another where that doesn't go before it.
 record IsLeading (goes_before : UnitPlace → UnitPlace → Bool) (Leads : UnitPlace → UnitPlace → Type 0) : Type 0 where
@@ -92,12 +88,7 @@ module _ {goes_before : UnitPlace → UnitPlace → Bool} {Leads : UnitPlace →
   first_is_chosen : (n : NoteParts) (places : List UnitPlace) → IsChosen Leads n places (first_touched goes_before n places)
   first_is_chosen n [] = λ p i _. i
   first_is_chosen n (p ∷ places) =
-      let of = first_touched goes_before n places in
-      elim (is_touched n p) as (λ t. is_touched n p ≡ t
-      → IsChosen Leads n (p ∷ places) (cond t (Some (chosen goes_before p of)) of)) [
-        | true ↦ λ t. touches_more n p places of (touched n p t) (first_is_chosen n places)
-        | false ↦ λ f. touches_no_more n p places of (untouched n p f) (first_is_chosen n places)
-      ] refl
+      grind (arith, touches_more, touched, touches_no_more, untouched, first_is_chosen n places)
 
 -- A number is below another, or equal to it and a second is no greater than a second: the order of pairs.
 abbrev IsNoGreater : ℕ → ℕ → ℕ → ℕ → Type 0
@@ -187,20 +178,14 @@ one_first places n x y a b =
 
 one_last : (places : List UnitPlace) (n : NoteParts) (x y : ℕ) → IsLastTouched places n x → IsLastTouched places n y
     → x ≡ y
-one_last places n x y a b =
-    let same = same_unit (asked_end b.place.extent) (asked_end a.place.extent) b.place.unit a.place.unit y x (sym b.unit_is) (sym a.unit_is)
-    (a.last b.place b.is_one b.touched) (b.last a.place a.is_one a.touched) in
-    sym a.unit_is ∙ sym same ∙ b.unit_is
+one_last places n x y a b = grind (arith, same_unit)
 
 one_span : (places : List UnitPlace) (n : NoteParts) (a b : Option UnitSpan) → AreUnitsOf places n a
     → AreUnitsOf places n b → a ≡ b
 one_span places n None None f g = refl
 one_span places n None (Some t) f g = absurd (f g.0.place g.0.is_one g.0.touched)
 one_span places n (Some s) None f g = absurd (g f.0.place f.0.is_one f.0.touched)
-one_span places n (Some s) (Some t) f g =
-    let first = one_first places n s.first t.first f.0 g.0 in
-    let last = one_last places n s.last t.last f.1 g.1 in
-    λ i. Some (record { first = first i; last = last i })
+one_span places n (Some s) (Some t) f g = grind (arith, one_first, one_last)
 
 -- What is by the relation is found.
 pub touched_is : (places : List UnitPlace) (n : NoteParts) (s : Option UnitSpan) → AreUnitsOf places n s

@@ -66,54 +66,19 @@ module _ (P : ℕ → UnitFixity → Type 0) (one : (unit : ℕ) (f g : UnitFixi
 pub one_list_of_runs : (verified altered : List Run) (units : UnitsParts) (from to : ℕ) (a b : VerifiedUnitsParts)
     → AreVerifiedUnits verified altered units from to a → AreVerifiedUnits verified altered units from to b
     → a.runs ≡ b.runs
-one_list_of_runs verified altered units from to a b h k =
-    one_list (λ unit fixity. IsFixityOf verified altered (unit_of units.known units.index_sid unit) fixity)
-    (λ unit f g p q.
-    let u = unit_of units.known units.index_sid unit in one_standing verified altered u.standing u.extent f g p q)
-    from to a.runs b.runs h.runs k.runs
+one_list_of_runs verified altered units from to a b h k = grind (arith, one_list, one_standing)
 
 -- ---- spans
 
 module _ (places others : List UnitPlace) (same : SameMembers places others) (n : NoteParts) where
   one_first : (a b : ℕ) → IsFirstTouched places n a → IsFirstTouched others n b → a ≡ b
-  one_first a b h k =
-      let x = h.unit_is in
-      let y = k.unit_is in
-      elim (h.first k.place ((same k.place).1 k.is_one) k.touched) [
-        | inl l ↦ elim (k.first h.place ((same h.place).0 h.is_one) h.touched) [
-          | inl m ↦ absurd (omega (arith, l, m))
-          | inr m ↦ (let e = m.0 in absurd (omega (arith, l, e)))
-        ]
-        | inr l ↦ elim (k.first h.place ((same h.place).0 h.is_one) h.touched) [
-          | inl m ↦ (let e = l.0 in absurd (omega (arith, m, e)))
-          | inr m ↦ (
-              let low = l.1 in
-              let high = m.1 in omega (arith, low, high, x, y))
-        ]
-      ]
+  one_first a b h k = grind arith
 
   one_last : (a b : ℕ) → IsLastTouched places n a → IsLastTouched others n b → a ≡ b
-  one_last a b h k =
-      let x = h.unit_is in
-      let y = k.unit_is in
-      elim (h.last k.place ((same k.place).1 k.is_one) k.touched) [
-        | inl l ↦ elim (k.last h.place ((same h.place).0 h.is_one) h.touched) [
-          | inl m ↦ absurd (omega (arith, l, m))
-          | inr m ↦ (let e = m.0 in absurd (omega (arith, l, e)))
-        ]
-        | inr l ↦ elim (k.last h.place ((same h.place).0 h.is_one) h.touched) [
-          | inl m ↦ (let e = l.0 in absurd (omega (arith, m, e)))
-          | inr m ↦ (
-              let high = l.1 in
-              let low = m.1 in omega (arith, low, high, x, y))
-        ]
-      ]
+  one_last a b h k = grind arith
 
   pub one_span : (a b : Option UnitSpan) → AreUnitsOf places n a → AreUnitsOf others n b → a ≡ b
   one_span None None h k = refl
   one_span None (Some t) h k = absurd (h k.0.place ((same k.0.place).1 k.0.is_one) k.0.touched)
   one_span (Some s) None h k = absurd (k h.0.place ((same h.0.place).0 h.0.is_one) h.0.touched)
-  one_span (Some s) (Some t) h k =
-      let first = one_first s.first t.first h.0 k.0 in
-      let last = one_last s.last t.last h.1 k.1 in
-      λ i. Some (record { first = first i; last = last i })
+  one_span (Some s) (Some t) h k = grind (arith, one_first, one_last)

@@ -72,10 +72,7 @@ module _ (P : ℕ → UnitFixity → Type 0) (from to : ℕ) where
   pub units-step : (next : ℕ) (fixity : UnitFixity) (runs new : List UnitRun) (last more : UnitRun) → next ≤ to
       → P next fixity → AreUnitsSoFar P from to next runs last → TakesUnit runs last next fixity new more
       → AreUnitsSoFar P from to (next + 1) new more
-  units-step next fixity runs new last more within here so (inl t) =
-      subst (λ (m : UnitRun). AreUnitsSoFar P from to (next + 1) new m) (sym t.2)
-      (subst (λ (l : List UnitRun). AreUnitsSoFar P from to (next + 1) l
-      (record { first = last.first; last = next; fixity = fixity })) (sym t.1) (grown next fixity runs last here so t.0))
+  units-step next fixity runs new last more within here so (inl t) = grind (arith, grown)
   units-step next fixity runs new last more within here so (inr t) =
       subst (λ (m : UnitRun). AreUnitsSoFar P from to (next + 1) new m) (sym t.2)
       (subst (λ (l : List UnitRun). AreUnitsSoFar P from to (next + 1) l
@@ -84,16 +81,7 @@ module _ (P : ℕ → UnitFixity → Type 0) (from to : ℕ) where
 
   pub units-end : (next : ℕ) (runs whole : List UnitRun) (last : UnitRun) → AreUnitsSoFar P from to next runs last
       → next ≡ to + 1 → whole ≡ runs ++ last ∷ [] → AreUnitRuns P from to whole
-  units-end next runs whole last so ended pushed =
-      let next_is = so.next_is in
-      subst (λ (l : List UnitRun). AreUnitRuns P from to l) (sym pushed) (so.goes_on last [] refl refl (
-        refl,
-        so.order,
-        omega (arith, next_is, ended),
-        so.alike,
-        tt,
-        omega (arith, next_is, ended),
-      ))
+  units-end next runs whole last so ended pushed = grind arith
 
 -- ---- how many there are
 
@@ -138,12 +126,7 @@ units-more runs i d here = at_drop_more units_in runs i d here
 module _ (p : UnitRun → Bool) where
   pub units-fewer : (runs : List UnitRun) → units_in (filter p runs) ≤ units_in runs
   units-fewer [] = omega arith
-  units-fewer (r ∷ runs) =
-      let ih : units_in (filter p runs) ≤ units_in runs = units-fewer runs in
-      elim (p r) as (λ b. units_in (cond b (r ∷ filter p runs) (filter p runs)) ≤ units_in (r ∷ runs)) [
-        | true ↦ omega (arith, ih)
-        | false ↦ omega (arith, ih)
-      ]
+  units-fewer (r ∷ runs) = grind (arith, units-fewer runs)
 
   pub chosen-more : (runs : List UnitRun) (i : ℕ) (d : UnitRun) → i < length runs → p (get_or runs i d) ≡ true
       → units_in (filter p (drop i runs))

@@ -185,33 +185,18 @@ back a b same s = ((same s).1, (same s).0)
 module _ (reference : List NoteParts) where
   verified_alike : (a b : List Source) → SameMembers a b → (n : NoteParts)
       → IsVerified reference a n ↔ IsVerified reference b n
-  verified_alike a b same n = (
-    some_alike (λ s. IsSameIn reference n s) a b same,
-    some_alike (λ s. IsSameIn reference n s) b a (back a b same),
-  )
+  verified_alike a b same n = grind (arith, some_alike, back)
 
   differing_alike : (a b : List Source) → SameMembers a b → (n : NoteParts)
       → IsDiffering reference a n ↔ IsDiffering reference b n
-  differing_alike a b same n = (
-    some_alike (λ s. DiffersIn reference n s) a b same,
-    some_alike (λ s. DiffersIn reference n s) b a (back a b same),
-  )
+  differing_alike a b same n = grind (arith, some_alike, back)
 
   cut_alike : (a b : List Source) → SameMembers a b → (n : NoteParts) → IsCut reference a n → IsCut reference b n
-  cut_alike a b same n h = record {
-    unverified = λ v. h.unverified ((verified_alike a b same n).1 v);
-    undiffering = λ d. h.undiffering ((differing_alike a b same n).1 d);
-    apart = λ offset bytes i. h.apart offset bytes ((same (Bytes offset bytes)).1 i);
-    touched = some_alike (λ s. TouchesIn n s) a b same h.touched;
-  }
+  cut_alike a b same n h = grind (arith, verified_alike, differing_alike, some_alike)
 
   unverified_alike : (a b : List Source) → SameMembers a b → (at : ℕ) → IsUnverifiedByte reference a at
       → IsUnverifiedByte reference b at
-  unverified_alike a b same at h = (
-    h.0,
-    λ v. h.1 (v.0, v.1, (verified_alike a b same v.0).1 v.2, v.3),
-    λ d. h.2 (d.0, d.1, (differing_alike a b same d.0).1 d.2, d.3),
-  )
+  unverified_alike a b same at h = grind (arith, verified_alike, differing_alike)
 
   unknown_alike : (a b : List Source) → SameMembers a b → (at : ℕ) → IsUnknownByte reference a at
       → IsUnknownByte reference b at

@@ -25,17 +25,7 @@ in_run P from to (q ∷ runs) are r (inr i) unit low high = in_run P (q.last + 1
 -- A unit that is verified lies in the verified bytes.
 lies_verified : (verified altered : List Run) (P : ℕ → Type 0) (unit : EditUnit)
     → ((at : ℕ) → LiesIn verified at → P at) → IsFixityOf verified altered unit Verified → HasEachByte P unit
-lies_verified verified altered P unit say is =
-    elim unit.extent as (λ x. unit.extent ≡ x → IsFixityBy verified altered unit.standing x Verified → HasEachByte P unit) [
-      | None ↦ λ e f. absurd cc
-      | Some x ↦ λ e f. record {
-        extent = x;
-        end = f.2.0;
-        lies = e;
-        ends = f.2.1;
-        bytes = λ at low high. say at (f.2.2 at low high);
-      }
-    ] refl is
+lies_verified verified altered P unit say is = grind arith
 
 pub verified_bytes : (reference : List NoteParts) (sources : List Source) (v : VerificationParts) (units : UnitsParts)
     (from to : ℕ) (told : VerifiedUnitsParts) → IsVerification reference sources v

@@ -108,7 +108,4 @@ module _ {R : Type 0} (left : R → Option (List ℕ)) (reference : List NotePar
 
   pub seen_all : (all rest : List (Part R)) (number : ℕ) (seen : Seen) → HasSeen all number rest seen → length rest ≡ 0
       → (sources : List Source) × AreSourcesOf left all sources × IsSeen reference sources seen
-  seen_all all rest number seen h none =
-      let done : h.passed.done ≡ all = sym (h.passed.whole
-      ∙ ap (λ t. h.passed.done ++ t) (no_more rest none) ∙ append-nil h.passed.done) in
-      (h.sources, subst (λ l. AreSourcesOf left l h.sources) done h.are, h.is)
+  seen_all all rest number seen h none = grind (arith, no_more, append-nil)

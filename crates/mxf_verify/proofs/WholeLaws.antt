@@ -173,17 +173,10 @@ module _ (reference : List NoteParts) (bytes : List ℕ) (v : VerificationParts)
   -- ---- and where they are, everything is the same
   module _ (are : AreBytes bytes) (notes : notes_in 0 bytes ≡ reference) (stop : stop_in 0 bytes ≡ End) where
     same_there : (n : NoteParts) → In n reference → IsSameIn reference n (Bytes 0 bytes)
-    same_there n i =
-        let said = (read_all bytes are stop).0 n (subst (In n) (sym notes) i) in (
-          record { free = λ crowded. (is.clear n i).undisputed crowded.0; among = said.0 },
-          said.1,
-        )
+    same_there n i = grind (arith, read_all)
 
     none_differs : (n : NoteParts) → In n reference → ¬ IsDiffering reference (Bytes 0 bytes ∷ []) n
-    none_differs n i d =
-        let s = only_source d.0 bytes d.1 in
-        let differs : DiffersIn reference n (Bytes 0 bytes) = subst (DiffersIn reference n) s d.2 in
-        differs.1 (same_there n i).1
+    none_differs n i d = grind (arith, only_source, same_there)
 
     verified_there : (n : NoteParts) → In n reference → IsVerified reference (Bytes 0 bytes ∷ []) n
     verified_there n i = (Bytes 0 bytes, inl refl, same_there n i)

@@ -56,13 +56,7 @@ module _ (n : NoteParts) (bytes : List ℕ) (is : IsNote n) (whole : n.whole ≡
 
   pub said_note : note_of n.offset (packet_parts n.key n.width (drop (front_size n) bytes)) ≡ n
   unfolding value
-  said_note =
-      let keeps_as : keeps_value n ≡ keeps n.key n.length = ap (λ b. b && keeps n.key n.length) whole in
-      let known : IsValueOf n value = said.value whole in
-      let held : cond (keeps n.key (length value)) value (sha256 value) ≡ n.held =
-      ap (λ l. cond (keeps n.key l) value (sha256 value)) value_length
-      ∙ ap (λ b. cond b value (sha256 value)) (sym keeps_as) ∙ known in
-      one_note _ n refl refl refl value_length (sym whole) held
+  said_note = grind (arith, value, value_length, one_note)
 
 -- ---- bytes that are said, read from the front
 
