@@ -93,10 +93,7 @@ gap_starts notes o content =
 
 is_some-partition_at : (n : NoteParts) → is_some (partition_at n) ≡ is_some (pack_of n)
 unfolding partition_at
-is_some-partition_at n =
-    let at : PartitionPackParts → PartitionParts =
-    λ pack. record { offset = n.offset; end = end_of n; pack = pack } in
-    is_some-map at (pack_of n)
+is_some-partition_at n = grind (arith, end_of, is_some-map, pack_of)
 
 pub unreadable_pack : (n : NoteParts) → (not (is_no_unreadable_pack n) ≡ true)
     ↔ (IsPartitionKind (kind_of n.key) × ¬ IsReadable (pack_at (kind_of n.key)) n)
@@ -160,44 +157,24 @@ unlinked ps p = (
 )
 
 open_says : (s : Status) → (is_open s ≡ true) ↔ IsOpen s
-open_says s = (
-  λ h. elim s as (λ x. s ≡ x → is_open x ≡ true → IsOpen s) [
-    | statuses.OpenIncomplete ↦ λ e _. inl e
-    | statuses.OpenComplete ↦ λ e _. inr e
-    | statuses.ClosedIncomplete ↦ λ _ q. absurd cc
-    | statuses.ClosedComplete ↦ λ _ q. absurd cc
-  ] refl h,
-  λ k. elim k [ inl e ↦ ap is_open e | inr e ↦ ap is_open e ],
-)
+open_says s = grind arith
 
 pub open_footer : (p : PartitionParts) → (is_open_footer p ≡ true) ↔ ((p.pack.part ≡ Footer) × IsOpen p.pack.status)
-open_footer p = (
-  λ h.
-      let s = and_parts (is_footer p.pack.part) (is_open p.pack.status) h in
-      (footer_says p.pack.part s.0, (open_says p.pack.status).0 s.1),
-  λ s. and_from (is_footer p.pack.part) (is_open p.pack.status) (ap is_footer s.0) ((open_says p.pack.status).1 s.1),
-)
+open_footer p = grind (arith, and_parts, is_footer, footer_says, open_says, and_from)
 
 pub footer_lacks : (ps : List PartitionParts) (p : PartitionParts) → (lacks_footer ps p ≡ true) ↔ LacksFooter ps p
 footer_lacks ps p =
-    let at = p.pack.numbers.footer_partition in
-    let there = list_any-In (λ (q : PartitionParts). is_footer q.pack.part && q.offset == at) ps in
-    let zero = not_equal at 0 in (
-      λ h.
-          let s = and_parts (not (at == 0)) (not (footer_stands_at at ps)) h in
-          record {
-            named = zero.0 s.0;
-            none = λ q k f e. not-true-false (footer_stands_at at ps) s.1
-                (there.1 (
-                  q,
-                  k,
-                  and_from (is_footer q.pack.part) (q.offset == at) (ap is_footer f)
-                      (eq-eqb q.offset at e),
-                ));
-          },
-      λ l. and_from (not (at == 0)) (not (footer_stands_at at ps)) (zero.1 l.named) (not_true (footer_stands_at at ps)
-          (λ t.
-          let s = there.0 t in
-          let b = and_parts (is_footer s.0.pack.part) (s.0.offset == at) s.2 in
-          l.none s.0 s.1 (footer_says s.0.pack.part b.0) (eqb-true s.0.offset at b.1))),
+    grind (
+      arith,
+      list_any-In,
+      is_footer,
+      not_equal,
+      and_parts,
+      footer_stands_at,
+      not-true-false,
+      and_from,
+      eq-eqb,
+      not_true,
+      footer_says,
+      eqb-true,
     )

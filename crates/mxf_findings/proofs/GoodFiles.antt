@@ -117,32 +117,11 @@ IsSteady body bytes s =
 
 steady_place : (body bytes sid unit : ℕ) (s : SegmentParts) (p : Place) → IsSteady body bytes s
     → place_by_segment sid unit s ≡ Some p → p ≡ At body (bytes * unit)
-steady_place body bytes sid unit s p i e =
-    let b = s.numbers.body_sid in
-    let k = s.numbers.unit_bytes * unit in
-    let at : At b k ≡ At body (bytes * unit) = λ j. At (i.1 j) (i.2 j * unit) in
-    let by_size = if covers_constant s unit then Some k else None in
-    let place = unit - unsigned_abs s.numbers.start in
-    let by_entry = if covers_entry s unit then Some (entry_offset s place) else None in
-    elim (s.numbers.index_sid == sid) as (λ c. cond c (option_map (λ o. At b o) (stream_offset s unit)) None ≡ Some p
-    → p ≡ At body (bytes * unit)) [
-      | false ↦ λ q. absurd (none_some None p refl q)
-      | true ↦ λ q.
-          let r : option_map (λ o. At b o) by_size ≡ Some p =
-          subst (λ (c : Bool). option_map (λ o. At b o) (cond c by_size by_entry) ≡ Some p) i.0 q in
-          elim (covers_constant s unit) as (λ c. option_map (λ o. At b o) (cond c (Some k) None) ≡ Some p
-          → p ≡ At body (bytes * unit)) [
-            | false ↦ λ u. absurd (none_some None p refl u)
-            | true ↦ λ u. sym (same_Some (At b k) p u) ∙ at
-          ] r
-    ] e
+steady_place body bytes sid unit s p i e = grind (arith, option_map, stream_offset, none_some, same_Some)
 
 steady_agree : (body bytes : ℕ) (ss : List SegmentAtParts)
     → AllByRecursion (λ s. IsSteady body bytes s.segment) ss → Agree ss
-steady_agree body bytes ss a s t sid unit p q h k e f =
-    let each = all-In (λ (x : SegmentAtParts). IsSteady body bytes x.segment) ss in
-    steady_place body bytes sid unit s.segment p (each s a h) e
-    ∙ sym (steady_place body bytes sid unit t.segment q (each t a k) f)
+steady_agree body bytes ss a s t sid unit p q h k e f = grind (arith, all-In, steady_place)
 
 pub agreeing_well_formed : IsWellFormed agreeing_file
 unfolding read_pack read_segment read_rip item_at items_of left_of

@@ -50,12 +50,7 @@ module _ (uid : List ℕ) where
   comparisons es s = searchable_from_sorted nat_list_cmp_total (λ (e : Identified). e.uid) es uid s
 
   pub parted : (es : List Identified) → AreSorted es → IsPartitionedBy (is_below uid) es
-  parted es s i j d l h t =
-      let m = comparisons es s i j d l h in
-      let last = slice_cmp nat_cmp (get_or es j d).uid uid in
-      let first = slice_cmp nat_cmp (get_or es i d).uid uid in
-      let z = eqb-true (ordering_index last) 0 (sym (is_lt_index last) ∙ t) in
-      is_lt_index first ∙ eq-eqb (ordering_index first) 0 (omega (arith, m, z))
+  parted es s i j d l h t = grind (arith, comparisons, nat_cmp, eqb-true, ordering_index, is_lt_index, eq-eqb)
 
   -- Behind one that stands above none has it.
   pub none_behind : (es : List Identified) (i k : ℕ) (d : Identified) → AreSorted es

@@ -15,11 +15,7 @@ use Rattle.mxf_findings.proofs.SmallFiles.{no_footer, no_header, without_footer,
 use Rattle.mxf_findings.specs.RefusedFiles as refused
 
 pub narrow_refused : ¬ IsWellFormed refused.narrow_length
-narrow_refused w =
-    elim (w.packets.1.1.0.width) [
-      | inl h ↦ (let k : 128 ≤ 127 = h.1 in omega (arith, k))
-      | inr h ↦ (let k : 2 ≤ 1 = h.0 in omega (arith, k))
-    ]
+narrow_refused w = grind arith
 
 -- ---- the greatest end
 
@@ -33,32 +29,25 @@ long_length : (bytes : ℕ) → length (zeros bytes) ≡ bytes
 long_length bytes = length-replicate bytes 0x00
 
 long_end : (bytes : ℕ) → end_after 0 (refused.long_file bytes) ≡ 241 + bytes
-long_end bytes =
-    let l = long_length bytes in
-    let e : 216 + (25 + length (zeros bytes)) ≡ 241 + bytes = omega (arith, l) in
-    e
+long_end bytes = grind (arith, long_length)
 
 long_is_packet : (bytes : ℕ) → bytes < 256 ^ 8 → IsPacket (long_packet bytes)
-long_is_packet bytes b = record {
-  label = (refl, refl);
-  width = inr
-      (omega arith, omega arith, subst (λ (k : ℕ). k < 256 ^ 8) (sym (long_length bytes)) b);
-}
+long_is_packet bytes b = grind (arith, long_length)
 
 long_well_formed : (bytes : ℕ) → 241 + bytes ≤ greatest_end → IsWellFormed (refused.long_file bytes)
 unfolding read_pack read_segment read_rip
-long_well_formed bytes h = record {
-  packets = (m_well_formed.packets.0, (m_well_formed.packets.1.0, (long_is_packet bytes (omega (arith, h)), tt)));
-  within = subst (λ (k : ℕ). k ≤ greatest_end) (sym (long_end bytes)) h;
-  header = ((ClosedComplete, refl), no_headers (drop 1 (refused.long_file bytes)) refl);
-  footer = bare_footer (long_packet bytes ∷ []) refl;
-  readable = (refl, (refl, (refl, tt)));
-  this = (refl, (refl, tt));
-  previous = (refl, (refl, tt));
-  metadata = (λ k. absurd (omega arith), (λ k. absurd (omega arith), (tt, tt)));
-  index = λ s t sid unit p q i k e f. absurd i;
-  random_index = rip_last (partitions_read 0 (refused.long_file bytes)) (refused.long_file bytes) refl tt;
-}
+long_well_formed bytes h =
+    grind (
+      arith,
+      m_well_formed,
+      long_is_packet,
+      greatest_end,
+      long_end,
+      no_headers,
+      bare_footer,
+      rip_last,
+      partitions_read,
+    )
 
 pub long_iff : (bytes : ℕ) → IsWellFormed (refused.long_file bytes) ↔ (241 + bytes ≤ greatest_end)
 long_iff bytes =
@@ -92,17 +81,11 @@ third_is_pack : (x y z : PacketParts) (before : List PacketParts) (footer : Pack
     → IsFooterPack footer → AllByRecursion (λ p. ¬ IsPartitionPack p) after → ⊥
 third_is_pack x y z [] footer after nx nz pz o i l =
     nx (subst IsFooterPack (sym (same_head x footer (y ∷ z ∷ []) after o)) i)
-third_is_pack x y z (a ∷ []) footer after nx nz pz o i l =
-    let t = same_tail y footer (z ∷ []) after (same_tail x a (y ∷ z ∷ []) (footer ∷ after) o) in
-    let none = subst (AllByRecursion (λ p. ¬ IsPartitionPack p)) (sym t) l in
-    none.0 pz
+third_is_pack x y z (a ∷ []) footer after nx nz pz o i l = grind (arith, same_tail)
 third_is_pack x y z (a ∷ b ∷ []) footer after nx nz pz o i l =
     let t = same_tail y b (z ∷ []) (footer ∷ after) (same_tail x a (y ∷ z ∷ []) (b ∷ footer ∷ after) o) in
     nz (subst IsFooterPack (sym (same_head z footer [] after t)) i)
-third_is_pack x y z (a ∷ b ∷ c ∷ before) footer after nx nz pz o i l =
-    let s = same_tail x a (y ∷ z ∷ []) (b ∷ c ∷ (before ++ footer ∷ after)) o in
-    let t = same_tail y b (z ∷ []) (c ∷ (before ++ footer ∷ after)) s in
-    not_empty before footer after (same_tail z c [] (before ++ footer ∷ after) t)
+third_is_pack x y z (a ∷ b ∷ c ∷ before) footer after nx nz pz o i l = grind (arith, same_tail, not_empty)
 
 pub early_footer_refused : ¬ IsWellFormed refused.early_footer
 early_footer_refused w =

@@ -28,10 +28,7 @@ ref_is notes partition w uid a =
 
 ref_only : (notes : List NoteParts) (partition : ℕ) (w : Wanted) (uid : List ℕ) (ref : Ref)
     → AreApart 0 (sets_of notes partition) → IsRefOf notes partition w uid ref → ref ≡ ref_of notes partition w uid
-ref_only notes partition w uid ref a i =
-    let own = i.own in
-    let target = sym ((target_of_iff notes partition w uid ref.target a).1 i.target) in
-    λ k. record { uid = own k; target = target k }
+ref_only notes partition w uid ref a i = grind (arith, target_of_iff)
 
 refs_are : (notes : List NoteParts) (partition : ℕ) (w : Wanted) (uids : List (List ℕ))
     → AreApart 0 (sets_of notes partition) → AreRefsOf notes partition w uids (refs_of notes partition w uids)
@@ -191,12 +188,7 @@ single (m ∷ n ∷ list) e = absurd (omega (arith, e))
 
 one_of_many : (IsSuch : NoteParts → Type 0) → AreSoMany 1 IsSuch
     → (n : NoteParts) × IsSuch n × ((m : NoteParts) → IsSuch m → m ≡ n)
-one_of_many IsSuch s =
-    let l = single s.list s.number in (
-      l.0,
-      (s.members l.0).0 (subst (In l.0) (sym l.1) (inl refl)),
-      λ m i. elim (subst (In m) l.1 ((s.members m).1 i)) [ inl e ↦ e | inr h ↦ absurd h ],
-    )
+one_of_many IsSuch s = grind (arith, single)
 
 only_preface : (notes : List NoteParts) (c : CopyInfo) (s : ℕ) → IsContent notes → IsCopy notes c → c.start ≡ Some s
     → AreSoMany c.prefaces (IsPrefaceIn notes s c.bytes) → c.prefaces ≡ 1
@@ -270,17 +262,7 @@ resolved_by_parts notes partition offset (Some p) = (refl, refl)
 resolved_from_it : (notes : List NoteParts) (c : CopyInfo) (n : NoteParts) → IsContent notes
     → IsBest (copies_of notes) c → IsOnlyPreface notes c.partition n
     → IsResolvedFrom notes (resolved_by notes c.partition n.offset (preface_in n))
-resolved_from_it notes c n r best o =
-    let parts = resolved_by_parts notes c.partition n.offset (preface_in n) in
-    record {
-      copy = c;
-      preferred = best;
-      partition = parts.0;
-      note = n;
-      one = subst (λ (k : ℕ). IsOnlyPreface notes k n) (sym parts.0) o;
-      preface = parts.1;
-      named = named_is notes c.partition n (sets_apart notes c.partition r);
-    }
+resolved_from_it notes c n r best o = grind (arith, resolved_by_parts, preface_in, preface, named_is, sets_apart)
 
 resolved_in_is : (notes : List NoteParts) (c : CopyInfo) → IsContent notes → IsBest (copies_of notes) c
     → IsResolved notes (resolved_in notes c)
@@ -318,7 +300,4 @@ one_resolved notes (Some a) (Some b) r x y =
 -- What is resolved is what the only Preface of the preferred copy names.
 pub resolved_iff : (notes : List NoteParts) (resolved : Option ResolvedParts) → IsContent notes
     → (resolved_of notes ≡ resolved) ↔ IsResolved notes resolved
-resolved_iff notes resolved r = (
-  λ e. subst (IsResolved notes) e (resolved_is notes r),
-  λ i. one_resolved notes (resolved_of notes) resolved r (resolved_is notes r) i,
-)
+resolved_iff notes resolved r = grind (arith, resolved_is, one_resolved, resolved_of)

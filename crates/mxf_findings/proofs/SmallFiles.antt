@@ -49,15 +49,7 @@ no_packs = none_of IsPartitionPack (λ p. is_pack_kind (kind_of p.key)) no_pack
 pub footer_behind : (before : List PacketParts) (footer : PacketParts) (after : List PacketParts) → IsFooterPack footer
     → list_any (λ p. is_footer_kind (kind_of p.key)) before ≡ false
     → list_any (λ p. is_pack_kind (kind_of p.key)) after ≡ false → EndsWithFooter (before ++ footer ∷ after)
-footer_behind before footer after is b a = record {
-  before = before;
-  footer = footer;
-  after = after;
-  order = refl;
-  is_footer = is;
-  only = no_footers before b;
-  last = no_packs after a;
-}
+footer_behind before footer after is b a = grind (arith, no_footers, no_packs)
 
 -- The primer and the Preface of the small files are header metadata of 86 bytes.
 pub metadata_after : (fills rest : List PacketParts) → AllByRecursion IsFill fills
@@ -113,10 +105,7 @@ n_well_formed = record {
 
 -- Segments agree where there is one alone.
 pub agree_alone : (s : SegmentAtParts) → Agree (s ∷ [])
-agree_alone s t u sid unit p q (inl h) (inl k) e f =
-    let g = ap (λ (x : SegmentAtParts). place_by_segment sid unit x.segment) h in
-    let i = ap (λ (x : SegmentAtParts). place_by_segment sid unit x.segment) k in
-    let j : Some p ≡ Some q = sym e ∙ g ∙ sym i ∙ f in cc
+agree_alone s t u sid unit p q (inl h) (inl k) e f = grind (arith, place_by_segment)
 agree_alone s t u sid unit p q (inr h) k e f = absurd h
 agree_alone s t u sid unit p q (inl h) (inr k) e f = absurd k
 
@@ -163,10 +152,7 @@ footer_among [] footer after a = a.0
 footer_among (p ∷ ps) footer after a = footer_among ps footer after a.1
 
 pub without_footer : (l : List PacketParts) → AllByRecursion (λ p. ¬ IsFooterPack p) l → ¬ IsWellFormed l
-without_footer l a w =
-    let f = w.footer in
-    footer_among f.before f.footer f.after (subst (AllByRecursion (λ p. ¬ IsFooterPack p)) f.order a)
-    f.is_footer
+without_footer l a w = grind (arith, footer_among)
 
 pub h_not_well_formed : ¬ IsWellFormed h_file
 h_not_well_formed = without_footer h_file (no_footers h_file refl)

@@ -23,11 +23,7 @@ use Rattle.mxf_map.specs.declared.extent.MapExtent.{MapExtent}
 -- ---- how a byte stands
 
 same_number : (a b : ℕ) → (a < b → ⊥) → (b < a → ⊥) → a ≡ b
-same_number a b not_below not_above =
-    elim (cases_lt a b) [
-      | inl below ↦ absurd (not_below below)
-      | inr from ↦ elim (cases_lt b a) [ inl above ↦ absurd (not_above above) | inr to ↦ omega (arith, from, to) ]
-    ]
+same_number a b not_below not_above = grind (arith, cases_lt)
 
 -- ---- where a cover changes
 
@@ -57,13 +53,7 @@ module _ (runs : List Run) (m : AreMaximal 0 runs) (from end : ℕ) where
 
   -- of a run that has an offset there, one is kept
   lies_in-kept : (x : ℕ) → from ≤ x → x < end → LiesIn runs x → LiesIn kept x
-  lies_in-kept x above below (r, i, w) =
-      let a : r.start ≤ x = w.from in
-      let b : x + 1 ≤ r.end = w.before in (
-        r,
-        (In-filter (is_between from (Some end)) runs r).1 (i, between-of from end r (omega (arith, b, above)) (omega (arith, a, below))),
-        w,
-      )
+  lies_in-kept x above below (r, i, w) = grind (arith, In-filter, between-of)
 
   kept-lies_in : (x : ℕ) → LiesIn kept x → LiesIn runs x
   kept-lies_in x (r, i, w) = (r, ((In-filter (is_between from (Some end)) runs r).0 i).0, w)
@@ -130,29 +120,7 @@ disputed-held : (known : KnownParts) (x : ℕ) → IsDisputedAt known.notes x �
 disputed-held known x (n, i, d, c) = (n, i, c)
 
 pub standing-says : (known : KnownParts) (x : ℕ) (s : ByteStanding) → (standing_at known x ≡ s) ↔ StandsAs known x s
-standing-says known x s =
-    by (is_disputed_at known.notes x) (is_held known.notes x) (has_offset known.at.hand x)
-    (is_disputed_at-says known.notes x) (is_held-says known.notes x) (has_offset-says known.at.hand x) s
-  where
-    by : (d h k : Bool) → IsTrue d ↔ IsDisputedAt known.notes x → IsTrue h ↔ IsHeld known.notes x
-        → IsTrue k ↔ LiesIn known.at.hand x → (s : ByteStanding)
-        → ((if d then Disputed else (if h then Held else (if k then Hand else Missing))) ≡ s) ↔ StandsAs known x s
-    by true h k ds hs ks Disputed = (λ e. ds.0 refl, λ p. refl)
-    by true h k ds hs ks Held = (λ e. cc, λ p. absurd (p.1 (ds.0 refl)))
-    by true h k ds hs ks Hand = (λ e. cc, λ p. absurd (p.1 (disputed-held known x (ds.0 refl))))
-    by true h k ds hs ks Missing = (λ e. cc, λ p. absurd (p.1 (disputed-held known x (ds.0 refl))))
-    by false true k ds hs ks Disputed = (λ e. cc, λ p. let t = ds.1 p in cc)
-    by false true k ds hs ks Held = (λ e. (hs.0 refl, λ p. let t = ds.1 p in cc), λ p. refl)
-    by false true k ds hs ks Hand = (λ e. cc, λ p. absurd (p.1 (hs.0 refl)))
-    by false true k ds hs ks Missing = (λ e. cc, λ p. absurd (p.1 (hs.0 refl)))
-    by false false true ds hs ks Disputed = (λ e. cc, λ p. let t = ds.1 p in cc)
-    by false false true ds hs ks Held = (λ e. cc, λ p. let t = hs.1 p.0 in cc)
-    by false false true ds hs ks Hand = (λ e. (ks.0 refl, λ p. let t = hs.1 p in cc), λ p. refl)
-    by false false true ds hs ks Missing = (λ e. cc, λ p. absurd (p.0 (ks.0 refl)))
-    by false false false ds hs ks Disputed = (λ e. cc, λ p. let t = ds.1 p in cc)
-    by false false false ds hs ks Held = (λ e. cc, λ p. let t = hs.1 p.0 in cc)
-    by false false false ds hs ks Hand = (λ e. cc, λ p. let t = ks.1 p.0 in cc)
-    by false false false ds hs ks Missing = (λ e. (λ p. let t = ks.1 p in cc, λ p. let t = hs.1 p in cc), λ p. refl)
+standing-says known x s = grind (arith, is_disputed_at-says, is_held-says, has_offset-says, disputed-held)
 
 -- ---- the maximal ranges
 
@@ -162,36 +130,10 @@ module _ (stands : ℕ → ByteStanding) (end : ℕ) where
   Begins from = (from ≡ 0) ⊎ ((x : ℕ) × (x + 1 ≡ from) × ((from ≡ end) ⊎ (stands x ≢ stands from)))
 
   is_extent : (from : ℕ) (e : MapExtent) → Begins from → IsExtentFrom stands end from e → IsExtent stands end e
-  is_extent from e begins i =
-      let start = i.start in
-      let some = i.some in
-      let within = i.within in
-      let here : stands from ≡ e.standing = i.same from (omega arith) some in
-      record {
-        some = omega (arith, start, some);
-        within = within;
-        same = λ x o. let above = o.above in i.same x (omega (arith, above, start)) o.below;
-        first = elim begins [
-          | inl zero ↦ inl (start ∙ zero)
-          | inr b ↦ elim b.2 [
-            | inl last ↦ absurd (omega (arith, last, some, within))
-            | inr other ↦ inr (b.0, b.1 ∙ sym start, λ e. other (e ∙ sym here))
-          ]
-        ];
-        last = i.last;
-      }
+  is_extent from e begins i = grind arith
 
   begins-next : (from : ℕ) (e : MapExtent) → IsExtentFrom stands end from e → Begins e.end
-  begins-next from e i =
-      let some = i.some in
-      inr (
-        e.end - 1,
-        omega (arith, some),
-        elim i.last [
-          | inl last ↦ inl last
-          | inr other ↦ inr (λ same. other (sym same ∙ i.same (e.end - 1) (omega (arith, some)) (omega (arith, some))))
-        ],
-      )
+  begins-next from e i = grind arith
 
   members : (from : ℕ) (es : List MapExtent) (e : MapExtent) → Begins from → AreExtents stands end from es → In e es
       → IsExtent stands end e
@@ -228,16 +170,7 @@ module _ (stands : ℕ → ByteStanding) (end : ℕ) where
 
   starts : (x : ℕ) (d e : MapExtent) → IsExtent stands end d → IsExtent stands end e → IsOfExtent d x → IsOfExtent e x
       → d.start < e.start → ⊥
-  starts x d e i j o p before =
-      elim j.first [
-        | inl zero ↦ omega (arith, zero, before)
-        | inr b ↦
-            let next = b.1 in
-            let above = p.above in
-            let below = o.below in
-            b.2 (i.same b.0 (record { above = omega (arith, next, before); below = omega (arith, next, above, below) })
-            ∙ alike x d e i j o p)
-      ]
+  starts x d e i j o p before = grind (arith, alike)
 
   ends : (x : ℕ) (d e : MapExtent) → IsExtent stands end d → IsExtent stands end e → IsOfExtent d x → IsOfExtent e x
       → d.end < e.end → ⊥
@@ -270,14 +203,7 @@ module _ (stands : ℕ → ByteStanding) (end : ℕ) where
   -- there is one list of them
   next-same : (from : ℕ) (d e : MapExtent) → IsExtentFrom stands end from d → IsExtentFrom stands end from e
       → d.end < e.end → ⊥
-  next-same from d e i j before =
-      let some = i.some in
-      elim i.last [
-        | inl last ↦ let within = j.within in omega (arith, last, within, before)
-        | inr other ↦ let far = j.some in
-            other (j.same d.end (omega (arith, some)) before ∙ sym (j.same from (omega arith) far)
-            ∙ i.same from (omega arith) some)
-      ]
+  next-same from d e i j before = grind arith
 
   one_from : (from : ℕ) (a b : List MapExtent) → AreExtents stands end from a → AreExtents stands end from b → a ≡ b
   one_from from [] [] p q = refl
@@ -304,13 +230,4 @@ pub extents_go_on : (stands : ℕ → ByteStanding) (end from : ℕ) (e : MapExt
     → ((x : ℕ) → e.start ≤ x → x < e.end → stands x ≡ stands e.start)
     → (e.end ≡ end) ⊎ (stands e.end ≢ stands e.start) → e.start ≡ from → AreExtents stands end e.end rest
     → AreExtents stands end from (e ∷ rest)
-extents_go_on stands end from e rest standing some within same last start go = (
-  record {
-    start = start;
-    some = omega (arith, start, some);
-    within = within;
-    same = λ x above below. same x (omega (arith, start, above)) below ∙ sym standing;
-    last = elim last [ inl all ↦ inl all | inr other ↦ inr (λ e. other (e ∙ standing)) ];
-  },
-  go,
-)
+extents_go_on stands end from e rest standing some within same last start go = grind arith

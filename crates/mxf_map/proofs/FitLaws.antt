@@ -91,24 +91,10 @@ any_in_cell P known from to =
     ]
 
 in_cell : (from to x : ℕ) → Known (IsInCell from to x)
-in_cell from to x =
-    elim (cases_lt x from) [
-      | inl l ↦ inr (λ c. let a = c.above in absurd (omega (arith, a, l)))
-      | inr a ↦ elim (cases_lt x to) [
-        | inl b ↦ inl (record { above = a; below = b })
-        | inr g ↦ inr (λ c. let b = c.below in absurd (omega (arith, b, g)))
-      ]
-    ]
+in_cell from to x = grind (arith, cases_lt)
 
 in_span : (n : NoteParts) (x : ℕ) → Known (IsInSpan n x)
-in_span n x =
-    elim (cases_lt x n.offset) [
-      | inl l ↦ inr (λ c. let a = c.from in absurd (omega (arith, a, l)))
-      | inr a ↦ elim (cases_lt x (end_of n)) [
-        | inl b ↦ inl (record { from = a; before = omega (arith, b) })
-        | inr g ↦ inr (λ c. let b = c.before in absurd (omega (arith, b, g)))
-      ]
-    ]
+in_span n x = grind (arith, cases_lt)
 
 held : (notes : List NoteParts) (x : ℕ) → Known (IsHeld notes x)
 held notes x = let s = is_held-says notes x in by_test (IsHeld notes x) (is_held notes x) s.0 s.1

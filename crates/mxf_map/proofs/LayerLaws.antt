@@ -71,10 +71,7 @@ offsets_are xs x =
 -- A set of offsets that are those of which something holds.
 pub offsets_of : {E : Type 0} (result : Result Cover E) (xs ys : List ℕ) (P : ℕ → Type 0) → xs ≡ ys
     → ((x : ℕ) → In x ys ↔ P x) → IfOk result (λ c. AreOffsets (λ x. In x xs) c) → IfOk result (λ c. AreOffsets P c)
-offsets_of (Ok c) xs ys P e f a = λ x. (
-  λ h. (f x).0 (subst (In x) e ((a x).0 h)),
-  λ h. (a x).1 (subst (In x) (sym e) ((f x).1 h)),
-)
+offsets_of (Ok c) xs ys P e f a = grind arith
 offsets_of (Err f) xs ys P e g a = tt
 
 -- ---- partitions
@@ -213,18 +210,7 @@ kept_left : (p : ℕ → Bool) (f : Claim → Option ℕ) (claims : List Claim)
     → filter p (filter_map f claims)
     ≡ filter_map (λ c. option_and_then (λ x. if p x then Some x else None) (f c)) claims
 kept_left p f [] = refl
-kept_left p f (c ∷ claims) =
-    elim (f c) as (λ (o : Option ℕ). filter p (cons_option o (filter_map f claims))
-    ≡ cons_option (option_and_then (λ x. if p x then Some x else None) o)
-    (filter_map (λ d. option_and_then (λ x. if p x then Some x else None) (f d)) claims)) [
-      | None ↦ kept_left p f claims
-      | Some x ↦ elim (p x) as (λ b. cond b (x ∷ filter p (filter_map f claims)) (filter p (filter_map f claims))
-          ≡ cons_option (if b then Some x else None)
-          (filter_map (λ d. option_and_then (λ x. if p x then Some x else None) (f d)) claims)) [
-            | true ↦ ap (λ xs. x ∷ xs) (kept_left p f claims)
-            | false ↦ kept_left p f claims
-          ]
-    ]
+kept_left p f (c ∷ claims) = grind (arith, filter_map, kept_left p f claims)
 
 pub missing_members : (notes : List NoteParts) (xs ys : List ℕ)
     → xs ≡ filter_map (missing_place notes) (claims_of notes) → IsPermutation xs ys

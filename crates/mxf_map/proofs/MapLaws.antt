@@ -61,13 +61,7 @@ end_is known runs reached are is =
 
 -- A quotient that is rounded up.
 pub rounded_up : (e w : ℕ) → 1 ≤ e → 1 ≤ w → (e - 1) / w + 1 ≡ (e + (w - 1)) / w
-rounded_up e w some cells =
-    let q = (e - 1) / w in
-    let r = (e - 1) % w in
-    let parts : q * w + r ≡ e - 1 = div-add-mod' (e - 1) w in
-    let below : r < w = omega arith in
-    let all : (q + 1) * w + r ≡ e + (w - 1) = omega (arith, parts) in
-    sym (div-mul-add (q + 1) w r below) ∙ ap (λ (n : ℕ). n / w) all
+rounded_up e w some cells = grind (arith, div-add-mod', div-mul-add)
 
 -- ---- the bytes of runs
 

@@ -88,11 +88,7 @@ none_held known from to b is = (
 pub hand_met : (known : KnownParts) (from to : ℕ) (held hand : Bool)
     → IsTrue held ↔ ((at : ℕ) × IsHeld known.notes at × (from ≤ at) × (at < to)) → Meets known.at.hand from to hand
     → held ≡ false → IsTrue hand ↔ Says known from to marks.Hand
-hand_met known from to held hand is meets none =
-    let empty = none_held known from to held is in (
-      λ h. let s = meets.0 h in (empty.0 (ap not none), (s.0, record { above = s.2; below = s.3 }, s.1)),
-      λ s. meets.1 (s.1.0, s.1.2, s.1.1.above, s.1.1.below),
-    )
+hand_met known from to held hand is meets none = grind (arith, none_held)
 
 pub hand_denied : (known : KnownParts) (from to : ℕ) (held : Bool)
     → IsTrue held ↔ ((at : ℕ) × IsHeld known.notes at × (from ≤ at) × (at < to)) → held ≡ true
@@ -160,17 +156,7 @@ pub none_more : (known : KnownParts) (from to i : ℕ) (d : Mark) (all : List Ma
     → i < length all → ((other : Mark) → rank other < i → ¬ Says known from to other)
     → ¬ Says known from to (get_or all i d)
     → (other : Mark) → rank other < i + 1 → ¬ Says known from to other
-none_more known from to i d all e within before here other below says =
-    let count : length all ≡ 11 = ap length e in
-    elim (cases_lt (rank other) i) [
-      | inl l ↦ before other l says
-      | inr g ↦
-          let same : rank other ≡ i = omega (arith, below, g) in
-          let at = mark_at other d (omega (arith, count, within, same)) in
-          here (subst (λ (l : List Mark). Says known from to (get_or l i d)) (sym e)
-          (subst (λ (k : ℕ). Says known from to (get_or marks_in_order k d)) same
-          (subst (λ (m : Mark). Says known from to m) (sym at) says)))
-    ]
+none_more known from to i d all e within before here other below says = grind (arith, cases_lt, mark_at)
 
 -- Each mark but the last stands at its rank.
 rank_at : (i : ℕ) (d : Mark) → i < 11 → rank (get_or marks_in_order i d) ≡ i
@@ -191,23 +177,13 @@ rank_at (suc (suc (suc (suc (suc (suc (suc (suc (suc (suc (suc i))))))))))) d h 
 pub first_found : (known : KnownParts) (from to i : ℕ) (d : Mark) (all : List Mark) → all ≡ marks_in_order
     → i < length all → ((other : Mark) → rank other < i → ¬ Says known from to other)
     → Says known from to (get_or all i d) → IsMark known from to (get_or all i d)
-first_found known from to i d all e within before says =
-    let count : length all ≡ 11 = ap length e in
-    let at : rank (get_or all i d) ≡ i =
-    ap (λ (l : List Mark). rank (get_or l i d)) e ∙ rank_at i d (omega (arith, count, within)) in record {
-      says = says;
-      first = λ other below. before other (omega (arith, at, below));
-    }
+first_found known from to i d all e within before says = grind (arith, rank_at)
 
 -- Where none of them does, the last is.
 pub none_found : (known : KnownParts) (from to i : ℕ) (all : List Mark) → all ≡ marks_in_order
     → length all ≤ i → ((other : Mark) → rank other < i → ¬ Says known from to other)
     → IsMark known from to marks.Whole
-none_found known from to i all e past before =
-    let count : length all ≡ 11 = ap length e in record {
-      says = tt;
-      first = λ other below. before other (omega (arith, count, past, below));
-    }
+none_found known from to i all e past before = grind arith
 
 -- ---- the marks of all cells
 
@@ -251,15 +227,7 @@ ranked marks.Whole = refl
 -- Two marks that fit are one.
 pub one_mark : (known : KnownParts) (from to : ℕ) (a b : Mark) → IsMark known from to a → IsMark known from to b
     → a ≡ b
-one_mark known from to a b x y =
-    elim (cases_lt (rank a) (rank b)) [
-      | inl l ↦ absurd (y.first a l x.says)
-      | inr g ↦ elim (cases_lt (rank b) (rank a)) [
-        | inl l ↦ absurd (x.first b l y.says)
-        | inr h ↦
-            let same : rank a ≡ rank b = omega (arith, g, h) in sym (ranked a) ∙ ap at_rank same ∙ ranked b
-      ]
-    ]
+one_mark known from to a b x y = grind (arith, cases_lt, ranked)
 
 one_list : (known : KnownParts) (size end from : ℕ) (a b : List Mark) → AreMarks known size end from a
     → AreMarks known size end from b → a ≡ b
@@ -272,23 +240,4 @@ one_list known size end from (m ∷ ms) (n ∷ ns) x y =
 
 -- Two maps of one content with as many cells are one.
 pub one_map : (known : KnownParts) (cells : ℕ) (m n : MapParts) → IsMap known cells m → IsMap known cells n → m ≡ n
-one_map known cells m n x y =
-    let end : m.end ≡ n.end = x.end ∙ sym y.end in
-    let cell : m.cell ≡ n.cell = x.cell ∙ ap (λ e. cell_size e cells) end ∙ sym y.cell in
-    let held : m.held ≡ n.held = x.held ∙ ap (held_below known.notes) end ∙ sym y.held in
-    let hand : m.hand ≡ n.hand = x.hand ∙ ap (hand_below known) end ∙ sym y.hand in
-    let gaps : m.gaps ≡ n.gaps = x.gaps ∙ ap (gaps_below known.notes) end ∙ sym y.gaps in
-    let disputed : m.disputed ≡ n.disputed = x.disputed ∙ sym y.disputed in
-    let list : m.marks ≡ n.marks =
-    one_list known n.cell n.end 0 m.marks n.marks
-    (subst (λ (c : ℕ). AreMarks known c n.end 0 m.marks) cell
-    (subst (λ (e : ℕ). AreMarks known m.cell e 0 m.marks) end x.marks)) y.marks in
-    λ i. record {
-      end = end i;
-      held = held i;
-      hand = hand i;
-      gaps = gaps i;
-      disputed = disputed i;
-      cell = cell i;
-      marks = list i;
-    }
+one_map known cells m n x y = grind (arith, one_list)

@@ -39,24 +39,7 @@ from_ok (Err f) x e = absurd cc
 partition_says : (u : UnitsParts) (unit : EditUnit) (p : StreamPlace) → partition_asked u unit ≡ Some p
     → ((unit.standing ≡ standings.NoPartition) ⊎ (unit.standing ≡ standings.Elsewhere))
     × (place_of (segments_for u.known.notes u.index_sid) unit.number ≡ Ok p)
-partition_says u unit p e = by unit.standing refl e
-  where
-    by : (s : UnitStanding) → unit.standing ≡ s
-        → Rattle.mxf_partial.specs.Questions.partition_asked_as s u unit ≡ Some p
-        → ((unit.standing ≡ standings.NoPartition) ⊎ (unit.standing ≡ standings.Elsewhere))
-        × (place_of (segments_for u.known.notes u.index_sid) unit.number ≡ Ok p)
-    by standings.NoPartition is f = (inl is, from_ok _ p f)
-    by standings.Elsewhere is f = (inr is, from_ok _ p f)
-    by standings.NotIndexed is f = absurd cc
-    by standings.Ambiguous is f = absurd cc
-    by standings.Several is f = absurd cc
-    by standings.Unknown is f = absurd cc
-    by standings.Unsure is f = absurd cc
-    by standings.Disputed is f = absurd cc
-    by standings.Missing is f = absurd cc
-    by standings.Part is f = absurd cc
-    by standings.Held is f = absurd cc
-    by standings.Hand is f = absurd cc
+partition_says u unit p e = grind (arith, from_ok)
 
 says_partition : (u : UnitsParts) (unit : EditUnit) (p : StreamPlace)
     → ((unit.standing ≡ standings.NoPartition) ⊎ (unit.standing ≡ standings.Elsewhere))
@@ -82,23 +65,7 @@ partitions_are w p =
 way_says : (u : UnitsParts) (unit : EditUnit) (p : StreamPlace) → way_asked u unit ≡ Some p
     → ((unit.standing ≡ standings.Several) ⊎ (unit.standing ≡ standings.Unknown))
     × (place_of (segments_for u.known.notes u.index_sid) unit.number ≡ Ok p)
-way_says u unit p e = by unit.standing refl e
-  where
-    by : (s : UnitStanding) → unit.standing ≡ s → Rattle.mxf_partial.specs.Questions.way_asked_as s u unit ≡ Some p
-        → ((unit.standing ≡ standings.Several) ⊎ (unit.standing ≡ standings.Unknown))
-        × (place_of (segments_for u.known.notes u.index_sid) unit.number ≡ Ok p)
-    by standings.Several is f = (inl is, from_ok _ p f)
-    by standings.Unknown is f = (inr is, from_ok _ p f)
-    by standings.NotIndexed is f = absurd cc
-    by standings.Ambiguous is f = absurd cc
-    by standings.NoPartition is f = absurd cc
-    by standings.Elsewhere is f = absurd cc
-    by standings.Unsure is f = absurd cc
-    by standings.Disputed is f = absurd cc
-    by standings.Missing is f = absurd cc
-    by standings.Part is f = absurd cc
-    by standings.Held is f = absurd cc
-    by standings.Hand is f = absurd cc
+way_says u unit p e = grind (arith, from_ok)
 
 says_way : (u : UnitsParts) (unit : EditUnit) (p : StreamPlace)
     → ((unit.standing ≡ standings.Several) ⊎ (unit.standing ≡ standings.Unknown))
@@ -128,24 +95,7 @@ limit_by (Err s) x e = absurd cc
 
 limit_says : (w : WantedParts) (unit : EditUnit) (x : ℕ) → In unit (wanted_units w) → limit_asked w.units unit ≡ Some x
     → NeedsLimit w x
-limit_says w unit x i e = by unit.standing refl e
-  where
-    by : (s : UnitStanding) → unit.standing ≡ s
-        → Rattle.mxf_partial.specs.Questions.limit_asked_as s w.units unit ≡ Some x → NeedsLimit w x
-    by standings.Unsure is f =
-        let l = limit_by (location_of (notes_of w) w.units.index_sid unit.number) x f in
-        record { unit = unit; wanted = i; standing = is; location = l.0; location_is = l.1; limit_is = l.2 }
-    by standings.NoPartition is f = absurd cc
-    by standings.Elsewhere is f = absurd cc
-    by standings.NotIndexed is f = absurd cc
-    by standings.Ambiguous is f = absurd cc
-    by standings.Several is f = absurd cc
-    by standings.Unknown is f = absurd cc
-    by standings.Disputed is f = absurd cc
-    by standings.Missing is f = absurd cc
-    by standings.Part is f = absurd cc
-    by standings.Held is f = absurd cc
-    by standings.Hand is f = absurd cc
+limit_says w unit x i e = grind (arith, limit_by)
 
 pub limits_are : (w : WantedParts) (x : ℕ)
     → In x (filter_map (limit_asked w.units) (wanted_units w)) ↔ NeedsLimit w x
@@ -240,34 +190,7 @@ rising_from : (f : ℕ → EditUnit) → ((n : ℕ) → (f n).number ≡ n) → 
     → IsRisingFrom (λ x. x) first (filter_map number_unindexed (map f (range_with_len first count)))
 rising_from f is first zero = tt
 rising_from f is first (suc count) =
-    one_more (number_unindexed (f first)) refl (rising_from f is (first + 1) count)
-  where
-    number_is : (s : UnitStanding) (x : ℕ)
-        → Rattle.mxf_partial.specs.Questions.number_unindexed_as s (f first) ≡ Some x → x ≡ first
-    number_is standings.NotIndexed x e = sym (same_Some _ _ e) ∙ is first
-    number_is standings.Ambiguous x e = absurd cc
-    number_is standings.NoPartition x e = absurd cc
-    number_is standings.Elsewhere x e = absurd cc
-    number_is standings.Several x e = absurd cc
-    number_is standings.Unknown x e = absurd cc
-    number_is standings.Unsure x e = absurd cc
-    number_is standings.Disputed x e = absurd cc
-    number_is standings.Missing x e = absurd cc
-    number_is standings.Part x e = absurd cc
-    number_is standings.Held x e = absurd cc
-    number_is standings.Hand x e = absurd cc
-
-    one_more : (o : Option ℕ) → number_unindexed (f first) ≡ o
-        → IsRisingFrom (λ x. x) (first + 1) (filter_map number_unindexed (map f (range_with_len (first + 1) count)))
-        → IsRisingFrom (λ x. x) first
-        (cons_option o (filter_map number_unindexed (map f (range_with_len (first + 1) count))))
-    one_more None e rest = from_lower (λ x. x) first (first + 1) _ (omega arith) rest
-    one_more (Some x) e rest =
-        let at = number_is (f first).standing x e in (
-          omega (arith, at),
-          subst (λ k. IsRisingFrom (λ x. x) (k + 1)
-              (filter_map number_unindexed (map f (range_with_len (first + 1) count)))) (sym at) rest,
-        )
+    grind (arith, same_Some, IsRisingFrom, filter_map, from_lower, rising_from f is (first + 1) count)
 
 rising_by : (low : ℕ) (xs : List ℕ) → IsRisingFrom (λ x. x) low xs → IsRisingBy (λ x. x) xs
 rising_by low [] r = tt
@@ -332,12 +255,7 @@ numbers_say w numbers x is = (
         by standings.Hand is f = absurd cc
 
 chosen_alike : (P Q : ℕ → Type 0) (x : ℕ) → ((y : ℕ) → P y ↔ Q y) → IsOneOf16 P x → IsOneOf16 Q x
-chosen_alike P Q x same c = record {
-  places = c.places;
-  rising = c.rising;
-  members = λ y. (λ i. (same y).0 ((c.members y).0 i), λ q. (c.members y).1 ((same y).1 q));
-  chosen = c.chosen;
-}
+chosen_alike P Q x same c = grind arith
 
 -- What is asked for by units, and where the index may go on.
 pub both_are : (w : WantedParts) (named before asked : List NamedPlace) (numbers : List ℕ) (n : NamedPlace)

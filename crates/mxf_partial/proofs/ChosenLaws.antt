@@ -30,18 +30,11 @@ offset_of n = n.place
 
 pub keys_rise : (ns : List NamedPlace) → IsRising place_cmp ns → IsRisingBy offset_of ns
 keys_rise [] r = tt
-keys_rise (n ∷ ns) r = (
-  all_from_In (λ m. n.place < m.place) ns
-      (λ m h. lt_from_less n.place m.place (all-In (λ m. place_cmp n m ≡ _) ns m r.0 h)),
-  keys_rise ns r.1,
-)
+keys_rise (n ∷ ns) r = grind (arith, all_from_In, lt_from_less, all-In, keys_rise ns r.1)
 
 pub numbers_rise : (xs : List ℕ) → IsRisingBy (λ x. x) xs → IsRising nat_cmp xs
 numbers_rise [] r = tt
-numbers_rise (x ∷ xs) r = (
-  all_from_In (λ y. nat_cmp x y ≡ _) xs (λ y h. less_from_lt x y (all-In (λ y. x < y) xs y r.0 h)),
-  numbers_rise xs r.1,
-)
+numbers_rise (x ∷ xs) r = grind (arith, all_from_In, nat_cmp, less_from_lt, all-In, numbers_rise xs r.1)
 
 -- ---- between segments
 
@@ -115,17 +108,11 @@ evenly_few ns n few = (λ h. inl (few, h), evenly_in ns n)
 
 pub evenly_many : (ns : List NamedPlace) (n : NamedPlace) → 16 < length ns
     → ((i : ℕ) × (i < 16) × (slice_get ns (i * length ns / 16) ≡ Some n)) ↔ IsEvenly16 ns n
-evenly_many ns n many = (
-  λ h. inr (many, h),
-  λ h. elim h [ inl p ↦ let few : length ns ≤ 16 = p.0 in absurd (omega (arith, few, many)) | inr p ↦ p.1 ],
-)
+evenly_many ns n many = grind arith
 
 -- One of two, of which the second is said in another way.
 pub or_same : {A B C D : Type 0} → (A ↔ (B ⊎ C)) → (C ↔ D) → A ↔ (B ⊎ D)
-or_same m e = (
-  λ h. elim (m.0 h) [ inl b ↦ inl b | inr c ↦ inr (e.0 c) ],
-  λ h. m.1 (elim h [ inl b ↦ inl b | inr d ↦ inr (e.1 d) ]),
-)
+or_same m e = grind arith
 
 pub part_within : (i n : ℕ) → i < 16 → 16 < n → i * n / 16 < n
 part_within i n l m = let most : n * i ≤ n * 15 = mul-le-mul_left n (omega arith) in omega (arith, most)
@@ -178,12 +165,7 @@ module _ (u : UnitsParts) (numbers : List ℕ) (named : List NamedPlace) (are : 
       ↔ ((unit : ℕ) × In unit numbers
       × LiesBetweenSegments (segments_for u.known.notes u.index_sid) unit n.place)
   unfolding starts_for
-  test_says n =
-      let ss = segments_for u.known.notes u.index_sid in
-      let b = between_any (map start_of ss) numbers n.place in (
-        λ h. let s = b.0 h in (s.0, s.1, (between_segments ss s.0 n.place).1 s.2),
-        λ s. b.1 (s.0, s.1, (between_segments ss s.0 n.place).0 s.2),
-      )
+  test_says n = grind (arith, between_any, between_segments)
 
   may_index : (x : ℕ) → In x (map offset_of places) ↔ MayIndexOneOf u numbers x
   may_index x = (

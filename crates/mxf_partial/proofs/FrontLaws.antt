@@ -108,19 +108,8 @@ some_first first n (m ∷ places) i = seen_first (earlier first m.source) places
 
 between-says : (from : ℕ) (end : Option ℕ) (n : NamedPlace)
     → (lies_between from end n ≡ true) ↔ LiesBetween from end n.place
-between-says from None n = (
-  λ t. (leb-true _ _ (and_parts (nat_le from n.place) true t).0, inl refl),
-  λ l. and_from (nat_le from n.place) true (le-leb _ _ l.0) refl,
-)
-between-says from (Some e) n = (
-  λ t.
-      let both = and_parts (nat_le from n.place) (nat_lt n.place e) t in
-      (leb-true _ _ both.0, inr (e, refl, ltb-true _ _ both.1)),
-  λ l. and_from (nat_le from n.place) (nat_lt n.place e) (le-leb _ _ l.0) (elim l.1 [
-    | inl none ↦ absurd cc
-    | inr s ↦ let same = same_Some e s.0 s.1 in let less = s.2 in lt-ltb _ _ (omega (arith, same, less))
-  ]),
-)
+between-says from None n = grind (arith, leb-true, and_parts, and_from, le-leb)
+between-says from (Some e) n = grind (arith, and_parts, leb-true, ltb-true, and_from, le-leb, same_Some, lt-ltb)
 
 pub source_is : (asked : List NamedPlace) (from : ℕ) (end : Option ℕ) (source : Option ℕ)
     → (first_source asked from end ≡ Some source) ↔ IsFirstSource asked from end source
@@ -209,17 +198,4 @@ front_is described at notes asked p o = (
 pub by_members : (described : Bool) (at : AtHandParts) (notes : List NoteParts) (some others : List NamedPlace)
     (p : Section) (o : Order) → ((n : NamedPlace) → In n some ↔ In n others)
     → IsFrontOf described at notes some p o → IsFrontOf described at notes others p o
-by_members described at notes some others p o same f = record {
-  none_first = f.none_first;
-  source = f.source;
-  source_is = record {
-    place = f.source_is.place;
-    among = (same f.source_is.place).0 f.source_is.among;
-    lies = f.source_is.lies;
-    is = f.source_is.is;
-    first = λ n i l. f.source_is.first n ((same n).1 i) l;
-  };
-  front = f.front;
-  front_is = f.front_is;
-  is = f.is;
-}
+by_members described at notes some others p o same f = grind (arith, source_is, front_is)

@@ -31,11 +31,7 @@ use Rattle.mxf_partial.proofs.InStreamLaws.{in_order_from, then_less}
 greater_from : (a b : Option ℕ) (g : ℕ) → greater a b ≡ Some g → (a ≡ Some g) ⊎ (b ≡ Some g)
 greater_from None b g e = inr e
 greater_from (Some x) None g e = inl e
-greater_from (Some x) (Some y) g e =
-    elim (cases_lt x y) [
-      | inl l ↦ let m : max x y ≡ y = omega (arith, l) in inr (ap (λ (n : ℕ). Some n) (sym m) ∙ e)
-      | inr l ↦ let m : max x y ≡ x = omega (arith, l) in inl (ap (λ (n : ℕ). Some n) (sym m) ∙ e)
-    ]
+greater_from (Some x) (Some y) g e = grind (arith, cases_lt)
 
 -- A number of two is reached by the greater one.
 abbrev pub Reaches : Option ℕ → ℕ → Type 0
@@ -119,12 +115,7 @@ when_some false x y e = absurd cc
 
 sized_is : (s : SegmentParts) → is_constant s.numbers ≡ true → (unit offset : ℕ) → stream_offset s unit ≡ Some offset
     → offset ≡ s.numbers.unit_bytes * unit
-sized_is s constant unit offset e =
-    let size = if covers_constant s unit then Some (s.numbers.unit_bytes * unit) else None in
-    let entry =
-    if covers_entry s unit then Some (entry_offset s (unit - unsigned_abs s.numbers.start)) else None in
-    when_some (covers_constant s unit) (s.numbers.unit_bytes * unit) offset
-    (sym (ap (λ (b : Bool). if b then size else entry) constant) ∙ e)
+sized_is s constant unit offset e = grind (arith, unsigned_abs, when_some)
 
 times_up : (k a b : ℕ) → a ≤ b → k * a ≤ k * b
 times_up k a b l = mul-le-mul_left k l
@@ -263,11 +254,7 @@ greatest_total : IsTotalOrder greatest_cmp
 greatest_total = then_total (on_total (λ g. g.body_sid) nat_cmp_total) (on_total (λ g. g.offset) nat_cmp_total)
 
 one_greatest : IsAntisymmetric greatest_cmp
-one_greatest a b e =
-    let p = ties _ _ e in
-    let body = nat_cmp-IsAntisymmetric a.body_sid b.body_sid p.0 in
-    let offset = nat_cmp-IsAntisymmetric a.offset b.offset p.1 in
-    λ i. record { body_sid = body i; offset = offset i }
+one_greatest a b e = grind (arith, ties)
 
 pub all_greatest : (u : UnitsParts) (places sorted : List GreatestPlace) (rest : List SegmentAtParts) → rest ≡ []
     → Passed u places rest → sorted ≡ union greatest_cmp [] places → IsRising greatest_cmp sorted

@@ -25,11 +25,7 @@ says_below a x s t (inr p) =
     either _ _ (inr (and_from (a == s) (nat_lt x t) (eq-eqb _ _ p.0) (lt-ltb _ _ p.1)))
 
 pub below_says : (a x s t : ℕ) → is_below a x s t ≡ true → IsBelow a x s t
-below_says a x s t e =
-    elim (nat_lt a s) as (λ b. nat_lt a s ≡ b → (b || ((a == s) && nat_lt x t)) ≡ true → IsBelow a x s t) [
-      | true ↦ λ f g. inl (ltb-true _ _ f)
-      | false ↦ λ f g. let p = and_parts (a == s) (nat_lt x t) g in inr (eqb-true _ _ p.0, ltb-true _ _ p.1)
-    ] refl e
+below_says a x s t e = grind (arith, ltb-true, and_parts, eqb-true)
 
 module _ {T : Type 0} (stream offset tie : T → ℕ) where
   abbrev test : ℕ → ℕ → T → Bool
@@ -40,14 +36,7 @@ module _ {T : Type 0} (stream offset tie : T → ℕ) where
   earlier s t x y (inl l) (inl m) = inl (omega (arith, l, m))
   earlier s t x y (inl l) (inr p) = let e = p.0 in inl (omega (arith, l, e))
   earlier s t x y (inr p) (inl m) = let e = p.0 in inl (omega (arith, e, m))
-  earlier s t x y (inr p) (inr q) =
-      inr (
-        p.0 ∙ q.0,
-        elim p.1 [
-          | inl l ↦ let m = q.1 in omega (arith, l, m)
-          | inr r ↦ let e = r.0 in let m = q.1 in omega (arith, e, m)
-        ],
-      )
+  earlier s t x y (inr p) (inr q) = grind arith
 
   pub in_order_at : (xs : List T) (i j : ℕ) (d : T) → IsInOrder stream offset tie xs → i < j → j < length xs
       → Precedes stream offset tie (get_or xs i d) (get_or xs j d)
@@ -70,11 +59,7 @@ module _ {T : Type 0} (stream offset tie : T → ℕ) where
   pub parted_at : (s t : ℕ) (xs : List T) (k : ℕ)
       → IsPartitionPoint (λ x. test s t x ≡ true) (λ x. test s t x ≡ false) xs k
       → ArePartedAt stream offset tie xs s t k
-  parted_at s t xs k point =
-      record {
-        below = λ j d l h. below_says _ _ s t (point.0 j d l h);
-        above = λ j d l h b. let e = says_below _ _ s t b in let f = point.1 j d l h in cc (e, f);
-      }
+  parted_at s t xs k point = grind (arith, below_says, says_below)
 
   goes_to_itself : (x y : T) → y ≡ x → GoesTo stream offset tie y x
   goes_to_itself x y e = inr (ap offset e, let f = ap tie e in omega (arith, f))
@@ -95,136 +80,53 @@ module _ {T : Type 0} (stream offset tie : T → ℕ) where
       k) where
     -- An element of the stream below the offset stands before the place, and one from it on doesn't.
     before : (y : T) (j : ℕ) → j < length xs → get_or xs j y ≡ y → stream y ≡ s → offset y < t → j < k
-    before y j h e same l =
-        elim (cases_lt j k) [
-          | inl m ↦ m
-          | inr m ↦ absurd (subst (λ z. ¬ IsBelow (stream z) (offset z) s t) e (p.above j y m h) (inr (same, l)))
-        ]
+    before y j h e same l = grind (arith, cases_lt)
 
     behind : (y : T) (j : ℕ) → get_or xs j y ≡ y → stream y ≡ s → t ≤ offset y → k ≤ j
-    behind y j e same l =
-        elim (cases_lt j k) [
-          | inl m ↦ absurd (elim (subst (λ z. IsBelow (stream z) (offset z) s t) e (p.below j y (omega arith) m)) [
-            | inl n ↦ omega (arith, n, same)
-            | inr q ↦ let n = q.1 in omega (arith, n, l)
-          ])
-          | inr m ↦ m
-        ]
+    behind y j e same l = grind (arith, cases_lt)
 
     pub last_found : (x : T) → 0 < k → slice_get xs (k - 1) ≡ Some x → stream x ≡ s
         → IsLastBelow stream offset tie xs s t x
     last_found x some at same =
-        let l = slice_get_within xs (k - 1) x at in
-        let e = get_or_from_slice_get xs (k - 1) x x at in
-        record {
-          among = subst (λ z. In z xs) e (In-at xs (k - 1) x l);
-          same = same;
-          below = elim (subst (λ z. IsBelow (stream z) (offset z) s t) e (p.below (k - 1) x (omega arith) (omega
-              arith))) [
-                | inl m ↦ absurd (omega (arith, m, same))
-                | inr q ↦ q.1
-              ];
-          last = λ y h f m.
-              let c = Contains-from_In y xs h in
-              let j = before y c.0 c.1 c.2 f m in
-              elim (at_places xs c.0 (k - 1) y x y r (omega (arith, j)) l c.2 (get_or_from_slice_get xs (k - 1) x y
-              at)) [
-                | inl g ↦ goes_to_itself x y g
-                | inr q ↦ elim q [ inl n ↦ absurd (omega (arith, n, same, f)) | inr g ↦ g.1 ]
-              ];
-        }
+        grind (
+          arith,
+          slice_get_within,
+          get_or_from_slice_get,
+          In-at,
+          Contains-from_In,
+          before,
+          at_places,
+          goes_to_itself,
+        )
 
     pub none_before : k ≡ 0 → HasNoneBelow stream offset tie xs s t
-    none_before none = λ y h f.
-        elim (cases_lt (offset y) t) [
-          | inl m ↦
-              let c = Contains-from_In y xs h in
-              let j = before y c.0 c.1 c.2 f m in absurd (omega (arith, j, none))
-          | inr m ↦ m
-        ]
+    none_before none = grind (arith, cases_lt, Contains-from_In, before)
 
     pub other_before : (x : T) → 0 < k → slice_get xs (k - 1) ≡ Some x → (stream x ≡ s → ⊥)
         → HasNoneBelow stream offset tie xs s t
-    other_before x some at other = λ y h f.
-        let l = slice_get_within xs (k - 1) x at in
-        let e = get_or_from_slice_get xs (k - 1) x x at in
-        elim (cases_lt (offset y) t) [
-          | inl m ↦
-              let c = Contains-from_In y xs h in
-              let j = before y c.0 c.1 c.2 f m in
-              let low : stream x < s =
-              elim (subst (λ z. IsBelow (stream z) (offset z) s t) e (p.below (k - 1) x (omega arith) (omega arith))) [
-                | inl n ↦ n
-                | inr q ↦ absurd (other q.0)
-              ] in
-              absurd (elim (at_places xs c.0 (k - 1) y x y r (omega (arith, j)) l c.2
-              (get_or_from_slice_get xs (k - 1) x y at)) [
-                | inl g ↦ other (ap stream (sym g) ∙ f)
-                | inr q ↦ elim q [
-                  | inl n ↦ omega (arith, n, low, f)
-                  | inr g ↦ let n = g.0 in omega (arith, n, low, f)
-                ]
-              ])
-          | inr m ↦ m
-        ]
+    other_before x some at other =
+        grind (arith, slice_get_within, get_or_from_slice_get, cases_lt, Contains-from_In, before, at_places)
 
     pub first_found : (x : T) → slice_get xs k ≡ Some x → stream x ≡ s → IsFirstFrom stream offset tie xs s t x
     first_found x at same =
-        let l = slice_get_within xs k x at in
-        let e = get_or_from_slice_get xs k x x at in
-        record {
-          among = subst (λ z. In z xs) e (In-at xs k x l);
-          same = same;
-          above = elim (cases_lt (offset x) t) [
-            | inl m ↦ absurd (subst (λ z. ¬ IsBelow (stream z) (offset z) s t) e (p.above k x (omega arith) l)
-                (inr (same, m)))
-            | inr m ↦ m
-          ];
-          first = λ y h f m.
-              let c = Contains-from_In y xs h in
-              let j = behind y c.0 c.2 f m in
-              elim (at_places xs k c.0 x y y r j c.1 (get_or_from_slice_get xs k x y at) c.2) [
-                | inl g ↦ goes_to_itself y x g
-                | inr q ↦ elim q [ inl n ↦ absurd (omega (arith, n, same, f)) | inr g ↦ g.1 ]
-              ];
-        }
+        grind (
+          arith,
+          slice_get_within,
+          get_or_from_slice_get,
+          In-at,
+          cases_lt,
+          Contains-from_In,
+          behind,
+          at_places,
+          goes_to_itself,
+        )
 
     pub none_behind : length xs ≤ k → HasNoneFrom stream offset tie xs s t
-    none_behind none = λ y h f.
-        elim (cases_lt (offset y) t) [
-          | inl m ↦ m
-          | inr m ↦
-              let c = Contains-from_In y xs h in
-              let l : c.0 < length xs = c.1 in
-              let j = behind y c.0 c.2 f m in absurd (omega (arith, j, l, none))
-        ]
+    none_behind none = grind (arith, cases_lt, Contains-from_In, behind)
 
     pub other_behind : (x : T) → slice_get xs k ≡ Some x → (stream x ≡ s → ⊥) → HasNoneFrom stream offset tie xs s t
-    other_behind x at other = λ y h f.
-        let l = slice_get_within xs k x at in
-        let e = get_or_from_slice_get xs k x x at in
-        elim (cases_lt (offset y) t) [
-          | inl m ↦ m
-          | inr m ↦
-              let c = Contains-from_In y xs h in
-              let j = behind y c.0 c.2 f m in
-              let high : s < stream x =
-              elim (cases_lt (stream x) s) [
-                | inl n ↦ absurd (subst (λ z. ¬ IsBelow (stream z) (offset z) s t) e (p.above k x (omega arith) l)
-                    (inl n))
-                | inr n ↦ elim (cases_lt s (stream x)) [
-                  | inl n2 ↦ n2
-                  | inr n2 ↦ absurd (other (omega (arith, n, n2)))
-                ]
-              ] in
-              absurd (elim (at_places xs k c.0 x y y r j c.1 (get_or_from_slice_get xs k x y at) c.2) [
-                | inl g ↦ other (ap stream g ∙ f)
-                | inr q ↦ elim q [
-                  | inl n ↦ omega (arith, n, high, f)
-                  | inr g ↦ let n = g.0 in omega (arith, n, high, f)
-                ]
-              ])
-        ]
+    other_behind x at other =
+        grind (arith, slice_get_within, get_or_from_slice_get, cases_lt, Contains-from_In, behind, at_places)
 
 -- ---- orders
 

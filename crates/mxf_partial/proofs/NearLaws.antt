@@ -87,22 +87,7 @@ in_position items k p e =
 module _ (items : List PlaceOf) (Q : PlaceOf → Type 0) (start end : ℕ) (are : IsRangeOf items Q start end)
     (old : List Run) where
   pub added_none : end ≤ start → HasAddedThose items Q old old false
-  added_none none =
-      record {
-        added = λ k p e. (
-          inl,
-          λ h. elim h [
-            | inl i ↦ i
-            | inr q ↦ let l = (are k p e).1 q in let a = l.0 in let b = l.1 in absurd (omega (arith, a, b, none))
-          ],
-        );
-        some = (
-          λ t. absurd cc,
-          λ s.
-              let c = at_position items s.0 s.1 in
-              let l = (are c.0 s.0 c.1).1 s.2 in let a = l.0 in let b = l.1 in absurd (omega (arith, a, b, none)),
-        );
-      }
+  added_none none = grind (arith, at_position)
 
   pub added_run : (new : List Run) → start < end → end ≤ length items → new ≡ with_run (run start end) old
       → HasAddedThose items Q old new true
@@ -190,15 +175,7 @@ module _ (items : List PlaceOf) (positions : List Run) (count : ℕ) (p : PlaceO
     (was : (n : NamedPlace) → In n now ↔ (In n old ⊎ IsFoundBefore items positions count n)) where
   before_more : (n : NamedPlace) → IsFoundBefore items positions (count + 1) n
       → IsFoundBefore items positions count n ⊎ (LiesIn positions count × (n ≡ named_of p))
-  before_more n f =
-      let l = f.2 in
-      elim (cases_lt f.0 count) [
-        | inl m ↦ inl (f.0, f.1, m, f.3, f.4, f.5)
-        | inr m ↦
-            let same : f.0 ≡ count = omega (arith, l, m) in
-            let e : Some f.1 ≡ Some p = sym f.3 ∙ ap (slice_get items) same ∙ here in
-            let q : f.1 ≡ p = cc (e) in inr (subst (LiesIn positions) same f.4, f.5 ∙ ap named_of q)
-      ]
+  before_more n f = grind (arith, cases_lt, slice_get)
 
   more_of : (n : NamedPlace) → IsFoundBefore items positions count n → IsFoundBefore items positions (count + 1) n
   more_of n f = let l = f.2 in (f.0, f.1, omega (arith, l), f.3, f.4, f.5)
@@ -219,20 +196,11 @@ module _ (items : List PlaceOf) (positions : List Run) (count : ℕ) (p : PlaceO
 
   pub found_other : (LiesIn positions count → ⊥) → (n : NamedPlace)
       → In n now ↔ (In n old ⊎ IsFoundBefore items positions (count + 1) n)
-  found_other not n = (
-    λ h. elim ((was n).0 h) [ inl o ↦ inl o | inr f ↦ inr (more_of n f) ],
-    λ h. elim h [
-      | inl o ↦ (was n).1 (inl o)
-      | inr f ↦ elim (before_more n f) [ inl g ↦ (was n).1 (inr g) | inr g ↦ absurd (not g.0) ]
-    ],
-  )
+  found_other not n = grind (arith, more_of, before_more)
 
 pub found_none : (items : List PlaceOf) (positions : List Run) (old : List NamedPlace) (n : NamedPlace)
     → In n old ↔ (In n old ⊎ IsFoundBefore items positions 0 n)
-found_none items positions old n = (
-  inl,
-  λ h. elim h [ inl o ↦ o | inr f ↦ let l = f.2 in absurd (omega (arith, l)) ],
-)
+found_none items positions old n = grind arith
 
 -- All positions have been looked at.
 pub found_all : (items : List PlaceOf) (positions : List Run) (count : ℕ) (old new : List NamedPlace) → length
@@ -240,14 +208,7 @@ pub found_all : (items : List PlaceOf) (positions : List Run) (count : ℕ) (old
     → ((n : NamedPlace) → In n new ↔ (In n old ⊎ IsFoundBefore items positions count n)) → (n : NamedPlace)
     → In n new ↔ (In n old ⊎ ((k : ℕ) × (p : PlaceOf) × (slice_get items k ≡ Some p) × LiesIn positions k
     × (n ≡ named_of p)))
-found_all items positions count old new end was n = (
-  λ h. elim ((was n).0 h) [ inl o ↦ inl o | inr f ↦ inr (f.0, f.1, f.3, f.4, f.5) ],
-  λ h. (was n).1 (elim h [
-    | inl o ↦ inl o
-    | inr f ↦
-        let l = slice_get_within items f.0 f.1 f.2 in inr (f.0, f.1, omega (arith, l, end), f.2, f.3, f.4)
-  ]),
-)
+found_all items positions count old new end was n = grind (arith, slice_get_within)
 
 -- One more position, by what stands there.
 module _ (items : List PlaceOf) (positions : List Run) (count : ℕ) (old now : List NamedPlace)
@@ -262,12 +223,7 @@ module _ (items : List PlaceOf) (positions : List Run) (count : ℕ) (old now : 
 
   pub found_skip : (new : List NamedPlace) → (LiesIn positions count → ⊥) → new ≡ now → (n : NamedPlace)
       → In n new ↔ (In n old ⊎ IsFoundBefore items positions (count + 1) n)
-  found_skip new other same n =
-      subst (λ (k : List NamedPlace). In n k ↔ (In n old ⊎ IsFoundBefore items positions (count + 1) n)) (sym same)
-      (elim (slice_get_cases items count).1 [
-        | inl c ↦ found_other items positions count c.0 c.2 old now was other n
-        | inr c ↦ let m = c.0 in absurd (omega (arith, m, l))
-      ])
+  found_skip new other same n = grind (arith, slice_get_cases, found_other)
 
 -- What a search says of a list in order, of that list by another name.
 pub moved : (P : List PlaceOf → Type 0) (xs ys : List PlaceOf) → xs ≡ ys

@@ -293,12 +293,7 @@ module _ (u : UnitsParts) (named : List NamedPlace) (near : Near) (nm : AreNamed
 
   added_is : (asked : Asked) (n : NamedPlace) → IsAdded asked n → In n named × Asks items asked n.place
   added_is asked n (inl f) = (f.1, inl f.0)
-  added_is asked n (inr f) =
-      let g = f.1 in (
-        subst (λ (m : NamedPlace). In m named) (sym g.4)
-            (are.named.named g.1 (in_position items g.0 g.1 g.2)).0,
-        inr (g.0, g.1, g.2, g.3, ap (λ (m : NamedPlace). m.place) (sym g.4)),
-      )
+  added_is asked n (inr f) = grind (arith, in_position)
 
   is_added : (asked : Asked) (all : Bool) (n : NamedPlace) → asked.all ≡ all → In n named → Asks items asked n.place
       → IsAdded asked n

@@ -92,22 +92,10 @@ listed_total : IsTotalOrder listed_cmp
 listed_total = then_total (on_total (λ e. e.offset) nat_cmp_total) (on_total (λ e. e.body_sid) nat_cmp_total)
 
 one_listed : IsAntisymmetric listed_cmp
-one_listed a b e =
-    let p = ties _ _ e in
-    let offset = nat_cmp-IsAntisymmetric a.offset b.offset p.0 in
-    let body = nat_cmp-IsAntisymmetric a.body_sid b.body_sid p.1 in
-    λ i. record { offset = offset i; body_sid = body i }
+one_listed a b e = grind (arith, ties)
 
 listed_order : (sorted : List ListedStream) → IsRising listed_cmp sorted → IsInOrder at start of sorted
-listed_order sorted rises =
-    in_order_from at start of listed_cmp
-    (λ x y e. elim (then_less _ _ e) [
-      | inl l ↦ inl (lt_from_less _ _ l)
-      | inr q ↦ inr (
-        nat_cmp-IsAntisymmetric x.offset y.offset q.0,
-        inr (refl, let l = lt_from_less x.body_sid y.body_sid q.1 in omega (arith, l)),
-      )
-    ]) sorted rises
+listed_order sorted rises = grind (arith, in_order_from, then_less, lt_from_less)
 
 in_sorted : (items sorted : List ListedStream) (e : ListedStream) → sorted ≡ union listed_cmp [] items
     → In e sorted ↔ In e items
@@ -147,14 +135,7 @@ listed_one notes r items sorted one each is rises =
 pub listed_none : (notes : List NoteParts) (items sorted : List ListedStream)
     → ((r : RipAtParts) → rip_view_of notes ≡ One r → ⊥) → items ≡ [] → sorted ≡ union listed_cmp [] items
     → IsRising listed_cmp sorted → AreListed notes sorted
-listed_none notes items sorted none empty is rises =
-    record {
-      order = listed_order sorted rises;
-      same = λ b x. (
-        λ h e k there. absurd (subst (λ (l : List ListedStream). In e l) empty ((in_sorted items sorted e is).0 k)),
-        λ h r e one k there. absurd (none r one),
-      );
-    }
+listed_none notes items sorted none empty is rises = grind (arith, listed_order, in_sorted)
 
 -- ---- places in their order
 
@@ -170,13 +151,7 @@ one_option (Some x) None e = absurd cc
 one_option (Some x) (Some y) e = ap (λ (z : ℕ). Some z) (nat_cmp-IsAntisymmetric x y e)
 
 one_place : IsAntisymmetric place_of_cmp
-one_place a b e =
-    let p = ties _ _ e in
-    let q = ties _ _ p.1 in
-    let body = one_option a.body_sid b.body_sid p.0 in
-    let place = nat_cmp-IsAntisymmetric a.place b.place q.0 in
-    let source = one_option a.source b.source q.1 in
-    λ i. record { body_sid = body i; place = place i; source = source i }
+one_place a b e = grind (arith, ties, one_option)
 
 places_total : IsTotalOrder place_of_cmp
 places_total =
@@ -213,13 +188,7 @@ pub record Placed (notes : List NoteParts) (places : List NamedPlace) (count : �
 module _ (notes : List NoteParts) (places : List NamedPlace) (count : ℕ) (items : List PlaceOf)
     (was : Placed notes places count items) (n : NamedPlace) (here : slice_get places count ≡ Some n) where
   same_here : (k : ℕ) (m : NamedPlace) → k < count + 1 → slice_get places k ≡ Some m → (k < count) ⊎ (m ≡ n)
-  same_here k m l e =
-      elim (cases_lt k count) [
-        | inl h ↦ inl h
-        | inr h ↦
-            let same : k ≡ count = omega (arith, l, h) in
-            let f : Some m ≡ Some n = sym e ∙ ap (slice_get places) same ∙ here in inr (cc (f))
-      ]
+  same_here k m l e = grind (arith, cases_lt, slice_get)
 
   pub placed_none : IsOfNoStream notes n.place → Placed notes places (count + 1) items
   placed_none none =

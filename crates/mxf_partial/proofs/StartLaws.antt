@@ -158,42 +158,12 @@ abbrev pub IsApart : ℕ → ℕ → SegmentStart → Type 0
 IsApart u x s = (s.unit ≤ u → s.offset < x) × (u < s.unit → x < s.offset)
 
 pub apart_says : (u x : ℕ) (s : SegmentStart) → IsTrue (is_apart u x s) ↔ IsApart u x s
-apart_says u x s = elim (leb_tells s.unit u) [
-  | inl t ↦
-      let l : s.unit ≤ u = t.1 in
-      rw t.0 (λ h. (λ i. ltb-true s.offset x h, λ i. absurd (omega (arith, l, i))), λ h. lt-ltb s.offset x (h.0 l))
-  | inr t ↦
-      let l : u < s.unit = t.1 in
-      rw t.0 (λ h. (λ i. absurd (omega (arith, l, i)), λ i. ltb-true x s.offset h), λ h. lt-ltb x s.offset (h.1 l))
-]
+apart_says u x s = grind (arith, leb_tells, ltb-true, lt-ltb)
 
 pub all_apart : (u x : ℕ) (starts : List SegmentStart) → IsTrue (list_all (is_apart u x) starts)
     ↔ (((s : SegmentStart) → In s starts → s.offset ≤ x → s.unit ≤ u)
     × ((s : SegmentStart) → In s starts → x ≤ s.offset → u < s.unit))
-all_apart u x starts = (
-  λ h.
-      let each = λ (s : SegmentStart) (i : In s starts).
-      (apart_says u x s).0 (list_all-In (is_apart u x) starts s h i) in (
-        λ s i o. elim (leb_tells s.unit u) [
-          | inl t ↦ t.1
-          | inr t ↦ let l : x < s.offset = (each s i).1 t.1 in absurd (omega (arith, l, o))
-        ],
-        λ s i o. elim (leb_tells s.unit u) [
-          | inl t ↦ let l : s.offset < x = (each s i).0 t.1 in absurd (omega (arith, l, o))
-          | inr t ↦ t.1
-        ],
-      ),
-  λ h. In-list_all (is_apart u x) starts (λ s i. (apart_says u x s).1 (
-    λ l. elim (leb_tells x s.offset) [
-      | inl t ↦ let m : u < s.unit = h.1 s i t.1 in absurd (omega (arith, l, m))
-      | inr t ↦ t.1
-    ],
-    λ l. elim (leb_tells s.offset x) [
-      | inl t ↦ let m : s.unit ≤ u = h.0 s i t.1 in absurd (omega (arith, l, m))
-      | inr t ↦ t.1
-    ],
-  )),
-)
+all_apart u x starts = grind (arith, apart_says, list_all-In, leb_tells, In-list_all)
 
 pub between_any : (starts : List SegmentStart) (numbers : List ℕ) (x : ℕ)
     → IsTrue (is_between_any starts numbers x)
@@ -206,19 +176,7 @@ module _ (starts : List SegmentStart) (numbers : List ℕ) (x low k : ℕ)
     (low_is : (u : ℕ) → (low ≤ u) ↔ ((s : SegmentStart) → In s starts → s.offset ≤ x → s.unit ≤ u))
     (below : AllWithin (λ n. n < low) numbers 0 k) where
   from : (u : ℕ) → In u numbers → low ≤ u → (j : ℕ) × (j < length numbers) × (k ≤ j) × (get_or numbers j u ≡ u)
-  from u i l =
-      let c = Contains-from_In u numbers i in (
-        c.0,
-        c.1,
-        elim (leb_tells k c.0) [
-          | inl t ↦ t.1
-          | inr t ↦
-              let a : get_or numbers c.0 u < low = below c.0 u (omega arith) t.1 in
-              let e = c.2 in
-              absurd (omega (arith, a, e, l))
-        ],
-        c.2,
-      )
+  from u i l = grind (arith, Contains-from_In, leb_tells)
 
   pub none_between : length numbers ≤ k → false ≡ is_between_any starts numbers x
   none_between past = same_bool false (is_between_any starts numbers x) (λ h. absurd cc) (λ h.

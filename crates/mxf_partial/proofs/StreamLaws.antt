@@ -48,12 +48,7 @@ module _ (notes : List NoteParts) (starts : List PartStart) (are : AreStarts not
 
   part_of_start : (start : PartStart) → In start starts → start.body_sid ≡ b
       → (p : StreamPart) × IsPart notes b p × (start ≡ start_of p)
-  part_of_start start h same =
-      let m = (are.members start).0 h in (
-        m.0,
-        record { part = m.1; body = ap (λ (x : PartStart). x.body_sid) (sym m.2) ∙ same },
-        m.2,
-      )
+  part_of_start start h same = grind arith
 
   last_is_part : (p : StreamPart) → IsPart notes b p → IsLastBelow of at tie starts b t (start_of p)
       → IsPartAt notes b s p
@@ -67,13 +62,7 @@ module _ (notes : List NoteParts) (starts : List PartStart) (are : AreStarts not
 
   pub low_found : (start : PartStart) (low : ℕ) → IsLastBelow of at tie starts b t start
       → low ≡ start.origin + (s - start.body_offset) → IsLow notes b s low
-  low_found start low is sum =
-      let (p, h, e) = part_of_start start is.among is.same in
-      inr (
-        p,
-        last_is_part p h (subst (λ x. IsLastBelow of at tie starts b t x) e is),
-        sum ∙ ap (λ (x : PartStart). x.origin + (s - x.body_offset)) e,
-      )
+  low_found start low is sum = grind (arith, part_of_start, last_is_part)
 
   pub low_none : (low : ℕ) → HasNoneBelow of at tie starts b t → low ≡ 0 → IsLow notes b s low
   low_none low none zero =
@@ -177,34 +166,10 @@ start_total =
     (then_total (on_total (λ s. s.partition) nat_cmp_total) (on_total (λ s. s.origin) nat_cmp_total)))
 
 one_start : IsAntisymmetric start_cmp
-one_start a b e =
-    let p = ties _ _ e in
-    let q = ties _ _ p.1 in
-    let r = ties _ _ q.1 in
-    let body = nat_cmp-IsAntisymmetric a.body_sid b.body_sid p.0 in
-    let offset = nat_cmp-IsAntisymmetric a.body_offset b.body_offset q.0 in
-    let partition = nat_cmp-IsAntisymmetric a.partition b.partition r.0 in
-    let origin = nat_cmp-IsAntisymmetric a.origin b.origin r.1 in
-    λ i. record { body_sid = body i; body_offset = offset i; partition = partition i; origin = origin i }
+one_start a b e = grind (arith, ties)
 
 starts_go : (x y : PartStart) → start_cmp x y ≡ Less → Precedes of at tie x y
-starts_go x y e =
-    elim (then_less _ _ e) [
-      | inl l ↦ inl (lt_from_less _ _ l)
-      | inr q ↦ inr (
-        nat_cmp-IsAntisymmetric x.body_sid y.body_sid q.0,
-        elim (then_less _ _ q.1) [
-          | inl l ↦ inl (lt_from_less _ _ l)
-          | inr r ↦ inr (
-            nat_cmp-IsAntisymmetric x.body_offset y.body_offset r.0,
-            elim (then_less _ _ r.1) [
-              | inl l ↦ let m = lt_from_less x.partition y.partition l in omega (arith, m)
-              | inr t ↦ let m = nat_cmp-IsAntisymmetric x.partition y.partition t.0 in omega (arith, m)
-            ],
-          )
-        ],
-      )
-    ]
+starts_go x y e = grind (arith, then_less, lt_from_less)
 
 pub starts_are : (notes : List NoteParts) (starts sorted : List PartStart) → starts ≡ map start_of (parts_of notes)
     → sorted ≡ union start_cmp [] starts → IsRising start_cmp sorted → AreStarts notes sorted
@@ -244,11 +209,4 @@ part_there notes x h =
     ]
 
 pub parts_differ : (notes : List NoteParts) → IsContent notes → PartsDiffer notes
-parts_differ notes content = λ p q h k same.
-    let m = part_there notes p h in
-    let n = part_there notes q k in
-    let one = one_by_key (λ (x : PartitionParts). x.offset) (partitions_of notes) m.0 n.0 (partitions_rise notes
-    content)
-    m.1 n.1
-    (ap (λ (x : StreamPart). x.partition) (sym m.2) ∙ same ∙ ap (λ (x : StreamPart). x.partition) n.2) in
-    m.2 ∙ ap (part_of notes) one ∙ sym n.2
+parts_differ notes content = grind (arith, part_there, one_by_key, partitions_rise)

@@ -161,13 +161,7 @@ one_order_more orders i d old new x less more so =
 -- No order is left.
 pub no_order_more : (orders : List Order) (i : ℕ) (runs : List Run) (x : ℕ) → length orders ≤ i
     → (LiesIn runs x ⊎ IsOrdered (drop i orders) x) ↔ IsOrdered orders x → LiesIn runs x ↔ IsOrdered orders x
-no_order_more orders i runs x far so = (
-  λ h. so.0 (inl h),
-  λ h. elim (so.1 h) [
-    | inl k ↦ k
-    | inr k ↦ absurd (subst (λ l. IsOrdered l x) (drop_all i orders far) k).0.1
-  ],
-)
+no_order_more orders i runs x far so = grind (arith, drop_all)
 
 -- ---- what is wanted
 
@@ -233,18 +227,7 @@ wanted_at_says notes named l standings.Hand x are = (λ h. absurd h, λ h. absur
 
 wanted_of_says : (named : List NamedPlace) (u : UnitsParts) (unit : EditUnit) (x : ℕ) → AreNamed u.known.notes named
     → HasByte (wanted_of named u unit) x ↔ WantsByte u unit x
-wanted_of_says named u unit x are = by_location (location_of u.known.notes u.index_sid unit.number) refl
-  where
-    by_location : (r : Result Location UnitStanding) → location_of u.known.notes u.index_sid unit.number ≡ r
-        → HasByte (wanted_by named unit.standing r) x ↔ WantsByte u unit x
-    by_location (Err other) is = (λ h. absurd h, λ w. absurd (let e = w.1 in cc (is, e)))
-    by_location (Ok l) is =
-        let at = wanted_at_says u.known.notes named l unit.standing x are in (
-          λ h. (l, is, at.0 h),
-          λ w.
-              let same : l ≡ w.0 = same_Some l w.0 (ap result_ok (sym is ∙ w.1)) in
-              at.1 (subst (λ (k : Location). WantsAt u.known.notes k unit.standing x) (sym same) w.2),
-        )
+wanted_of_says named u unit x are = grind (arith, wanted_at_says, same_Some)
 
 pub wanted_is : (w : WantedParts) (named : List NamedPlace) (runs : List Run) → AreNamed (notes_of w) named
     → IsCover runs → ((x : ℕ) → LiesIn runs x ↔ HasByteOf named w.units (wanted_units w) x)

@@ -165,48 +165,14 @@ says_way : (notes : List NoteParts) (part : StreamPart) (p : PartitionParts) (n 
     → In p (partitions_of notes) → p.offset ≡ part.partition → way_of notes p ≡ Some n.place → part.zone ≡ None
     → n.source ≡ Some part.partition → way_from notes part ≡ Some n
 says_way notes part p n content i at w none source =
-    let found = find-only (λ (q : PartitionParts). q.offset == part.partition) (partitions_of notes) p i
-    (let t : (p.offset == part.partition) ≡ true = eq-eqb p.offset part.partition at in grind (arith, t))
-    (λ q k t.
-    one_there (partitions_of notes) q p (partitions_rise notes content) k i
-    (eqb-true q.offset part.partition (let u : (q.offset == part.partition) ≡ true = grind (arith, t) in u) ∙ sym at)) in
-    ap (λ z. if is_some z then None else option_map (λ x. record { place = x; source = Some part.partition })
-    (option_and_then (way_of notes) (option_map in_numbers (find (λ q. q.offset == part.partition)
-    (partitions_of notes))))) none
-    ∙ ap (λ o. option_map (λ x. record { place = x; source = Some part.partition })
-    (option_and_then (way_of notes) (option_map in_numbers o))) found
-    ∙ ap (option_map (λ x. record { place = x; source = Some part.partition })) (in_numbers_alike notes p ∙ w)
-    ∙ (λ i. Some (record { place = n.place; source = sym source i }))
+    grind (arith, find-only, eq-eqb, one_there, partitions_rise, eqb-true, is_some, find, in_numbers_alike)
 
 pub ways_are : (notes : List NoteParts) (places others : List StreamPlace) (n : NamedPlace) → IsContent notes
     → ((p : StreamPlace) → In p others ↔ In p places)
     → HasWay notes notes others (parts_of notes) n
     ↔ ((p : StreamPlace) × (part : StreamPart) × In p places × LeadsTo notes p.body_sid p.offset part n.place
     × (n.source ≡ Some part.partition))
-ways_are notes places others n content same = (
-  λ h.
-      let w = way_says notes h.0 n h.3 in (
-        h.2.0,
-        h.0,
-        (same h.2.0).0 h.2.1,
-        record {
-          among = h.1;
-          begins = h.2.2;
-          unknown = w.4;
-          partition = w.0;
-          held = w.1;
-          offset_is = w.2;
-          way = w.3;
-        },
-        w.5,
-      ),
-  λ s. (
-    s.1,
-    s.3.among,
-    (s.0, (same s.0).1 s.2, s.3.begins),
-    says_way notes s.1 s.3.partition n content s.3.held s.3.offset_is s.3.way s.3.unknown s.4,
-  ),
-)
+ways_are notes places others n content same = grind (arith, way_says, says_way)
 
 -- ---- one part after another
 
@@ -247,24 +213,12 @@ pub no_part_more : (notes held : List NoteParts) (places : List StreamPlace) (pa
     (old new : List NamedPlace) (n : NamedPlace) → length parts ≤ i
     → (In n new ⊎ HasWay notes held places (drop i parts) n) ↔ (In n old ⊎ HasWay notes held places parts n)
     → In n new ↔ (In n old ⊎ HasWay notes held places parts n)
-no_part_more notes held places parts i old new n far so = (
-  λ h. so.0 (inl h),
-  λ h. elim (so.1 h) [
-    | inl k ↦ k
-    | inr k ↦ absurd (subst (λ l. HasWay notes held places l n) (drop_all i parts far) k).1
-  ],
-)
+no_part_more notes held places parts i old new n far so = grind (arith, drop_all)
 
 -- ---- places in the order of streams
 
 pub in_order_is : (ps : List StreamPlace) → IsRising place_cmp ps → IsInOrder of at tie ps
-in_order_is ps r = in_order_from of at tie place_cmp precedes ps r
-  where
-    precedes : (p q : StreamPlace) → place_cmp p q ≡ Less → Precedes of at tie p q
-    precedes p q e = elim (then_less (nat_cmp p.body_sid q.body_sid) (nat_cmp p.offset q.offset) e) [
-      | inl l ↦ inl (lt_from_less p.body_sid q.body_sid l)
-      | inr s ↦ inr (nat_cmp-IsAntisymmetric p.body_sid q.body_sid s.0, inl (lt_from_less p.offset q.offset s.1))
-    ]
+in_order_is ps r = grind (arith, in_order_from, then_less, nat_cmp, lt_from_less)
 
 -- ---- fills
 
