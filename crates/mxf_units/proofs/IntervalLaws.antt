@@ -5,7 +5,7 @@ use Rattle.std.specs.List.{AllByRecursion, AllWithin, cons_option}
 use Rattle.std.specs.List.Sorted.{IsNonDecreasing, IsNonDecreasingBy}
 use Rattle.std.specs.Ordering.{nat_cmp, ord_max}
 use Rattle.std.proofs.lemmas.Bool.Decides.{nat_tests}
-use Rattle.std.proofs.lemmas.List.{at_drop_more, length-take, take-append-drop, take-take}
+use Rattle.std.proofs.lemmas.List.{length-take, take-append-drop, take-take}
 use Rattle.std.proofs.lemmas.List.Elements.{filter_map-append}
 use Rattle.mxf_units.specs.Intervals.{AreByFirst, IsAround, greatest_ends}
 
@@ -44,17 +44,6 @@ pub greater : (a b : ℕ) → ord_max nat_cmp a b ≡ max a b
 greater a b = grind (arith, nat_tests)
 
 module _ {K : Type 0} (end : K → ℕ) where
-  -- The greatest end up to one element more was pushed.
-  pub ends-step : (xs : List K) (i : ℕ) (d : K) (top more : ℕ) (so_far new whole : List ℕ) → i < length xs
-      → more ≡ max top (end (get_or xs i d)) → new ≡ so_far ++ more ∷ []
-      → so_far ++ greatest_ends end top (drop i xs) ≡ whole → new ++ greatest_ends end more (drop (i + 1) xs) ≡ whole
-  ends-step xs i d top more so_far new whole here greatest pushed before =
-      let rest = drop (i + 1) xs in
-      ap (λ (l : List ℕ). l ++ greatest_ends end more rest) pushed
-      ∙ append_assoc so_far (more ∷ []) (greatest_ends end more rest)
-      ∙ ap (λ (m : ℕ). so_far ++ m ∷ greatest_ends end m rest) greatest
-      ∙ ap (λ (l : List ℕ). so_far ++ l) (sym (at_drop_more (greatest_ends end top) xs i d here)) ∙ before
-
   pub length-ends : (top : ℕ) (xs : List K) → length (greatest_ends end top xs) ≡ length xs
   length-ends top [] = refl
   length-ends top (x ∷ xs) = ap (λ n. suc n) (length-ends (max top (end x)) xs)

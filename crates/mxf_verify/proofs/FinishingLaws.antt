@@ -1,24 +1,26 @@
 -- What all sources together say, by what was seen of each.
-use Rattle.std.proofs.Common.{◌≡◌, ◌↔◌, ◌⊎◌, ◌+◌, ◌<◌, ◌≤◌, ◌∙◌, ℕ, List, [], ◌∷◌, ◌++◌, length, map, refl, sym, ap, subst, append_assoc}
-use Rattle.std.proofs.Common.{inl, inr, arith, get_or, take}
-use Rattle.std.proofs.lemmas.List.{map-append, take_more}
+use Rattle.std.proofs.Common.{◌≡◌, ◌↔◌, ◌⊎◌, ◌+◌, ◌<◌, ◌≤◌, ◌∙◌, ℕ, List, [], ◌∷◌, ◌++◌, length, map, refl, sym, ap, subst}
+use Rattle.std.proofs.Common.{◌&&◌, ◌||◌, not, Bool, IsTrue, filter, inl, inr, arith, get_or, map-id, nat_le, take}
+use Rattle.std.proofs.lemmas.Bool.{and_from, and_parts, le-leb, leb-true, or_cases, or_left, or_right}
+use Rattle.std.proofs.lemmas.List.{take_more}
 use Rattle.std.proofs.lemmas.Simd.{map-map}
-use Rattle.std.specs.List.{flat_map}
-use Rattle.mxf_klv.specs.Note.{IsCovered, covered_end, note_cmp}
+use Rattle.std.specs.List.{flat_map, list_any}
+use Rattle.mxf_klv.specs.Note.{IsCovered, covered_end}
 use Rattle.mxf_klv.specs.Parts.{NoteParts}
-use Rattle.mxf_klv.specs.Rising.{In, IsRising, SameMembers}
+use Rattle.mxf_klv.specs.Rising.{In, SameMembers}
 use denote.Bor.{Bor}
-use Rattle.std.specs.declared.cmp.Ordering.{Ordering}
-use Rattle.std.specs.declared.cmp.Ordering.TheVariants.{Less}
-use Rattle.mxf_klv.proofs.Lists.{all_append, In-append, In-end, In-flat_map}
+use Rattle.mxf_klv.proofs.Lists.{In-append, In-flat_map, list_any-In}
+use Rattle.mxf_klv.proofs.Tests.{not_true, not-true-false, same_bool}
 use Rattle.mxf_catalogue.specs.Content.{IsContent, union_of}
 use Rattle.mxf_catalogue.specs.Runs.{AreMaximal, IsWithin, LiesIn, SameOffsets, run}
 use Rattle.mxf_catalogue.specs.declared.run.Run.{Run}
 use Rattle.mxf_catalogue.proofs.ContentLaws.{In-union_of, IsContent-union_of}
-use Rattle.mxf_catalogue.proofs.Fronts.{below_last, rising_front}
+use Rattle.mxf_readings.specs.Readings.{is_held}
+use Rattle.mxf_readings.proofs.SourceLaws.{held_says}
 use Rattle.mxf_verify.specs.Verifying.{IsAmong, IsByteOf, IsCut, IsDiffering, IsDifferingByte, IsHeldBy, IsUnknownByte}
 use Rattle.mxf_verify.specs.Verifying.{IsUnverifiedByte, IsVerified, IsVerifiedByte, Source, TouchesIn}
 use Rattle.mxf_verify.specs.Verifying.{Bytes, Saved}
+use Rattle.mxf_verify.specs.ToldBytes.{is_met}
 use Rattle.mxf_verify.specs.Telling.{AreThose, notes_at}
 use Rattle.mxf_verify.specs.Verifications.{AreDiffering, AreRunsOf, IsCountOf, IsVerification, DifferingParts, VerificationParts, differing_in, parts_of}
 use Rattle.mxf_verify.specs.Seen.{IsHeaded, IsSeen, range_in}
@@ -28,10 +30,11 @@ use Rattle.mxf_verify.specs.Finishing.{AreBytes, IsLeftOut, IsMet, IsToldBy, IsW
 use Rattle.mxf_verify.specs.declared.finishing.ToldBytes.{ToldBytes}
 use Rattle.mxf_verify.specs.declared.finishing.Uncompared.{Uncompared}
 use Rattle.mxf_verify.specs.declared.seen.Seen.{Seen}
-use Rattle.mxf_verify.specs.declared.verification.CutNote.{CutNote}
 use Rattle.mxf_verify.specs.declared.verification.Differing.{Differing}
 use Rattle.mxf_verify.proofs.RangeLaws.{some_both, some_end}
+use Rattle.mxf_verify.proofs.OtherLaws.{those_passing}
 use Rattle.mxf_verify.proofs.SeenLaws.{damaged_says}
+use Rattle.mxf_verify.proofs.ToldLaws.{met_says}
 
 -- The offset is a byte of a source of bytes.
 abbrev IsRead : List Source → ℕ → Type 0
@@ -294,74 +297,55 @@ bytes_are reference verified damaged sources same altered left spans came unknow
 
 -- ---- the notes that weren't compared
 
-rises_end : {K : Type 0} (R : K → K → Ordering) (xs : List K) (n : K) → IsRising R xs → ((x : K) → In x xs → R x n ≡ Less)
-    → IsRising R (xs ++ n ∷ [])
-rises_end R [] n r before = (tt, tt)
-rises_end R (x ∷ xs) n r before = (
-  all_append (λ z. R x z ≡ Less) xs (n ∷ []) r.0 (before x (inl refl), tt),
-  rises_end R xs n r.1 (λ y i. before y (inr i)),
-)
+-- one of the ranges has all bytes of the note
+abbrev is_within_one : List Run → NoteParts → Bool
+is_within_one ranges n = list_any (λ r. nat_le r.start n.offset && nat_le (covered_end n) r.end) ranges
 
--- of the notes that were passed those of which this is so
-abbrev pub HasPassed : List NoteParts → (NoteParts → Type 0) → List CutNote → List NoteParts → Type 0
-HasPassed reference P cut left =
-    (taken : List NoteParts) × (taken ++ left ≡ reference) × AreThose taken P (map (λ (c : CutNote). c.note.now) cut)
-
-taken_more : (reference taken left rest : List NoteParts) (n : NoteParts) → taken ++ left ≡ reference → left ≡ n ∷ rest
-    → (taken ++ n ∷ []) ++ rest ≡ reference
-taken_more reference taken left rest n e steps =
-    append_assoc taken (n ∷ []) rest ∙ ap (λ l. taken ++ l) (sym steps) ∙ e
-
--- one more of which it is so
-pub cut_put : (reference : List NoteParts) (P : NoteParts → Type 0) (old new : List CutNote) (r : Bor NoteParts)
-    (left rest : List NoteParts) → IsContent reference → HasPassed reference P old left → left ≡ r.now ∷ rest
-    → new ≡ old ++ record { note = r } ∷ [] → P r.now → HasPassed reference P new rest
-cut_put reference P old new r left rest rising (taken, e, those) steps put p =
-    let n = r.now in
-    let more = taken_more reference taken left rest n e steps in
-    let risen : IsContent (taken ++ n ∷ []) = rising_front note_cmp (taken ++ n ∷ []) rest (subst IsContent (sym more) rising) in
-    let names : map (λ (c : CutNote). c.note.now) new ≡ map (λ (c : CutNote). c.note.now) old ++ n ∷ [] =
-    ap (map (λ (c : CutNote). c.note.now)) put ∙ map-append (λ (c : CutNote). c.note.now) old (record { note = r } ∷ []) in
-    let were = map (λ (c : CutNote). c.note.now) old in (
-      taken ++ n ∷ [],
-      more,
-      record {
-        rising = subst IsContent (sym names) (rises_end note_cmp were n those.rising
-            (λ x i. below_last note_cmp taken n x risen ((those.members x).0 i).0));
-        members = λ m.
-            let own = In-end m n were (map (λ (c : CutNote). c.note.now) new) names in
-            let all = In-append m taken (n ∷ []) in (
-              λ h. elim (own.0 h) [
-                | inl k ↦ let t = (those.members m).0 k in (all.1 (inl t.0), t.1)
-                | inr same ↦ (all.1 (inr (inl same)), subst P (sym same) p)
-              ],
-              λ (i, q). own.1 (elim (all.0 i) [
-                | inl k ↦ inl ((those.members m).1 (k, q))
-                | inr k ↦ elim k [ inl same ↦ inr same | inr z ↦ absurd z ]
-              ]),
-            );
-      },
+within_says : (ranges : List Run) (n : NoteParts) → IsTrue (is_within_one ranges n) ↔ IsWithinOne ranges n
+within_says ranges n =
+    let any = list_any-In (λ (r : Run). nat_le r.start n.offset && nat_le (covered_end n) r.end) ranges in (
+      λ t. let s = any.0 t in let p = and_parts _ _ s.2 in (s.0, s.1, leb-true _ _ p.0, leb-true _ _ p.1),
+      λ (r, i, f, t). any.1 (r, i, and_from _ _ (le-leb _ _ f) (le-leb _ _ t)),
     )
 
--- one of which it isn't
-pub cut_passed : (reference : List NoteParts) (P : NoteParts → Type 0) (cut : List CutNote) (n : NoteParts)
-    (left rest : List NoteParts) → IsContent reference → HasPassed reference P cut left → left ≡ n ∷ rest → ¬ P n
-    → HasPassed reference P cut rest
-cut_passed reference P cut n left rest rising (taken, e, those) steps lacks = (
-  taken ++ n ∷ [],
-  taken_more reference taken left rest n e steps,
-  record {
-    rising = those.rising;
-    members = λ m.
-        let all = In-append m taken (n ∷ []) in (
-          λ h. let t = (those.members m).0 h in (all.1 (inl t.0), t.1),
-          λ (i, q). elim (all.0 i) [
-            | inl k ↦ (those.members m).1 (k, q)
-            | inr k ↦ elim k [ inl same ↦ absurd (lacks (subst P same q)) | inr z ↦ absurd z ]
-          ],
-        );
-  },
-)
+-- the note wasn't compared
+abbrev pub is_left_out : Uncompared → NoteParts → Bool
+is_left_out u n =
+    not (is_held n u.verified || is_held n u.damaged || is_within_one u.reach n) && (is_met u.read n || is_held n u.headed)
+
+left_out-by_test : (u : Uncompared) (n : NoteParts) → IsTrue (is_left_out u n) ↔ IsLeftOut u n
+left_out-by_test u n =
+    let verified = held_says n u.verified in
+    let damaged = held_says n u.damaged in
+    let headed = held_says n u.headed in
+    let within = within_says u.reach n in
+    let met = met_says u.read n in
+    let compared = is_held n u.verified || is_held n u.damaged in (
+      λ t.
+          let p = and_parts _ _ t in
+          let none = not-true-false (compared || is_within_one u.reach n) p.0 in record {
+            unverified = λ k. none (or_left compared _ (or_left _ _ (verified.1 k)));
+            undiffering = λ k. none (or_left compared _ (or_right _ _ (damaged.1 k)));
+            apart = λ k. none (or_right compared _ (within.1 k));
+            touched = elim (or_cases _ _ p.1) [ inl k ↦ inl (met.0 k) | inr k ↦ inr (headed.0 k) ];
+          },
+      λ h. and_from _ (is_met u.read n || is_held n u.headed) (not_true _ (λ t. elim (or_cases compared _ t) [
+        | inl k ↦ elim (or_cases _ _ k) [ inl v ↦ h.unverified (verified.0 v) | inr d ↦ h.undiffering (damaged.0 d) ]
+        | inr w ↦ h.apart (within.0 w)
+      ])) (elim h.touched [ inl k ↦ or_left _ _ (met.1 k) | inr k ↦ or_right _ _ (headed.1 k) ]),
+    )
+
+-- the same of what is answered
+pub left_out_by : (b : Bool) (u : Uncompared) (n : NoteParts) → IsTrue b ↔ IsLeftOut u n → b ≡ is_left_out u n
+left_out_by b u n d =
+    let says = left_out-by_test u n in same_bool b (is_left_out u n) (λ t. says.1 (d.0 t)) (λ t. d.1 (says.0 t))
+
+-- those that pass the test
+pub those_left_out : (reference : List NoteParts) (u : Uncompared) (xs : List NoteParts) → IsContent reference
+    → xs ≡ map (λ n. n) (filter (is_left_out u) reference) → AreThose reference (IsLeftOut u) xs
+those_left_out reference u xs rising e =
+    subst (AreThose reference (IsLeftOut u)) (sym (e ∙ map-id _))
+    (those_passing reference (IsLeftOut u) (is_left_out u) rising (λ n _. left_out-by_test u n))
 
 -- ---- all of it
 

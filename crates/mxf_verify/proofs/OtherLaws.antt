@@ -206,7 +206,7 @@ touched_differs reference saved n is held =
     )
 
 -- those of the reference that pass a test are those of which that holds which it tells
-those_passing : (reference : List NoteParts) (P : NoteParts → Type 0) (p : NoteParts → Bool) → IsContent reference
+pub those_passing : (reference : List NoteParts) (P : NoteParts → Type 0) (p : NoteParts → Bool) → IsContent reference
     → ((n : NoteParts) → In n reference → IsTrue (p n) ↔ P n) → AreThose reference P (filter p reference)
 those_passing reference P p r says = grind (arith, rising-filter, In-filter)
 

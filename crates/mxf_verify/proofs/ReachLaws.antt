@@ -1,7 +1,7 @@
 -- Elements that reach up to a bound, found by the greatest number up to each.
-use Rattle.std.proofs.Common.{◌↔◌, ◌⊎◌, ◌<◌, ◌≤◌, ◌+◌, ℕ, zero, suc, List, [], ◌∷◌, subst, inl, inr, arith, get_or}
-use Rattle.std.proofs.Common.{length, max}
-use Rattle.std.specs.List.{AllWithin}
+use Rattle.std.proofs.Common.{◌≡◌, ◌↔◌, ◌⊎◌, ◌<◌, ◌≤◌, ◌+◌, ℕ, zero, suc, List, [], ◌∷◌, subst, inl, inr, arith, get_or}
+use Rattle.std.proofs.Common.{ap, length, max, refl}
+use Rattle.std.specs.List.{AllWithin, scan}
 use Rattle.std.proofs.lemmas.Bool.{cases_lt}
 use Rattle.mxf_klv.proofs.Lists.{Contains-from_In, In-at}
 use Rattle.mxf_catalogue.specs.Runs.{run}
@@ -13,6 +13,12 @@ use Rattle.mxf_verify.specs.Reaching.{HasOne}
 -- ---- the greatest number so far
 
 module _ {K : Type 0} (key : K → ℕ) where
+  -- They are what `scan` gives.
+  pub scanned : (top : ℕ) (xs : List K)
+      → scan (λ a x. max a (key x)) (λ a x. max a (key x)) top xs ≡ greatest_ends key top xs
+  scanned top [] = refl
+  scanned top (x ∷ xs) = ap (λ l. max top (key x) ∷ l) (scanned (max top (key x)) xs)
+
   -- Where the greatest number up to a place reaches a bound, one before it did, or one of the elements up to there does.
   reached : (top : ℕ) (xs : List K) (k d bound : ℕ) → k < length xs → bound ≤ get_or (greatest_ends key top xs) k d
       → (bound ≤ top) ⊎ ((j : ℕ) × (j ≤ k) × ((z : K) → bound ≤ key (get_or xs j z)))

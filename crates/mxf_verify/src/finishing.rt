@@ -261,12 +261,7 @@ impl<'a> Uncompared<'a> {
     ) -> Result<Vec<CutNote<'a>>, OutOfMemory>
         ensures { IfOk result (λ v. AreThose catalogue.now (IsLeftOut self.now) (map (λ c. c.note.now) v.items)) }
     {
-        let mut cut = Vec::new(alloc);
-        for note in catalogue.notes() {
-            if self.is_left_out(note) {
-                cut.push(CutNote { note })?;
-            }
-        }
-        Ok(cut)
+        let left_out = catalogue.notes().filter(|note| self.is_left_out(note));
+        Ok(left_out.map(|note| CutNote { note }).collect(alloc)?)
     }
 }

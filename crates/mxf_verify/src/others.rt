@@ -88,13 +88,8 @@ fn other_notes<'b>(
 ) -> Result<Vec<&'b Note>, OutOfMemory>
     ensures { IfOk result (λ v. notes_at v.items ≡ others_of saved.now reference.now) }
 {
-    let mut others = Vec::new(alloc);
-    for note in saved.notes() {
-        if !is_had(reference, note) {
-            others.push(note)?;
-        }
-    }
-    Ok(others)
+    let others = saved.notes().filter(|note| !is_had(reference, note));
+    Ok(others.collect(alloc)?)
 }
 
 /// Whether a catalogue has a note: it holds it, or the packet whose head it is.

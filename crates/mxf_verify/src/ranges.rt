@@ -53,10 +53,7 @@ fn outside(alloc: Global, cover: &Cover) -> Result<Vec<Run>, OutOfMemory>
     ensures within { IfOk result (λ v. AllByRecursion (λ r. r.end ≤ greatest_end) v.items) }
     ensures below { IfOk result (λ _. (at : ℕ) → LiesIn cover.now at → at < greatest_end) }
 {
-    let mut runs = Vec::new(alloc);
-    for gap in cover.gaps() {
-        runs.push(gap)?;
-    }
+    let mut runs: Vec<Run> = cover.gaps().collect(alloc)?;
     runs.push(Run {
         start: cover.end(),
         end: MAX,
@@ -72,9 +69,7 @@ fn outside_or_in(alloc: Global, all: &Cover, known: &Cover) -> Result<Vec<Run>, 
     ensures below { IfOk result (λ _. (at : ℕ) → LiesIn all.now at → at < greatest_end) }
 {
     let mut runs = outside(alloc, all)?;
-    for run in known.runs() {
-        runs.push(run)?;
-    }
+    runs.extend(known.runs())?;
     Ok(runs)
 }
 
@@ -121,13 +116,11 @@ impl Reach {
 fn greatest_ends(alloc: Global, runs: &[Run]) -> Result<Vec<u64>, OutOfMemory>
     ensures { IfOk result (λ v. v.items ≡ greatest_ends (λ r. r.end) 0 runs.now) }
 {
-    let mut ends = Vec::new(alloc);
-    let mut greatest = 0;
-    for run in runs {
-        greatest = greatest.max(run.end);
-        ends.push(greatest)?;
-    }
-    Ok(ends)
+    let ends = runs.iter().scan(0, |greatest, run| {
+        *greatest = (*greatest).max(run.end);
+        Some(*greatest)
+    });
+    Ok(ends.collect(alloc)?)
 }
 
 /// The number of the ranges that begin at or below an offset, in bytes.

@@ -81,13 +81,9 @@ impl<'a> Reference<'a> {
 fn free_notes<'a>(alloc: Global, catalogue: &'a Catalogue) -> Result<Vec<&'a Note>, OutOfMemory>
     ensures { IfOk result (λ v. map (λ r. r.now) v.items ≡ free_of catalogue.now) }
 {
-    let mut free = Vec::new(alloc);
-    for note in catalogue.notes() {
-        if !is_crowded(catalogue, note) {
-            free.push(note)?;
-        }
-    }
-    Ok(free)
+    let notes = catalogue.notes();
+    let free = notes.filter(|note| !is_crowded(catalogue, note));
+    Ok(free.collect(alloc)?)
 }
 
 /// Whether a note is a disputed one of a catalogue whose value isn't kept. It isn't compared with bytes, so that one

@@ -65,13 +65,8 @@ fn had_notes<'a>(
 ) -> Result<Vec<&'a Note>, OutOfMemory>
     ensures { IfOk result (λ v. notes_at v.items ≡ filter (λ n. is_had n saved.now) reference.now) }
 {
-    let mut had = Vec::new(alloc);
-    for note in reference.notes() {
-        if is_had(saved, note) {
-            had.push(note)?;
-        }
-    }
-    Ok(had)
+    let had = reference.notes().filter(|note| is_had(saved, note));
+    Ok(had.collect(alloc)?)
 }
 
 /// The notes of whole packets of a reference whose heads a saved catalogue holds.
@@ -82,13 +77,8 @@ fn headed_notes<'a>(
 ) -> Result<Vec<&'a Note>, OutOfMemory>
     ensures { IfOk result (λ v. notes_at v.items ≡ filter (λ n. is_headed n saved.now) reference.now) }
 {
-    let mut headed = Vec::new(alloc);
-    for note in reference.notes() {
-        if is_headed(saved, note) {
-            headed.push(note)?;
-        }
-    }
-    Ok(headed)
+    let headed = reference.notes().filter(|note| is_headed(saved, note));
+    Ok(headed.collect(alloc)?)
 }
 
 /// Whether a note is that of a whole packet whose head a catalogue holds.
@@ -106,11 +96,6 @@ fn touched_notes<'a>(
 ) -> Result<Vec<&'a Note>, OutOfMemory>
     ensures { IfOk result (λ v. notes_at v.items ≡ filter (λ n. is_touched n others.now) reference.now) }
 {
-    let mut touched = Vec::new(alloc);
-    for note in reference.notes() {
-        if others.touch(note) {
-            touched.push(note)?;
-        }
-    }
-    Ok(touched)
+    let touched = reference.notes().filter(|note| others.touch(note));
+    Ok(touched.collect(alloc)?)
 }

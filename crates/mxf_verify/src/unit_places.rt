@@ -126,26 +126,22 @@ fn by_end(mut places: Vec<UnitPlace>) -> Vec<UnitPlace>
 fn reaches(alloc: Global, places: &[UnitPlace]) -> Result<Vec<u128>, OutOfMemory>
     ensures { IfOk result (λ v. v.items ≡ greatest_ends reach_of 0 places.now) }
 {
-    let mut reaches = Vec::new(alloc);
-    let mut greatest = 0;
-    for place in places {
-        greatest = greatest.max(reach_of(place));
-        reaches.push(greatest)?;
-    }
-    Ok(reaches)
+    let reaches = places.iter().scan(0, |greatest, place| {
+        *greatest = (*greatest).max(reach_of(place));
+        Some(*greatest)
+    });
+    Ok(reaches.collect(alloc)?)
 }
 
 /// How soon each place or one ahead of it begins: the sooner, the greater the number.
 fn backs(alloc: Global, places: &[UnitPlace]) -> Result<Vec<u128>, OutOfMemory>
     ensures { IfOk result (λ v. v.items ≡ greatest_ends back_of 0 places.now) }
 {
-    let mut backs = Vec::new(alloc);
-    let mut greatest = 0;
-    for place in places {
-        greatest = greatest.max(u128::MAX - place.extent.start);
-        backs.push(greatest)?;
-    }
-    Ok(backs)
+    let backs = places.iter().scan(0, |greatest, place| {
+        *greatest = (*greatest).max(u128::MAX - place.extent.start);
+        Some(*greatest)
+    });
+    Ok(backs.collect(alloc)?)
 }
 
 /// How many of the numbers, which rise, lie at or below the bound.

@@ -1,20 +1,14 @@
-use Rattle.std.proofs.Common.{◌∙◌, get_or, refl}
-use Rattle.std.proofs.lemmas.List.{drop_all}
-use Rattle.mxf_catalogue.specs.Runs.{run}
+use Rattle.std.proofs.Common.{ℕ, max, rules}
+use Rattle.std.proofs.lemmas.Iterator.{YieldsList-from_slice, items_from_collect}
+use Rattle.std.proofs.lemmas.Iterator.Consumers.{YieldsList-from_scan}
 use Rattle.mxf_catalogue.specs.declared.run.Run.{Run}
-use Rattle.mxf_places.proofs.LoopLaws.{nothing_left}
-use Rattle.mxf_units.specs.Intervals.{greatest_ends}
-use Rattle.mxf_units.proofs.IntervalLaws.{ends-step, greater}
+use Rattle.mxf_units.proofs.IntervalLaws.{greater}
+use Rattle.mxf_verify.proofs.ReachLaws.{scanned}
 use Rattle.mxf_verify.proofs.ranges.greatest_ends.Goals as goal
-
-pub loop-run-preserved : goal.loop-run-preserved
-loop-run-preserved c =
-    let r = get_or c.args.runs.now c.loop-run.run-index (run 0 0) in
-    ends-step (λ (r : Run). r.end) c.args.runs.now c.loop-run.run-index (run 0 0) c.loop-run.greatest
-    c.max-greatest.result c.loop-run.ends.items _ _ c.loop-run-test.true
-    (c.max-greatest.ensures ∙ greater c.loop-run.greatest r.end) c.in_ok-push.ensures.items c.loop-run.invariant
 
 pub returns : goal.returns
 returns c =
-    nothing_left (greatest_ends (λ (r : Run). r.end) c.loop-run.greatest) _ _ _ refl
-    (drop_all c.loop-run.run-index c.args.runs.now c.loop-run-test.false) c.loop-run.invariant
+    let next = λ (a : ℕ) (x : Run). max a x.end in
+    let h = items_from_collect _ c.collect.ensures.ran (YieldsList-from_scan _ next next 0
+    (YieldsList-from_slice c.args.runs.now cc) c.scan-ends.ensures.state c.scan-ends.ensures.closure
+    (λ b x r q d k. search (greater, rules))) in search (h, scanned (λ (r : Run). r.end) 0 c.args.runs.now, rules)

@@ -1,17 +1,23 @@
-use Rattle.std.proofs.Common.{◌≡◌, ◌↔◌, ◌⊎◌, ◌∙◌, ◌++◌, List, ap, append-nil, inl, inr, subst, sym}
-use Rattle.mxf_catalogue.specs.Runs.{IsWithin, LiesIn}
-use Rattle.mxf_catalogue.specs.declared.run.Run.{Run}
+use Rattle.std.proofs.Common.{◌≡◌, ◌++◌, inl, inr, rules}
+use Rattle.std.proofs.lemmas.Iterator.Adapters.{items_from_extend}
+use Rattle.std.proofs.lemmas.Iterator.Consumers.{YieldsList-from_first}
+use Rattle.mxf_klv.proofs.Lists.{all_append}
+use Rattle.mxf_catalogue.specs.Runs.{IsWithin}
 use Rattle.mxf_verify.proofs.RangeLaws.{some_both}
 use Rattle.mxf_verify.proofs.ranges.outside_or_in.Goals as goal
 
-pub returns-clause-offsets : goal.returns-clause-offsets
-returns-clause-offsets c at =
+pub returns : goal.returns
+returns c =
     let first = c.in_ok-runs.runs.items in
-    let parts : c.loop-run.runs.items ≡ first ++ c.args.known.now = sym (append-nil c.loop-run.runs.items)
-    ∙ sym (ap (λ (l : List Run). c.loop-run.runs.items ++ l) c.in-None.ensures.steps.0) ∙ c.loop-run.invariant in
-    let two = subst (λ (l : List Run). LiesIn l at ↔ LiesIn first at ⊎ LiesIn c.args.known.now at) (sym parts)
-    (some_both (λ r. IsWithin r at) first c.args.known.now) in
-    let one = c.in_ok-runs.ensures.offsets at in (
-      λ h. elim (two.0 h) [ inl k ↦ inl (one.0 k) | inr k ↦ inr k ],
-      λ h. two.1 (elim h [ inl k ↦ inl (one.1 k) | inr k ↦ inr k ]),
-    )
+    let known = c.args.known.now in
+    let h = items_from_extend c.extend.result c.extend.ensures.ran (YieldsList-from_first (λ x. x) (λ s. s) known cc) in
+    let parts : c.extend.new.self.items ≡ first ++ known = search (h, rules) in record {
+      offsets = λ at.
+          let one = c.in_ok-runs.ensures.offsets at in
+          let two = some_both (λ r. IsWithin r at) first known in rw parts (
+            λ s. elim (two.0 s) [ inl k ↦ inl (one.0 k) | inr k ↦ inr k ],
+            λ s. two.1 (elim s [ inl k ↦ inl (one.1 k) | inr k ↦ inr k ]),
+          );
+      within = rw parts (all_append _ first known c.in_ok-runs.ensures.within c.runs.ensures.cover.within);
+      below = c.in_ok-runs.ensures.below;
+    }

@@ -1,18 +1,15 @@
-use Rattle.std.proofs.Common.{◌∙◌, refl}
-use Rattle.std.proofs.lemmas.List.{drop_all}
-use Rattle.mxf_places.proofs.LoopLaws.{nothing_left}
-use Rattle.mxf_units.specs.Intervals.{greatest_ends}
+use Rattle.std.proofs.Common.{ℕ, max, rules}
+use Rattle.std.proofs.lemmas.Iterator.{YieldsList-from_slice, items_from_collect}
+use Rattle.std.proofs.lemmas.Iterator.Consumers.{YieldsList-from_scan}
 use Rattle.mxf_verify.specs.Touching.{back_of}
-use Rattle.mxf_units.proofs.IntervalLaws.{ends-step, greater}
+use Rattle.mxf_verify.specs.declared.unit_places.UnitPlace.{UnitPlace}
+use Rattle.mxf_units.proofs.IntervalLaws.{greater}
+use Rattle.mxf_verify.proofs.ReachLaws.{scanned}
 use Rattle.mxf_verify.proofs.unit_places.backs.Goals as goal
-
-pub loop-place-preserved : goal.loop-place-preserved
-loop-place-preserved c =
-    ends-step back_of c.args.places.now c.loop-place.place-index _ c.loop-place.greatest c.max-greatest.result
-    c.loop-place.backs.items _ _ c.loop-place-test.true
-    (c.max-greatest.ensures ∙ greater c.loop-place.greatest _) c.in_ok-push.ensures.items c.loop-place.invariant
 
 pub returns : goal.returns
 returns c =
-    nothing_left (greatest_ends back_of c.loop-place.greatest) _ _ _ refl
-    (drop_all c.loop-place.place-index c.args.places.now c.loop-place-test.false) c.loop-place.invariant
+    let next = λ (a : ℕ) (x : UnitPlace). max a (back_of x) in
+    let h = items_from_collect _ c.collect.ensures.ran (YieldsList-from_scan _ next next 0
+    (YieldsList-from_slice c.args.places.now cc) c.scan-backs.ensures.state c.scan-backs.ensures.closure
+    (λ b x r q d k. search (greater, rules))) in search (h, scanned back_of 0 c.args.places.now, rules)

@@ -1,17 +1,17 @@
-use Rattle.std.proofs.Common.{sym, ◌∙◌}
-use Rattle.std.proofs.lemmas.Bool.{false≢true}
-use Rattle.mxf_verify.specs.Finishing.{IsLeftOut}
-use Rattle.mxf_verify.proofs.FinishingLaws.{cut_passed, cut_put}
+use Rattle.std.proofs.Common.{rules}
+use Rattle.std.proofs.lemmas.Result.{IfOk-at_ok}
+use Rattle.std.proofs.lemmas.Iterator.{YieldsList-from_map_by}
+use Rattle.std.proofs.lemmas.Iterator.Consumers.{YieldsList-at, YieldsList-from_filter, YieldsList-from_first, map_from_collect}
+use Rattle.mxf_verify.specs.declared.verification.CutNote.{CutNote}
+use Rattle.mxf_verify.proofs.FinishingLaws.{is_left_out, left_out_by, those_left_out}
 use Rattle.mxf_verify.proofs.finishing.Uncompared.cut_of.Goals as goal
 
-pub loop-note-preserved-in-Continue-1 : goal.loop-note-preserved-in-Continue-1
-loop-note-preserved-in-Continue-1 c =
-    cut_put c.args.catalogue.now (IsLeftOut c.args.self.now) c.loop-note.cut.items c.push.new.self.items c.in-Some.note
-    c.loop-note.note-iterator c.next.new.self c.notes-note-items.ensures.catalogue.content c.loop-note.invariant
-    c.in-Some.ensures.steps c.in_ok-push.ensures.items (c.is_left_out.ensures.0 c.if-is_left_out.true)
-
-pub loop-note-preserved : goal.loop-note-preserved
-loop-note-preserved c =
-    cut_passed c.args.catalogue.now (IsLeftOut c.args.self.now) c.loop-note.cut.items c.in-Some.note.now
-    c.loop-note.note-iterator c.next.new.self c.notes-note-items.ensures.catalogue.content c.loop-note.invariant
-    c.in-Some.ensures.steps (λ p. false≢true (sym c.if-is_left_out.false ∙ c.is_left_out.ensures.1 p))
+pub returns : goal.returns
+returns c =
+    let u = c.args.self.now in
+    let h = map_from_collect _ c.collect.ensures.ran (YieldsList-from_map_by _ (λ (c : CutNote). c.note.now) (λ n. n)
+    (YieldsList-at c.map.ensures.source (YieldsList-from_filter _ (is_left_out u)
+    (YieldsList-from_first (λ x. x.now) (λ s. s) c.args.catalogue.now cc)
+    c.filter-left_out.ensures.closure (λ x r q k. (search rules, left_out_by r u x.now (search rules)))))
+    c.map.ensures.closure (λ x r q k. search rules)) in
+    those_left_out c.args.catalogue.now u _ c.notes.ensures.catalogue.content (IfOk-at_ok _ c.in_ok-collect.was h)

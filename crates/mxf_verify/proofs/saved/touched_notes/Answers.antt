@@ -1,0 +1,10 @@
+use Rattle.std.proofs.Common.{rules}
+use Rattle.std.proofs.lemmas.Iterator.Consumers.{YieldsList-from_filter, YieldsList-from_first, map_from_collect}
+use Rattle.mxf_verify.specs.Others.{is_touched}
+use Rattle.mxf_verify.proofs.saved.touched_notes.Goals as goal
+
+pub returns : goal.returns
+returns c =
+    let h = map_from_collect _ c.collect.ensures.ran (YieldsList-from_filter _ (λ n. is_touched n c.args.others.now)
+    (YieldsList-from_first (λ x. x.now) (λ s. s) c.args.reference.now cc)
+    c.filter-touched.ensures.closure (λ x r q k. search rules)) in search rules
