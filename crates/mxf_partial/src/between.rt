@@ -205,13 +205,9 @@ fn places_between(
     ensures { IfOk result (λ v. v.items
         ≡ filter (λ n. is_between_any starts.now numbers.now n.place) named.now) }
 {
-    let mut places = Vec::new(alloc);
-    for place in named {
-        if starts.is_between_any(numbers, place.place) {
-            places.push(*place)?;
-        }
-    }
-    Ok(places)
+    let places = named.iter();
+    let between = places.filter(|place| starts.is_between_any(numbers, place.place));
+    Ok(between.copied().collect(alloc)?)
 }
 
 /// Adds some places: all if there are 16 at most, otherwise the 16 that lie evenly among them.
