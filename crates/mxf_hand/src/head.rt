@@ -57,21 +57,9 @@ impl<'a> Heads<'a> {
         ensures { IfOk result (λ v. map (λ h. h.0.now) v.items ≡ heads_to end self.now) }
     {
         let near = between(&self.heads, end.saturating_sub(KEY_AND_LENGTH), Some(end));
-        heads_ending(alloc, near, end)
+        let ending = near.iter().filter(|head| head.0.covered_end() == end);
+        Ok(ending.copied().collect(alloc)?)
     }
-}
-
-/// Those of some heads whose key and length end at an offset, in bytes.
-fn heads_ending<'a>(
-    alloc: Global,
-    heads: &[HeadNote<'a>],
-    end: u64,
-) -> Result<Vec<HeadNote<'a>>, OutOfMemory>
-    ensures { IfOk result (λ v. map (λ h. h.0.now) v.items
-        ≡ filter (λ n. covered_end n == end) (map (λ h. h.0.now) heads.now)) }
-{
-    let ending = heads.iter().filter(|head| head.0.covered_end() == end);
-    Ok(ending.copied().collect(alloc)?)
 }
 
 /// The bytes of key and length of a packet. They take memory.
