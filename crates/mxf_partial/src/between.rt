@@ -190,24 +190,10 @@ pub(crate) fn add_chosen(
         ⊎ (In n named.now × IsOneOf16 (MayIndexOneOf units.now numbers.now) n.place))) }
 {
     let starts = Starts::of(alloc, units)?;
-    let places = places_between(alloc, &starts, named, numbers)?;
+    let named = named.iter();
+    let between = named.filter(|place| starts.is_between_any(numbers, place.place));
+    let places: Vec<NamedPlace> = between.copied().collect(alloc)?;
     add_evenly(asked, &places)
-}
-
-/// Those of the places that lie between the segments for a unit of one of these numbers, which rise. They take memory.
-fn places_between(
-    alloc: Global,
-    starts: &Starts,
-    named: &[NamedPlace],
-    numbers: &[u64],
-) -> Result<Vec<NamedPlace>, OutOfMemory>
-    requires { IsRising nat_cmp numbers.now }
-    ensures { IfOk result (λ v. v.items
-        ≡ filter (λ n. is_between_any starts.now numbers.now n.place) named.now) }
-{
-    let places = named.iter();
-    let between = places.filter(|place| starts.is_between_any(numbers, place.place));
-    Ok(between.copied().collect(alloc)?)
 }
 
 /// Adds some places: all if there are 16 at most, otherwise the 16 that lie evenly among them.
