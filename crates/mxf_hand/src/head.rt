@@ -1,6 +1,5 @@
 //! Heads by their offsets, and the bytes of their key and length.
-ghost use Rattle.std.specs.Prelude.{◌≡◌, ◌≢◌, ◌+◌, ◌==◌, ◌<◌, ◌≤◌, ℕ, IfOk, filter, get_or, length, map, true, false};
-ghost use Rattle.mxf_klv.specs.Note.{covered_end};
+ghost use Rattle.std.specs.Prelude.{◌≡◌, ◌≢◌, ◌+◌, ◌<◌, ◌≤◌, ℕ, IfOk, get_or, length, map, true, false};
 ghost use Rattle.mxf_hand.specs.Heads.{heads_to, key_and_length};
 
 use mxf_catalogue::Catalogue;
