@@ -1,7 +1,5 @@
 //! Heads by their offsets, and the bytes of their key and length.
-ghost use Rattle.std.specs.Prelude.{◌≡◌, ◌≢◌, ◌+◌, ◌==◌, ◌<◌, ◌≤◌, ◌++◌, ◌∷◌, [], ℕ, IfOk, OnOk, filter, get_or, length};
-ghost use Rattle.std.specs.Prelude.{map, not, true, false};
-ghost use Rattle.mxf_klv.specs.Note.{covered_end};
+ghost use Rattle.std.specs.Prelude.{◌≡◌, ◌≢◌, ◌+◌, ◌<◌, ◌≤◌, ℕ, IfOk, get_or, length, map, true, false};
 ghost use Rattle.mxf_hand.specs.Heads.{heads_to, key_and_length};
 
 use mxf_catalogue::Catalogue;
@@ -47,10 +45,8 @@ impl<'a> Heads<'a> {
     pub fn of(alloc: Global, catalogue: &'a Catalogue) -> Result<Heads<'a>, OutOfMemory>
         ensures { IfOk result (λ h. h ≡ catalogue.now) }
     {
-        let mut heads = Vec::new(alloc);
-        for note in catalogue.notes() {
-            push_head(&mut heads, note)?;
-        }
+        let notes = catalogue.notes().filter(|note| note.is_head());
+        let heads = notes.map(|note| HeadNote(note)).collect(alloc)?;
         Ok(Heads { catalogue, heads })
     }
 
@@ -60,52 +56,9 @@ impl<'a> Heads<'a> {
         ensures { IfOk result (λ v. map (λ h. h.0.now) v.items ≡ heads_to end self.now) }
     {
         let near = between(&self.heads, end.saturating_sub(KEY_AND_LENGTH), Some(end));
-        heads_ending(alloc, near, end)
+        let ending = near.iter().filter(|head| head.0.covered_end() == end);
+        Ok(ending.copied().collect(alloc)?)
     }
-}
-
-/// Adds the note, if it is a head.
-fn push_head<'a>(heads: &mut Vec<HeadNote<'a>>, note: &'a Note) -> Result<(), OutOfMemory>
-    ensures { OnOk result (map (λ h. h.0.now) heads.new.items
-        ≡ map (λ h. h.0.now) heads.old.items ++ filter (λ n. not n.whole) (note.now ∷ [])) }
-{
-    if !note.is_head() {
-        return Ok(());
-    }
-    heads.push(HeadNote(note))?;
-    Ok(())
-}
-
-/// Those of some heads whose key and length end at an offset, in bytes.
-fn heads_ending<'a>(
-    alloc: Global,
-    heads: &[HeadNote<'a>],
-    end: u64,
-) -> Result<Vec<HeadNote<'a>>, OutOfMemory>
-    ensures { IfOk result (λ v. map (λ h. h.0.now) v.items
-        ≡ filter (λ n. covered_end n == end) (map (λ h. h.0.now) heads.now)) }
-{
-    let mut ending = Vec::new(alloc);
-    for head in heads {
-        push_ending(&mut ending, *head, end)?;
-    }
-    Ok(ending)
-}
-
-/// Adds the head, if its key and length end at an offset, in bytes.
-fn push_ending<'a>(
-    ending: &mut Vec<HeadNote<'a>>,
-    head: HeadNote<'a>,
-    end: u64,
-) -> Result<(), OutOfMemory>
-    ensures { OnOk result (map (λ h. h.0.now) ending.new.items
-        ≡ map (λ h. h.0.now) ending.old.items ++ filter (λ n. covered_end n == end) (head.entry.0.now ∷ [])) }
-{
-    if head.0.covered_end() != end {
-        return Ok(());
-    }
-    ending.push(head)?;
-    Ok(())
 }
 
 /// The bytes of key and length of a packet. They take memory.

@@ -113,12 +113,7 @@ fn add_new(views: &mut Views, notes: Catalogue) -> Result<bool, OutOfMemory>
 fn has_all(catalogue: &Catalogue, notes: &Catalogue) -> bool
     ensures { result ≡ true → (n : NoteParts) → In n notes.now → has_note catalogue.now n }
 {
-    for note in notes.notes() {
-        if !catalogue.has(note) {
-            return false;
-        }
-    }
-    true
+    notes.notes().all(|note| catalogue.has(note))
 }
 
 /// What is held after `count` rounds at most.

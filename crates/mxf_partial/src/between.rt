@@ -1,6 +1,6 @@
 //! Named places between index table segments. The segment of a unit to which none gives a place may stand there (ST
 //! 377-1, Index Table Segment).
-ghost use Rattle.std.specs.Prelude.{◌≡◌, ◌↔◌, ◌⊎◌, ◌*◌, ◌/◌, ◌^◌, ◌<◌, ◌≤◌, ℕ, IfOk, OnOk, Some, filter, length, map};
+ghost use Rattle.std.specs.Prelude.{◌≡◌, ◌↔◌, ◌⊎◌, ◌*◌, ◌/◌, ◌^◌, ◌<◌, ◌≤◌, ℕ, IfOk, OnOk, Some, length, map};
 ghost use Rattle.std.specs.Prelude.{slice_get};
 ghost use Rattle.std.specs.List.Sorted.{IsNonDecreasingBy};
 ghost use Rattle.std.specs.Ordering.{nat_cmp};
@@ -190,28 +190,10 @@ pub(crate) fn add_chosen(
         ⊎ (In n named.now × IsOneOf16 (MayIndexOneOf units.now numbers.now) n.place))) }
 {
     let starts = Starts::of(alloc, units)?;
-    let places = places_between(alloc, &starts, named, numbers)?;
+    let named = named.iter();
+    let between = named.filter(|place| starts.is_between_any(numbers, place.place));
+    let places: Vec<NamedPlace> = between.copied().collect(alloc)?;
     add_evenly(asked, &places)
-}
-
-/// Those of the places that lie between the segments for a unit of one of these numbers, which rise. They take memory.
-fn places_between(
-    alloc: Global,
-    starts: &Starts,
-    named: &[NamedPlace],
-    numbers: &[u64],
-) -> Result<Vec<NamedPlace>, OutOfMemory>
-    requires { IsRising nat_cmp numbers.now }
-    ensures { IfOk result (λ v. v.items
-        ≡ filter (λ n. is_between_any starts.now numbers.now n.place) named.now) }
-{
-    let mut places = Vec::new(alloc);
-    for place in named {
-        if starts.is_between_any(numbers, place.place) {
-            places.push(*place)?;
-        }
-    }
-    Ok(places)
 }
 
 /// Adds some places: all if there are 16 at most, otherwise the 16 that lie evenly among them.

@@ -61,26 +61,10 @@ pub(crate) fn helping_orders(
 {
     let mut orders = Vec::new(alloc);
     for section in sections {
-        add_helping(alloc, &mut orders, section_orders, *section, is_described)?;
+        let helping = helping_of(alloc, section_orders, *section, is_described)?;
+        orders.extend_from_slice(&helping)?;
     }
     Ok(orders)
-}
-
-/// Adds what is restored first of a section.
-fn add_helping(
-    alloc: Global,
-    orders: &mut Vec<Order>,
-    section_orders: &SectionOrders<'_>,
-    section: Section,
-    is_described: bool,
-) -> Result<(), OutOfMemory>
-    ensures { OnOk result (orders.new.items
-        ≡ orders.old.items ++ helping_of is_described section_orders.now.at section_orders.now.notes section) }
-{
-    for order in helping_of(alloc, section_orders, section, is_described)? {
-        orders.push(order)?;
-    }
-    Ok(())
 }
 
 /// Adds the fronts of the sections of which nothing is restored first, and in which places lie that are asked for.

@@ -104,12 +104,7 @@ fn has_finished_copy(views: &Views) -> bool
 fn are_indexed(units: &Units<'_>, range: UnitRange) -> bool
     ensures { result ≡ are_indexed (record { units = units.now; first = range.first; count = range.count }) }
 {
-    for unit in UnitsLeft::with_keys(units, range) {
-        if !is_indexed(unit.standing) {
-            return false;
-        }
-    }
-    true
+    UnitsLeft::with_keys(units, range).all(|unit| is_indexed(unit.standing))
 }
 
 /// Whether a segment of the index gives a unit a place that stands so.

@@ -43,12 +43,8 @@ fn is_index(views: &Views, note: &Note) -> bool
 fn has_other_rip(views: &Views, note: &Note) -> bool
     ensures { result ≡ has_other_rip note.now (clear_notes views.now) }
 {
-    for other in views.random_index_packs() {
-        if other.offset() != note.offset() {
-            return true;
-        }
-    }
-    false
+    let mut packs = views.random_index_packs();
+    packs.any(|other| other.offset() != note.offset())
 }
 
 /// Whether one of the whole notes ends above a file offset.

@@ -1,20 +1,17 @@
-use Rattle.std.proofs.Common.{List, inl, inr, subst, sym}
-use Rattle.mxf_klv.specs.Parts.{NoteParts}
-use Rattle.mxf_klv.specs.Rising.{In}
+use Rattle.std.specs.Bool.{⊤}
+use Rattle.std.proofs.Common.{rules}
+use Rattle.std.proofs.lemmas.Bool.{MatchBool-at_true}
+use Rattle.std.proofs.lemmas.Iterator.{cases_from_all}
+use Rattle.std.proofs.lemmas.Iterator.Consumers.{YieldsList-from_first}
+use Rattle.std.proofs.lemmas.List.Elements.{All-contains, All-from_all_within}
+use Rattle.mxf_klv.proofs.Lists.{Contains-from_In}
 use Rattle.mxf_catalogue.specs.Content.{has_note}
 use Rattle.mxf_hand.proofs.putting.has_all.Goals as goal
 
-pub loop-note-preserved : goal.loop-note-preserved
-loop-note-preserved c = λ n i. elim (c.loop-note.invariant n i) [
-  | inl k ↦ elim (subst (λ (l : List NoteParts). In n l) c.in-Some.ensures.steps k) [
-    | inl e ↦ inr (subst (has_note c.args.catalogue.now) (sym e) (c.has.ensures.0 c.if-not-has.false))
-    | inr j ↦ inl j
-  ]
-  | inr h ↦ inr h
-]
-
 pub returns : goal.returns
-returns c = λ yes n i. elim (c.loop-note.invariant n i) [
-  | inl k ↦ absurd (subst (λ (l : List NoteParts). In n l) c.in-None.ensures.steps.0 k)
-  | inr h ↦ h
-]
+returns c = λ t n i.
+    let notes = c.args.notes.now in
+    let there = has_note c.args.catalogue.now in
+    let all = MatchBool-at_true _ _ t (cases_from_all _ _ c.all.result there (λ _. ⊤) c.all.ensures.ran
+    (YieldsList-from_first (λ m. m.now) (λ s. s) notes c.notes.ensures.notes) (λ x q k. search rules) (λ x q k. tt)) in
+    All-contains there notes n (All-from_all_within there notes all) (Contains-from_In n notes i)

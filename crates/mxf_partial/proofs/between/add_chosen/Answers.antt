@@ -1,4 +1,7 @@
-use Rattle.std.proofs.Common.{◌≡◌, ◌↔◌, ◌∙◌, List, ap, filter, subst, sym}
+use Rattle.std.proofs.Common.{◌≡◌, ◌↔◌, ◌∙◌, List, ap, filter, rules, subst, sym}
+use Rattle.std.specs.Result.{IfOk}
+use Rattle.std.proofs.lemmas.Iterator.{YieldsList-from_slice, items_from_collect}
+use Rattle.std.proofs.lemmas.Iterator.Consumers.{YieldsList-at, YieldsList-from_copied, YieldsList-from_filter}
 use Rattle.std.proofs.lemmas.Result.{on_ok_weaker}
 use Rattle.mxf_klv.specs.Rising.{In}
 use Rattle.mxf_restore.specs.declared.named.NamedPlace.{NamedPlace}
@@ -12,9 +15,14 @@ pub returns : goal.returns
 returns c =
     let named = c.args.named.now in
     let numbers = c.args.numbers.now in
+    let starts = c.in_ok-starts.starts in
     let kept = λ (starts : List SegmentStart). filter (λ n. is_between_any starts numbers n.place) named in
+    let h = items_from_collect c.collect.result c.collect.ensures.ran (YieldsList-from_copied
+    (YieldsList-at c.copied.ensures.source (YieldsList-from_filter _ (λ n. is_between_any starts numbers n.place)
+    (YieldsList-from_slice named cc) c.filter-between.ensures.closure (λ x r q k. search rules)))) in
     let same : c.deref.result.now ≡ kept (starts_for c.args.units.now) =
-    c.deref.ensures.value ∙ c.in_ok-places.ensures ∙ ap kept c.in_ok-starts.ensures in
+    c.deref.ensures.value ∙ subst (λ r. IfOk r (λ v. v.items ≡ kept starts)) c.in_ok-places.was h
+    ∙ ap kept c.in_ok-starts.ensures in
     on_ok_weaker c.add_evenly.result (λ m n. or_same (m n)
     (subst (λ (l : List NamedPlace). IsEvenly16 l n
     ↔ (In n named × IsOneOf16 (MayIndexOneOf c.args.units.now numbers) n.place)) (sym same)
