@@ -1,15 +1,13 @@
 -- Notes that stand apart: the first of them, those that lie in a range, and those behind one.
-use Rattle.std.proofs.Common.{List, [], ap, arith, cond, false, filter, inl, inr, le-leb, leb-true, length, nat_le}
-use Rattle.std.proofs.Common.{refl, subst, suc, sym, true, ℕ, ◌++◌, ◌+◌, ◌↔◌, ◌∷◌, ◌≡◌, ◌≤◌, ◌⊎◌}
-use Rattle.std.proofs.lemmas.Bool.{and_from, and_parts}
+use Rattle.mxf_klv.proofs.Common.{List, [], ap, arith, cond, false, filter, inl, inr, length}
+use Rattle.mxf_klv.proofs.Common.{nat_le, refl, subst, suc, sym, true, ℕ, ◌++◌, ◌+◌, ◌↔◌, ◌∷◌, ◌≡◌}
+use Rattle.mxf_klv.proofs.Common.{◌≤◌, ◌⊎◌, and_from, and_parts, end_of, NoteParts, In}
+use Rattle.std.proofs.Common.{le-leb, leb-true}
 use Rattle.mxf_catalogue.proofs.ApartLaws.{begins_above}
 use Rattle.mxf_catalogue.proofs.SpanLaws.{AreApart-filter}
 use Rattle.mxf_catalogue.specs.Disputes.{AreApart, lies_in}
 use Rattle.mxf_klv.proofs.Lists.{In-append}
 use Rattle.mxf_klv.proofs.NoteFilters.{behind}
-use Rattle.mxf_klv.specs.Note.{end_of}
-use Rattle.mxf_klv.specs.Parts.{NoteParts}
-use Rattle.mxf_klv.specs.Rising.{In}
 
 pub lies_says : (start bytes : ℕ) (n : NoteParts) → lies_in start bytes n ≡ true
     → (start ≤ n.offset) × (end_of n ≤ start + bytes)

@@ -1,11 +1,8 @@
 -- Contents as sets of notes.
+use Rattle.mxf_klv.proofs.Common.{subst, sym, inl, inr, NoteParts, IsNote, note_total}
+use Rattle.mxf_klv.proofs.Common.{note_cmp-IsAntisymmetric, In, SameMembers, same_from_members}
+use Rattle.mxf_klv.proofs.Common.{In-with_one, In-union, IsRising-with_one, IsRising-union}
 use Rattle.std.specs.Prelude.{◌≡◌, ◌↔◌, ◌⊎◌, List}
-use Rattle.std.proofs.Common.{subst, sym, inl, inr}
-use Rattle.mxf_klv.specs.Parts.{NoteParts}
-use Rattle.mxf_klv.specs.Note.{IsNote}
-use Rattle.mxf_klv.specs.NoteOrder.{note_total, note_cmp-IsAntisymmetric}
-use Rattle.mxf_klv.specs.Rising.{In, SameMembers, same_from_members, In-with_one, In-union}
-use Rattle.mxf_klv.specs.Rising.{IsRising-with_one, IsRising-union}
 use Rattle.mxf_catalogue.specs.Content.{IsContent, IsCatalogue, with_note, union_of}
 use Rattle.mxf_klv.proofs.Lists.{all_from_In, all-In}
 

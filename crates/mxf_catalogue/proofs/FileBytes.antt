@@ -1,26 +1,20 @@
 -- The bytes of a file by their parts.
-use Rattle.std.proofs.Common.{◌≡◌, ℕ, zero, suc, ◌+◌, ◌^◌, ◌<◌, List, [], ◌∷◌, ◌++◌, length, get_or, refl}
-use Rattle.std.proofs.Common.{sym, ap, ◌∙◌, arith, inl, inr, append_assoc, length-append, append-nil}
-use Rattle.std.proofs.lemmas.List.{take_at, drop_at}
+use Rattle.mxf_klv.proofs.Common.{◌≡◌, ℕ, zero, suc, ◌+◌, ◌^◌, ◌<◌, List, [], ◌∷◌, ◌++◌, length}
+use Rattle.mxf_klv.proofs.Common.{get_or, refl, sym, ap, ◌∙◌, arith, inl, inr, append_assoc}
+use Rattle.mxf_klv.proofs.Common.{length-append, append-nil, take_at, drop_at, flat_map-append, w64}
+use Rattle.mxf_klv.proofs.Common.{from_be_bytes, flat_map, IsTotalOrder, Ordering, Less, NoteParts}
+use Rattle.mxf_klv.proofs.Common.{IsNote, IsRising, less_in}
 use Rattle.std.proofs.lemmas.Nat.{be_bytes_8, from_be_bytes-to_be_bytes_8}
-use Rattle.std.proofs.lemmas.Grind.{flat_map-append}
-use Rattle.std.specs.Int.{w64, from_be_bytes}
-use Rattle.std.specs.List.{flat_map}
-use Rattle.std.specs.Cmp.{IsTotalOrder}
-use Rattle.std.specs.declared.cmp.Ordering.{Ordering}
-use Rattle.std.specs.declared.cmp.Ordering.TheVariants.{Less}
-use Rattle.mxf_klv.specs.Parts.{NoteParts}
-use Rattle.mxf_klv.specs.Note.{IsNote}
 use Rattle.std.specs.Prelude.{Bool}
-use Rattle.mxf_klv.specs.Rising.{IsRising, less_in}
 use Rattle.mxf_catalogue.specs.declared.catalogue.file.fixed_part.FixedPart.{FixedPart}
 use Rattle.mxf_catalogue.specs.Content.{AreReduced, IsContent}
 use Rattle.mxf_catalogue.specs.declared.catalogue.file.start.Version.{Version}
-use Rattle.mxf_catalogue.specs.CatalogueFile.{number_bytes, IsFixedPart, fixed_bytes, CanBeNoted, held_length}
-use Rattle.mxf_catalogue.specs.CatalogueFile.{fixed_part_of}
-use Rattle.mxf_catalogue.specs.CatalogueFile.{note_bytes, start_bytes, IsFileOfVersion, BeginsWithNote}
-use Rattle.mxf_catalogue.specs.CatalogueFile.{IsCutNote, IsBadNote, IsFront, place_after, CanHave, IsMarkIn}
-use Rattle.mxf_catalogue.specs.CatalogueFile.{BeginsWithParts, CanBeMarked, length_ahead, mark_bytes, mark_of}
+use Rattle.mxf_catalogue.specs.CatalogueFile.{number_bytes, IsFixedPart, fixed_bytes, CanBeNoted}
+use Rattle.mxf_catalogue.specs.CatalogueFile.{held_length, fixed_part_of, note_bytes, start_bytes}
+use Rattle.mxf_catalogue.specs.CatalogueFile.{IsFileOfVersion, BeginsWithNote, IsCutNote, IsBadNote}
+use Rattle.mxf_catalogue.specs.CatalogueFile.{IsFront, place_after, CanHave, IsMarkIn}
+use Rattle.mxf_catalogue.specs.CatalogueFile.{BeginsWithParts, CanBeMarked, length_ahead}
+use Rattle.mxf_catalogue.specs.CatalogueFile.{mark_bytes, mark_of}
 use Rattle.mxf_klv.proofs.Lists.{all_push, all_last, In-at}
 
 -- ---- parts of a text

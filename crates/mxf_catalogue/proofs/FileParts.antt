@@ -1,38 +1,31 @@
 -- What the readers and writers of a file's parts come to.
-use Rattle.std.proofs.Common.{◌≡◌, ℕ, zero, suc, ◌+◌, ◌-◌, ◌^◌, ◌<◌, ◌≤◌, Bool, true, false, cond, List, [], ◌∷◌}
-use Rattle.std.proofs.Common.{◌++◌, length, take, drop, get_or, Result, Ok, Option, Some, sym, ap, subst, ◌∙◌, arith}
-use Rattle.std.proofs.Common.{◌↔◌, append_assoc, append-nil, length-append, take-append-drop}
+use Rattle.mxf_klv.proofs.Common.{◌≡◌, ℕ, zero, suc, ◌+◌, ◌-◌, ◌^◌, ◌<◌, ◌≤◌, Bool, true, false}
+use Rattle.mxf_klv.proofs.Common.{cond, List, [], ◌∷◌, ◌++◌, length, take, drop, get_or, Result, Ok}
+use Rattle.mxf_klv.proofs.Common.{Option, Some, sym, ap, subst, ◌∙◌, arith, ◌↔◌, append_assoc}
+use Rattle.mxf_klv.proofs.Common.{append-nil, length-append, cases_lt, drop_at, take_all}
+use Rattle.mxf_klv.proofs.Common.{length-take, get_or-take, get_or-drop, get_or_past}
+use Rattle.mxf_klv.proofs.Common.{take-append-le, flat_map-append, get_or_from_slice_get}
+use Rattle.mxf_klv.proofs.Common.{slice_get_within, w64, from_be_bytes, to_be_bytes, flat_map}
+use Rattle.mxf_klv.proofs.Common.{ordering_index, Ordering, Less, Appends, NoteParts, keeps}
+use Rattle.mxf_klv.proofs.Common.{note_cmp, note_parts, note_total, WriteFault, StopsIn, WritesPart}
+use Rattle.mxf_klv.proofs.Common.{counted}
+use Rattle.std.proofs.Common.{take-append-drop}
 use Rattle.std.specs.Prelude.{IsTrue, ◌==◌}
-use Rattle.std.proofs.lemmas.Bool.{cases_lt}
-use Rattle.std.proofs.lemmas.List.{drop_at, take_all, length-take, get_or-take, get_or-drop, get_or_past}
-use Rattle.std.proofs.lemmas.List.{take-append-le}
-use Rattle.std.proofs.lemmas.Grind.{flat_map-append}
-use Rattle.std.proofs.lemmas.Option.{get_or_from_slice_get, slice_get_within}
-use Rattle.std.specs.Int.{w64, from_be_bytes, to_be_bytes}
-use Rattle.std.specs.List.{flat_map, slice_get}
-use Rattle.std.specs.Ordering.{ordering_index}
-use Rattle.std.specs.declared.cmp.Ordering.{Ordering}
-use Rattle.std.specs.declared.cmp.Ordering.TheVariants.{Less}
-use Rattle.std.specs.Io.KnownBytes.{Appends}
-use Rattle.mxf_klv.specs.Parts.{NoteParts}
-use Rattle.mxf_klv.specs.Note.{keeps, note_cmp}
-use Rattle.mxf_klv.specs.Parts.{note_parts}
-use Rattle.mxf_klv.specs.NoteOrder.{note_total}
-use Rattle.mxf_klv.specs.declared.writing.WriteFault.{WriteFault}
-use Rattle.mxf_klv.specs.Written.{StopsIn, WritesPart, counted}
+use Rattle.std.specs.List.{slice_get}
 use Rattle.mxf_klv.proofs.WrittenParts.{StopsIn-part, WritesPart-after}
 use Rattle.mxf_catalogue.specs.declared.catalogue.file.FileFault.{FileFault}
 use Rattle.mxf_catalogue.specs.declared.catalogue.file.fixed_part.FixedPart.{FixedPart}
 use Rattle.mxf_catalogue.specs.Content.{IsContent}
 use Rattle.mxf_catalogue.specs.declared.catalogue.file.start.Version.{Version}
 use Rattle.mxf_catalogue.specs.declared.catalogue.file.start.Version.TheVariants.{Two}
-use Rattle.mxf_catalogue.specs.CatalogueFile.{version_byte, number_bytes, CanBeNoted, note_bytes, start_bytes}
-use Rattle.mxf_catalogue.specs.CatalogueFile.{BeginsAsFile, BeginsWithFixedPart, BeginsWithMark, BeginsWithNote}
-use Rattle.mxf_catalogue.specs.CatalogueFile.{BeginsWithParts, IsRefused, IsFront, StopsAt}
-use Rattle.mxf_catalogue.specs.CatalogueFile.{CanHave, IsMarkIn, mark_of}
+use Rattle.mxf_catalogue.specs.CatalogueFile.{version_byte, number_bytes, CanBeNoted, note_bytes}
+use Rattle.mxf_catalogue.specs.CatalogueFile.{start_bytes, BeginsAsFile, BeginsWithFixedPart}
+use Rattle.mxf_catalogue.specs.CatalogueFile.{BeginsWithMark, BeginsWithNote, BeginsWithParts}
+use Rattle.mxf_catalogue.specs.CatalogueFile.{IsRefused, IsFront, StopsAt, CanHave, IsMarkIn}
+use Rattle.mxf_catalogue.specs.CatalogueFile.{mark_of}
 use Rattle.mxf_catalogue.specs.FileReading.{NoteBehindMark, RefusesNote}
-use Rattle.mxf_catalogue.proofs.FileBytes.{front_place, number_in, regrouped, length-number_bytes, rising_push}
-use Rattle.mxf_catalogue.proofs.FileBytes.{rising_last}
+use Rattle.mxf_catalogue.proofs.FileBytes.{front_place, number_in, regrouped, length-number_bytes}
+use Rattle.mxf_catalogue.proofs.FileBytes.{rising_push, rising_last}
 
 -- ---- reading
 

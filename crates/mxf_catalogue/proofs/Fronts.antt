@@ -1,10 +1,6 @@
 -- Fronts and ends of rising lists.
+use Rattle.mxf_klv.proofs.Common.{IsTotalOrder, Ordering, Less, sym, subst, inl, inr, In, IsRising}
 use Rattle.std.specs.Prelude.{◌≡◌, List, [], ◌∷◌, ◌++◌}
-use Rattle.std.specs.Cmp.{IsTotalOrder}
-use Rattle.std.specs.declared.cmp.Ordering.{Ordering}
-use Rattle.std.specs.declared.cmp.Ordering.TheVariants.{Less}
-use Rattle.std.proofs.Common.{sym, subst, inl, inr}
-use Rattle.mxf_klv.specs.Rising.{In, IsRising}
 use Rattle.mxf_klv.proofs.Lists.{all_front, all_last, In-end}
 
 module _ {K : Type 0} (R : K → K → Ordering) where

@@ -1,21 +1,18 @@
 -- Reduced contents: the laws of reduced lists, of notes and their heads.
+use Rattle.mxf_klv.proofs.Common.{sym, ◌∙◌, ap, subst, inl, inr, NoteParts, head_note, note_total}
+use Rattle.mxf_klv.proofs.Common.{note_cmp-IsAntisymmetric, In, SameMembers}
 use Rattle.std.specs.Prelude.{◌≡◌, ◌≢◌, ◌↔◌, ◌⊎◌, List, [], ◌∷◌, ◌++◌, refl}
-use Rattle.std.proofs.Common.{sym, ◌∙◌, ap, subst, inl, inr}
-use Rattle.mxf_klv.specs.Parts.{NoteParts}
-use Rattle.mxf_klv.specs.Note.{head_note}
-use Rattle.mxf_klv.specs.NoteOrder.{note_total, note_cmp-IsAntisymmetric}
-use Rattle.mxf_klv.specs.Rising.{In, SameMembers}
 use Rattle.mxf_klv.proofs.HeadOrder.{head_note-once, head_note-below, head_note-between}
-use Rattle.mxf_catalogue.specs.Content.{AreReduced, IsContent, IsLocated, IsReplaced, has_note, reduced, reduced_union}
-use Rattle.mxf_catalogue.specs.Content.{reduced_with, reduced_union-IsUnion, union_of, with_note}
+use Rattle.mxf_catalogue.specs.Content.{AreReduced, IsContent, IsLocated, IsReplaced, has_note}
+use Rattle.mxf_catalogue.specs.Content.{reduced, reduced_union, reduced_with, reduced_union-IsUnion}
+use Rattle.mxf_catalogue.specs.Content.{union_of, with_note}
 use Rattle.mxf_catalogue.specs.Reduced.{IsKnown}
 use Rattle.mxf_catalogue.proofs.ContentLaws.{In-with_note, IsContent-union_of, IsContent-with_note}
-use Rattle.mxf_catalogue.specs.ReducedLaws.{Has-reduce, Has-union, Has-with_one, In-reduce, In-untold}
-use Rattle.mxf_catalogue.specs.ReducedLaws.{IsReduced-reduce, IsRising-reduce, one_from_has, reduce-reduced}
-use Rattle.mxf_catalogue.specs.ReducedLaws.{same_or_not}
-use Rattle.mxf_catalogue.specs.ReducedLaws.{reduce-union, same_from_has}
-use Rattle.mxf_catalogue.proofs.ReducedPlaces.{next_tells, reduced_push, swap_is}
-use Rattle.mxf_catalogue.proofs.ReducedPlaces.{unreduced_push}
+use Rattle.mxf_catalogue.specs.ReducedLaws.{Has-reduce, Has-union, Has-with_one, In-reduce}
+use Rattle.mxf_catalogue.specs.ReducedLaws.{In-untold, IsReduced-reduce, IsRising-reduce}
+use Rattle.mxf_catalogue.specs.ReducedLaws.{one_from_has, reduce-reduced, same_or_not, reduce-union}
+use Rattle.mxf_catalogue.specs.ReducedLaws.{same_from_has}
+use Rattle.mxf_catalogue.proofs.ReducedPlaces.{next_tells, reduced_push, swap_is, unreduced_push}
 
 pub In-reduced : (n : NoteParts) (notes : List NoteParts)
     → In n (reduced notes) ↔ (In n notes × (IsReplaced n notes → ⊥))

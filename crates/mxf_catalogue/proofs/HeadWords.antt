@@ -1,9 +1,6 @@
 -- Which heads are replaced, in the words of their fields.
-use Rattle.std.proofs.Common.{◌≡◌, ◌↔◌, ℕ, false, List, [], ◌∷◌, length, refl, arith}
-use Rattle.std.specs.List.{AllByRecursion}
-use Rattle.mxf_klv.specs.Parts.{NoteParts}
-use Rattle.mxf_klv.specs.Note.{IsNote, head_note}
-use Rattle.mxf_klv.specs.Rising.{In}
+use Rattle.mxf_klv.proofs.Common.{◌≡◌, ◌↔◌, ℕ, false, List, [], ◌∷◌, length, refl, arith}
+use Rattle.mxf_klv.proofs.Common.{AllByRecursion, NoteParts, IsNote, head_note, In}
 use Rattle.mxf_catalogue.specs.Content.{IsOfPacket, IsReplaced}
 use Rattle.mxf_klv.proofs.Lists.{all-In}
 

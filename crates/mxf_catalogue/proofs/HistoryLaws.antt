@@ -1,19 +1,17 @@
 -- What a history of calls leaves is the set that it was handed.
+use Rattle.mxf_klv.proofs.Common.{inl, inr, sym, ap, subst, ◌∙◌, NoteParts, In, head_note}
 use Rattle.std.specs.Prelude.{◌≡◌, ◌↔◌, ◌⊎◌, refl, take}
-use Rattle.std.proofs.Common.{inl, inr, sym, ap, subst, ◌∙◌}
-use Rattle.mxf_klv.specs.Parts.{NoteParts}
 use Rattle.mxf_klv.specs.PieceReading.{notes_in}
-use Rattle.mxf_klv.specs.Rising.{In}
-use Rattle.mxf_klv.specs.Note.{head_note}
 use Rattle.mxf_catalogue.specs.Content.{AreReduced, IsContent, IsLocated, has_note, with_note}
 use Rattle.mxf_catalogue.specs.Reduced.{IsKnown}
-use Rattle.mxf_catalogue.specs.History.{Hands, HandsSame, content}
-use Rattle.mxf_catalogue.specs.History.{History, New, Add, Join, Read, Absorb, Cut, Of}
+use Rattle.mxf_catalogue.specs.History.{Hands, HandsSame, content, History, New, Add, Join, Read}
+use Rattle.mxf_catalogue.specs.History.{Absorb, Cut, Of}
 use Rattle.mxf_catalogue.proofs.ContentLaws.{same_content}
-use Rattle.mxf_catalogue.proofs.HeadLaws.{AreReduced-reduced, AreReduced-reduced_union, IsContent-reduced_union}
-use Rattle.mxf_catalogue.proofs.HeadLaws.{IsContent-reduced_with, In-located}
+use Rattle.mxf_catalogue.proofs.HeadLaws.{AreReduced-reduced, AreReduced-reduced_union}
+use Rattle.mxf_catalogue.proofs.HeadLaws.{IsContent-reduced_union, IsContent-reduced_with}
+use Rattle.mxf_catalogue.proofs.HeadLaws.{In-located, has-reduced_union, has-reduced_with}
+use Rattle.mxf_catalogue.proofs.HeadLaws.{one_reduced}
 use Rattle.mxf_klv.proofs.HeadOrder.{head_note-once}
-use Rattle.mxf_catalogue.proofs.HeadLaws.{has-reduced_union, has-reduced_with, one_reduced}
 
 -- a set of two has with heads what both have
 pub known-both : (P Q : NoteParts → Type 0) (n : NoteParts)

@@ -1,15 +1,10 @@
 -- How a note is disputed, told from its neighbours and from how far the notes before it reach.
-use Rattle.std.specs.Prelude.{◌≡◌, ◌≢◌, ℕ, ◌+◌, ◌-◌, ◌<◌, ◌≤◌, max, nat_lt, ◌||◌, Bool, true, false, List, [], ◌∷◌}
-use Rattle.std.specs.Prelude.{◌++◌, length, ◌⊎◌, refl}
-use Rattle.std.specs.List.{AllWithin}
-use Rattle.std.specs.declared.cmp.Ordering.TheVariants.{Less}
-use Rattle.std.proofs.Common.{sym, ap, subst, inl, inr, arith, get_or, append_assoc, ◌∙◌}
-use Rattle.std.proofs.lemmas.Bool.{ltb-true, ltb-false, or_cases, or_left, or_right}
-use Rattle.std.proofs.lemmas.List.{get_or_default}
-use Rattle.mxf_klv.specs.Parts.{NoteParts}
-use Rattle.mxf_klv.specs.Note.{end_of, note_cmp}
-use Rattle.mxf_klv.specs.NoteOrder.{note_total}
-use Rattle.mxf_klv.specs.Rising.{In, less_in}
+use Rattle.mxf_klv.proofs.Common.{max, AllWithin, Less, sym, ap, subst, inl, inr, arith, get_or}
+use Rattle.mxf_klv.proofs.Common.{append_assoc, ◌∙◌, ltb-true, ltb-false, or_cases, or_left}
+use Rattle.mxf_klv.proofs.Common.{or_right, get_or_default, NoteParts, end_of, note_cmp, note_total}
+use Rattle.mxf_klv.proofs.Common.{In, less_in}
+use Rattle.std.specs.Prelude.{◌≡◌, ◌≢◌, ℕ, ◌+◌, ◌-◌, ◌<◌, ◌≤◌, nat_lt, ◌||◌, Bool, true, false}
+use Rattle.std.specs.Prelude.{List, [], ◌∷◌, ◌++◌, length, ◌⊎◌, refl}
 use Rattle.mxf_catalogue.specs.Content.{IsContent}
 use Rattle.mxf_catalogue.specs.Disputes.{DisputedParts, SharesOffset, Overlaps, disputed_parts}
 use Rattle.mxf_catalogue.specs.Disputes.{is_offset_shared, is_overlapped}

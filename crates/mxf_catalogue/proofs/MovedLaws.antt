@@ -1,12 +1,7 @@
 -- The notes that a new note moves.
+use Rattle.mxf_klv.proofs.Common.{AllByRecursion, nat_cmp, Less, arith, NoteParts, end_of, In}
+use Rattle.mxf_klv.proofs.Common.{IsRising}
 use Rattle.std.specs.Prelude.{◌≡◌, ◌↔◌, ◌<◌, ℕ, List, [], ◌∷◌, map}
-use Rattle.std.specs.List.{AllByRecursion}
-use Rattle.std.specs.Ordering.{nat_cmp}
-use Rattle.std.specs.declared.cmp.Ordering.TheVariants.{Less}
-use Rattle.std.proofs.Common.{arith}
-use Rattle.mxf_klv.specs.Parts.{NoteParts}
-use Rattle.mxf_klv.specs.Note.{end_of}
-use Rattle.mxf_klv.specs.Rising.{In, IsRising}
 use Rattle.mxf_catalogue.specs.Content.{IsContent, reduced_with}
 use Rattle.mxf_catalogue.specs.Disputes.{AreApart, IsClear, IsDisputed, clear_notes, is_disputed}
 use Rattle.mxf_catalogue.specs.NoteLists.{moved_by, moved_notes}

@@ -1,16 +1,9 @@
 -- Clear notes share no byte, so each ends before the next begins.
-use Rattle.std.proofs.Common.{◌≡◌, ◌≢◌, ℕ, ◌<◌, ◌≤◌, Bool, List, [], ◌∷◌, refl, inl}
-use Rattle.std.proofs.Common.{inr, arith, eqb-true}
+use Rattle.mxf_klv.proofs.Common.{◌≡◌, ◌≢◌, ℕ, ◌<◌, ◌≤◌, Bool, List, [], ◌∷◌, refl, inl, inr, arith}
+use Rattle.mxf_klv.proofs.Common.{eqb-true, ltb-true, ltb-false, nat_cmp, ordering_then, Ordering}
+use Rattle.mxf_klv.proofs.Common.{Less, tied_itself, NoteParts, end_of, note_cmp, note_total, In}
+use Rattle.mxf_klv.proofs.Common.{less_in}
 use Rattle.std.specs.Prelude.{nat_lt, filter}
-use Rattle.std.proofs.lemmas.Bool.{ltb-true, ltb-false}
-use Rattle.std.specs.Ordering.{nat_cmp, ordering_then}
-use Rattle.std.specs.declared.cmp.Ordering.{Ordering}
-use Rattle.std.specs.declared.cmp.Ordering.TheVariants.{Less}
-use Rattle.std.proofs.lemmas.Cmp.{tied_itself}
-use Rattle.mxf_klv.specs.Parts.{NoteParts}
-use Rattle.mxf_klv.specs.Note.{end_of, note_cmp}
-use Rattle.mxf_klv.specs.NoteOrder.{note_total}
-use Rattle.mxf_klv.specs.Rising.{In, less_in}
 use Rattle.mxf_klv.proofs.Tests.{less_from_lt}
 use Rattle.mxf_catalogue.specs.Content.{IsContent}
 use Rattle.mxf_catalogue.specs.Disputes.{AreApart, IsClear, clear_notes}

@@ -1,12 +1,10 @@
 -- How often numbers stand in a list.
-use Rattle.std.proofs.Common.{◌≡◌, ◌∙◌, ◌+◌, ◌≤◌, ◌<◌, ◌==◌, ℕ, zero, suc, Bool, true, false, cond, List, [], ◌∷◌}
-use Rattle.std.proofs.Common.{◌++◌, append_assoc, flat_map, map, refl, ap, subst, sym, arith, count_by, get_or, length, nat_le, nat_lt, eqb-true, eq-eqb, inl, inr}
-use Rattle.std.specs.List.{AllWithin}
-use Rattle.std.specs.List.Sorted.{IsNonDecreasing, IsPermutation}
-use Rattle.std.proofs.lemmas.Bool.{cases_Bool, cases_lt}
-use Rattle.std.proofs.lemmas.Bool.Decides.{nat_tests}
-use Rattle.std.proofs.lemmas.List.Sorted.{sum_by-IsPermutation}
-use Rattle.mxf_klv.specs.Rising.{In}
+use Rattle.mxf_klv.proofs.Common.{◌≡◌, ◌∙◌, ◌+◌, ◌≤◌, ◌<◌, ◌==◌, ℕ, zero, suc, Bool, true, false}
+use Rattle.mxf_klv.proofs.Common.{cond, List, [], ◌∷◌, ◌++◌, append_assoc, map, refl, ap, subst}
+use Rattle.mxf_klv.proofs.Common.{sym, arith, count_by, get_or, length, nat_le, nat_lt, eqb-true}
+use Rattle.mxf_klv.proofs.Common.{eq-eqb, inl, inr, AllWithin, IsNonDecreasing, IsPermutation}
+use Rattle.mxf_klv.proofs.Common.{cases_Bool, cases_lt, nat_tests, sum_by-IsPermutation, In}
+use Rattle.std.proofs.Common.{flat_map}
 use Rattle.mxf_klv.proofs.Counts.{count_by-cons, tally}
 use Rattle.mxf_klv.proofs.Lists.{In-at}
 use Rattle.mxf_find.specs.Votes.{IsMostVoted, count_of}

@@ -1,10 +1,9 @@
 -- A note that is moved.
-use Rattle.std.proofs.Common.{◌≡◌, ◌∙◌, ℕ, List, Bool, ap, length, subst, sym, true, if◌then◌else◌}
-use Rattle.std.proofs.Common.{Option, None, Some, is_some}
-use Rattle.std.specs.Option.{IfNone}
-use Rattle.std.proofs.lemmas.Bool.{true≢false}
-use Rattle.mxf_klv.specs.Note.{CanNote, IsNote, keeps, keeps_value}
-use Rattle.mxf_klv.specs.Parts.{NoteParts, note_parts}
+use Rattle.mxf_klv.proofs.Common.{◌≡◌, ◌∙◌, ℕ, List, Bool, ap, length, subst, sym, true, Option}
+use Rattle.mxf_klv.proofs.Common.{None, Some, is_some, IfNone, true≢false, CanNote, IsNote, keeps}
+use Rattle.mxf_klv.proofs.Common.{NoteParts, note_parts}
+use Rattle.std.proofs.Common.{if◌then◌else◌}
+use Rattle.mxf_klv.specs.Note.{keeps_value}
 use Rattle.mxf_find.specs.Agreeing.{moved_to}
 use Rattle.mxf_find.proofs.TellerLaws.{both_true}
 

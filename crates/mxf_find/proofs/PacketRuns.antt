@@ -1,18 +1,13 @@
 -- Packets in their order: which notes they are, and where those of one kind stand.
-use Rattle.std.proofs.Common.{◌≡◌, ◌+◌, ◌≤◌, ◌<◌, ◌&&◌, ◌∙◌, ℕ, zero, suc, true, false, List, []}
-use Rattle.std.proofs.Common.{◌∷◌, IsTrue, refl, sym, ap, subst, inl, inr, arith, get_or, length, min, nat_le, nat_lt}
-use Rattle.std.proofs.Common.{Ordering, Less, Equal, Greater, drop, filter, take}
-use Rattle.std.specs.Cmp.{IsTotalOrder}
-use Rattle.std.specs.List.{AllWithin}
-use Rattle.std.specs.List.Sorted.{IsNonDecreasingBy, IsPartitionedBy, IsSortedByKey}
-use Rattle.std.specs.Cmp.Lexicographic.{slice_cmp}
-use Rattle.std.specs.Ordering.{bool_cmp, nat_cmp, is_lt, ordering_index, ordering_reverse, ordering_then}
-use Rattle.std.proofs.lemmas.Cmp.{tied_itself}
-use Rattle.std.proofs.lemmas.List.Sorted.{IsPartitionedBy-ltb, searchable_from_sorted}
-use Rattle.mxf_klv.specs.Parts.{NoteParts}
-use Rattle.mxf_klv.specs.Note.{note_cmp}
-use Rattle.mxf_klv.specs.NoteOrder.{note_total, note_cmp-IsAntisymmetric}
-use Rattle.mxf_klv.specs.Rising.{In, In-union, IsRising, less_in, union}
+use Rattle.mxf_klv.proofs.Common.{◌≡◌, ◌+◌, ◌≤◌, ◌<◌, ◌&&◌, ◌∙◌, ℕ, zero, suc, true, false, List}
+use Rattle.mxf_klv.proofs.Common.{[], ◌∷◌, IsTrue, refl, sym, ap, subst, inl, inr, arith, get_or}
+use Rattle.mxf_klv.proofs.Common.{length, min, nat_le, nat_lt, drop, filter, take, IsTotalOrder}
+use Rattle.mxf_klv.proofs.Common.{AllWithin, IsNonDecreasingBy, IsPartitionedBy, IsSortedByKey}
+use Rattle.mxf_klv.proofs.Common.{slice_cmp, bool_cmp, nat_cmp, is_lt, ordering_index}
+use Rattle.mxf_klv.proofs.Common.{ordering_reverse, ordering_then, tied_itself, IsPartitionedBy-ltb}
+use Rattle.mxf_klv.proofs.Common.{searchable_from_sorted, NoteParts, note_cmp, note_total}
+use Rattle.mxf_klv.proofs.Common.{note_cmp-IsAntisymmetric, In, In-union, IsRising, less_in, union}
+use Rattle.std.proofs.Common.{Ordering, Less, Equal, Greater}
 use Rattle.mxf_klv.proofs.Lists.{In-at, filter_alike}
 use Rattle.mxf_klv.proofs.Tests.{same_bool}
 use Rattle.mxf_catalogue.specs.Disputes.{is_same_note}

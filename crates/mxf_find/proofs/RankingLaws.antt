@@ -1,12 +1,10 @@
 -- The first of a list in its order, of which only the first were kept.
-use Rattle.std.proofs.Common.{◌≡◌, ◌∙◌, ◌++◌, ℕ, zero, suc, cond, List, [], ◌∷◌, take}
-use Rattle.std.proofs.Common.{ap, append-nil, append_assoc, inl, inr, refl, sym, Ordering, Less, Equal, Greater}
-use Rattle.std.specs.Cmp.{IsTotalOrder}
-use Rattle.std.specs.FinSet.{IsAntisymmetric}
-use Rattle.std.specs.Ordering.{is_eq, is_lt}
-use Rattle.mxf_klv.specs.Rising.{In-union, In-with_one, IsRising, IsRising-union, IsRising-with_one, SameMembers}
-use Rattle.mxf_klv.specs.Rising.{same_from_members, union, with_one}
-use Rattle.std.specs.List.{AllByRecursion}
+use Rattle.mxf_klv.proofs.Common.{◌≡◌, ◌∙◌, ◌++◌, ℕ, zero, suc, cond, List, [], ◌∷◌, take, ap}
+use Rattle.mxf_klv.proofs.Common.{append-nil, append_assoc, inl, inr, refl, sym, IsTotalOrder}
+use Rattle.mxf_klv.proofs.Common.{IsAntisymmetric, is_eq, is_lt, In-union, In-with_one, IsRising}
+use Rattle.mxf_klv.proofs.Common.{IsRising-union, IsRising-with_one, SameMembers, same_from_members}
+use Rattle.mxf_klv.proofs.Common.{union, with_one, AllByRecursion}
+use Rattle.std.proofs.Common.{Ordering, Less, Equal, Greater}
 use Rattle.mxf_klv.proofs.Lists.{In-append}
 use Rattle.mxf_find.specs.RankOrder.{rank_cmp-IsAntisymmetric, rank_total}
 use Rattle.mxf_find.specs.Rankings.{ranked, with_all}

@@ -1,12 +1,9 @@
 -- Notes that tell: one at most is told by another, and votes by it.
-use Rattle.std.proofs.Common.{◌≡◌, ◌==◌, ◌∙◌, Bool, true, List, [], ◌∷◌, IsTrue, Option, None, Some}
-use Rattle.std.proofs.Common.{refl, sym, ap, subst, inl, inr, arith, eq-eqb, eqb-true, filter, length, Ordering, Less}
-use Rattle.std.specs.Cmp.{IsTotalOrder}
-use Rattle.std.proofs.lemmas.Cmp.{tied_itself}
-use Rattle.mxf_klv.specs.Parts.{NoteParts}
-use Rattle.mxf_klv.specs.Note.{note_cmp}
-use Rattle.mxf_klv.specs.NoteOrder.{note_total, note_cmp-IsAntisymmetric}
-use Rattle.mxf_klv.specs.Rising.{In, IsRising, SameMembers}
+use Rattle.mxf_klv.proofs.Common.{◌≡◌, ◌==◌, ◌∙◌, Bool, true, List, [], ◌∷◌, IsTrue, Option, None}
+use Rattle.mxf_klv.proofs.Common.{Some, refl, sym, ap, subst, inl, inr, arith, eq-eqb, eqb-true}
+use Rattle.mxf_klv.proofs.Common.{filter, length, IsTotalOrder, tied_itself, NoteParts, note_cmp}
+use Rattle.mxf_klv.proofs.Common.{note_total, note_cmp-IsAntisymmetric, In, IsRising, SameMembers}
+use Rattle.std.proofs.Common.{Ordering, Less}
 use Rattle.mxf_klv.proofs.Lists.{In-filter, filter_alike}
 use Rattle.mxf_klv.proofs.Tests.{same_bool}
 use Rattle.mxf_catalogue.specs.Content.{IsContent}

@@ -1,13 +1,11 @@
 -- Votes: a note has one at most in a recording.
-use Rattle.std.proofs.Common.{◌≡◌, ◌&&◌, ◌∙◌, Bool, true, false, List, [], ◌∷◌, IsTrue, Option, None, Some}
-use Rattle.std.proofs.Common.{Bor, is_some}
-use Rattle.std.proofs.Common.{refl, sym, ap, subst, arith, filter, inl, inr, not}
-use Rattle.std.specs.Option.{IfNone, IfSome, option_copied, option_to_list}
-use Rattle.std.proofs.lemmas.Bool.{cases_Bool, false_from_ne_true}
-use Rattle.mxf_klv.specs.Parts.{NoteParts, head_parts}
-use Rattle.mxf_klv.specs.Note.{note_cmp}
-use Rattle.mxf_klv.specs.NoteOrder.{note_total, note_cmp-IsAntisymmetric}
-use Rattle.mxf_klv.specs.Rising.{In, same_from_members}
+use Rattle.mxf_klv.proofs.Common.{◌≡◌, ◌&&◌, ◌∙◌, Bool, true, false, List, [], ◌∷◌, IsTrue, Option}
+use Rattle.mxf_klv.proofs.Common.{None, Some, is_some, refl, sym, ap, subst, arith, filter, inl}
+use Rattle.mxf_klv.proofs.Common.{inr, not, IfNone, option_copied, option_to_list, cases_Bool}
+use Rattle.mxf_klv.proofs.Common.{false_from_ne_true, NoteParts, head_parts, note_cmp, note_total}
+use Rattle.mxf_klv.proofs.Common.{note_cmp-IsAntisymmetric, In, same_from_members}
+use Rattle.std.proofs.Common.{Bor}
+use Rattle.std.specs.Option.{IfSome}
 use Rattle.mxf_klv.proofs.Lists.{In-filter, filter_none}
 use Rattle.mxf_catalogue.specs.Content.{IsContent}
 use Rattle.mxf_catalogue.specs.ReducedLaws.{rising-filter}

@@ -1,14 +1,11 @@
 -- Readings that found no packet, by where they began and the end that they were asked up to.
-use Rattle.std.proofs.Common.{◌≡◌, ℕ, List, [], ◌∷◌, Option, None, Some, ap, cond, refl, subst, sym}
+use Rattle.mxf_views.proofs.Common.{◌≡◌, ℕ, List, [], ◌∷◌, Option, None, Some, ap, cond, refl}
+use Rattle.mxf_views.proofs.Common.{subst, sym, is_at, lookup, option_cmp, is_eq, nat_cmp}
+use Rattle.mxf_views.proofs.Common.{ordering_then, Ordering, Less, Equal, Greater, NoteParts}
 use Rattle.std.specs.Prelude.{IfSome}
-use Rattle.std.specs.BTreeMap.{insert_entry, is_at}
-use Rattle.std.specs.Map.{lookup}
-use Rattle.std.specs.Option.{option_cmp}
-use Rattle.std.specs.Ordering.{is_eq, match_ordering, nat_cmp, ordering_then}
-use Rattle.std.specs.declared.cmp.Ordering.{Ordering}
-use Rattle.std.specs.declared.cmp.Ordering.TheVariants.{Less, Equal, Greater}
+use Rattle.std.specs.BTreeMap.{insert_entry}
+use Rattle.std.specs.Ordering.{match_ordering}
 use Rattle.std.proofs.lemmas.Map.Lookups.{CmpEqualImpliesEq, exact_pairs, exact_unsigned}
-use Rattle.mxf_klv.specs.Parts.{NoteParts}
 use Rattle.mxf_hand.specs.Noting.{IsReading}
 use Rattle.mxf_hand.specs.Barren.{AreAllBarren, IsBarren}
 use Rattle.mxf_hand.specs.Hand.{HandBytes, read_bytes}

@@ -1,20 +1,11 @@
 -- Holes and sections of a content of a well-formed file.
-use Rattle.std.proofs.Common.{◌≡◌, ◌∙◌, ◌≤◌, ◌<◌, ◌+◌, ◌-◌, ℕ, List, [], ◌∷◌, ◌++◌, Option, None, Some, ap, arith}
-use Rattle.std.proofs.Common.{inl, inr, max, refl, subst, sym, unwrap_or}
-use Rattle.std.proofs.lemmas.Bool.{cases_lt}
-use Rattle.mxf_klv.specs.Parts.{NoteParts, PacketParts}
-use Rattle.mxf_klv.specs.Kind.{kind_of}
-use Rattle.mxf_klv.specs.Note.{covered_end, end_of, note_of}
-use Rattle.mxf_klv.specs.Piece.{end_after}
-use Rattle.mxf_catalogue.specs.Content.{IsContent}
-use Rattle.mxf_catalogue.proofs.ClearLaws.{clear_same}
-use Rattle.mxf_catalogue.proofs.DisputeLaws.{SharesByte-same_offset}
-use Rattle.mxf_catalogue.proofs.RunBounds.{covers_below_end}
-use Rattle.mxf_views.specs.Partitions.{PartitionParts}
-use Rattle.mxf_views.specs.RandomIndex.{RipAtParts}
-use Rattle.mxf_views.specs.Reading.{partitions_read}
-use Rattle.mxf_views.specs.WellFormed.{EndsWithRandomIndex, IsRandomIndexPack, IsWellFormed}
-use Rattle.mxf_views.specs.declared.random_index.RipView.TheVariants.{One}
+use Rattle.mxf_views.proofs.Common.{◌≡◌, ◌∙◌, ◌≤◌, ◌<◌, ◌+◌, ◌-◌, ℕ, List, [], ◌∷◌, ◌++◌, Option}
+use Rattle.mxf_views.proofs.Common.{None, Some, ap, arith, inl, inr, max, refl, subst, sym}
+use Rattle.mxf_views.proofs.Common.{unwrap_or, cases_lt, NoteParts, PacketParts, kind_of}
+use Rattle.mxf_views.proofs.Common.{covered_end, end_of, note_of, end_after, IsContent, clear_same}
+use Rattle.mxf_views.proofs.Common.{SharesByte-same_offset, covers_below_end, PartitionParts}
+use Rattle.mxf_views.proofs.Common.{RipAtParts, partitions_read, EndsWithRandomIndex}
+use Rattle.mxf_views.proofs.Common.{IsRandomIndexPack, IsWellFormed, One}
 use Rattle.mxf_views.proofs.RandomIndexLaws.{rip_view_iff}
 use Rattle.mxf_places.specs.AtHand.{LiesInRange, nothing_at_hand}
 use Rattle.mxf_places.specs.Held.{IsHeld, end_of_file, held_end, top_of}

@@ -1,44 +1,39 @@
 -- Of a file's bytes only packets of the file are put together.
-use Rattle.std.proofs.Common.{◌≡◌, ◌∙◌, ◌≤◌, ◌<◌, ◌+◌, ◌-◌, ◌&&◌, ◌++◌, ℕ, zero, suc, true, false, not}
-use Rattle.std.proofs.Common.{List, [], ◌∷◌, ◌==◌, Option, None, Some, ap, arith, cond, drop, filter, inl, inr, length}
-use Rattle.std.proofs.Common.{append_assoc, get_or, length-append, map, nat_lt, refl, subst, sym, take, take-append-drop}
-use Rattle.std.proofs.Math.Seq.{take-append_seam}
-use Rattle.std.proofs.lemmas.Bool.{and_parts, cases_lt}
+use Rattle.mxf_views.proofs.Common.{◌≡◌, ◌∙◌, ◌≤◌, ◌<◌, ◌+◌, ◌-◌, ◌&&◌, ◌++◌, ℕ, zero, suc, true}
+use Rattle.mxf_views.proofs.Common.{false, not, List, [], ◌∷◌, ◌==◌, Option, None, Some, ap, arith}
+use Rattle.mxf_views.proofs.Common.{cond, drop, filter, inl, inr, length, append_assoc, get_or}
+use Rattle.mxf_views.proofs.Common.{length-append, map, nat_lt, refl, subst, sym, take}
+use Rattle.mxf_views.proofs.Common.{take-append_seam, and_parts, cases_lt}
+use Rattle.mxf_views.proofs.Common.{length-map-range_with_len, same_Some, slice_get-get_or}
+use Rattle.mxf_views.proofs.Common.{slice_get, range_with_len, option_map_or, LengthParts}
+use Rattle.mxf_views.proofs.Common.{NoteParts, PacketParts, head_parts, packet_parts}
+use Rattle.mxf_views.proofs.Common.{BeginsWithKeyAndLength, covered_end, end_of, head_note, note_of}
+use Rattle.mxf_views.proofs.Common.{size_of, AreLaid, BeginsWithCut, end_after, notes_from, rest_in}
+use Rattle.mxf_views.proofs.Common.{In, spelled_len, In-append, In-filter, In-flat_map, In-map}
+use Rattle.mxf_views.proofs.Common.{notes_from-append, seam, head_at-head, length-spelled}
+use Rattle.mxf_views.proofs.Common.{some_piece, spelled-length_bytes, has_note, IsCover, LiesIn}
+use Rattle.mxf_views.proofs.Common.{has-reduced_union}
+use Rattle.std.proofs.Common.{take-append-drop}
 use Rattle.std.proofs.lemmas.List.{get_or-append_right, get_or_append_left, get_or_past}
-use Rattle.std.proofs.lemmas.List.FromFn.{length-map-range_with_len}
-use Rattle.std.proofs.lemmas.Option.{same_Some, slice_get-get_or}
-use Rattle.std.specs.Prelude.{slice_get}
-use Rattle.std.specs.List.{range_with_len}
-use Rattle.std.specs.Option.{option_map_or}
-use Rattle.mxf_klv.specs.Parts.{LengthParts, NoteParts, PacketParts, head_parts, packet_parts}
-use Rattle.mxf_klv.specs.KeyAndLength.{BeginsWithKeyAndLength}
-use Rattle.mxf_klv.specs.Note.{covered_end, end_of, head_note, note_of}
-use Rattle.mxf_klv.specs.Packet.{size_of}
-use Rattle.mxf_klv.specs.Piece.{AreLaid, BeginsWithCut, BeginsWithNone, end_after, notes_from}
-use Rattle.mxf_klv.specs.PieceReading.{packets_in as packets_of_piece, rest_in}
-use Rattle.mxf_klv.specs.Rising.{In}
+use Rattle.mxf_klv.specs.Piece.{BeginsWithNone}
+use Rattle.mxf_klv.specs.PieceReading.{packets_in as packets_of_piece}
 use Rattle.mxf_klv.proofs.KeyAndLengthLaws.{head_in}
-use Rattle.mxf_klv.proofs.LengthLemmas.{spelled_len}
-use Rattle.mxf_klv.proofs.Lists.{In-append, In-filter, In-flat_map, In-map}
-use Rattle.mxf_klv.proofs.MoreBytes.{notes_from-append, seam}
-use Rattle.mxf_klv.proofs.PieceLaws.{head_at-head, length-spelled, one_piece, some_piece}
-use Rattle.mxf_klv.proofs.RoundTrips.{spelled-length_bytes}
-use Rattle.mxf_catalogue.specs.Content.{has_note}
-use Rattle.mxf_catalogue.specs.Covers.{IsCover}
-use Rattle.mxf_catalogue.specs.Runs.{LiesIn}
-use Rattle.mxf_catalogue.proofs.HeadLaws.{has-reduced_union}
+use Rattle.mxf_klv.proofs.PieceLaws.{one_piece}
 use Rattle.mxf_hand.specs.Noting.{cut_heads, packet_notes}
 use Rattle.mxf_read.proofs.Pieces.{heads_few}
 use Rattle.mxf_places.proofs.AtHandLaws.{has_offsets-says}
 use Rattle.mxf_restore.specs.Plan.{is_head_to, start_of}
 use Rattle.mxf_restore.specs.Sections.{sections_of}
 use Rattle.mxf_restore.specs.declared.section.Section.{Section}
-use Rattle.mxf_hand.specs.File.{AreBytesOfFile, AreOfFile, BeginAtPackets, IsAllAtHand, IsBoundary, IsOfFile}
-use Rattle.mxf_hand.specs.Hand.{HandBytes, is_value_at_hand, packet_of, read_bytes, read_heads, read_packets, read_to}
+use Rattle.mxf_hand.specs.File.{AreBytesOfFile, AreOfFile, BeginAtPackets, IsAllAtHand, IsBoundary}
+use Rattle.mxf_hand.specs.File.{IsOfFile}
+use Rattle.mxf_hand.specs.Hand.{HandBytes, is_value_at_hand, packet_of, read_bytes, read_heads}
+use Rattle.mxf_hand.specs.Hand.{read_packets, read_to}
 use Rattle.mxf_hand.specs.Heads.{fits, fitting, heads_to}
-use Rattle.mxf_hand.specs.Rounds.{heads_taken, is_taken, made_in, packets_in, put_together, read_heads_in, read_heads_of}
-use Rattle.mxf_hand.specs.Rounds.{read_in, round, rounds, taken_in}
-use Rattle.mxf_hand.specs.Sections.{ends_within, from_of, heads_of, made_by, made_of, packets_of, read_from}
+use Rattle.mxf_hand.specs.Rounds.{heads_taken, is_taken, made_in, packets_in, put_together}
+use Rattle.mxf_hand.specs.Rounds.{read_heads_in, read_heads_of, read_in, round, rounds, taken_in}
+use Rattle.mxf_hand.specs.Sections.{ends_within, from_of, heads_of, made_by, made_of, packets_of}
+use Rattle.mxf_hand.specs.Sections.{read_from}
 use Rattle.mxf_hand.specs.declared.found.CutHead.{CutHead}
 use Rattle.mxf_hand.proofs.ClearLaws.{cut_head}
 use Rattle.mxf_hand.proofs.HandLaws.{at_fits, read_lies}

@@ -1,17 +1,10 @@
 -- What is found of sections.
-use Rattle.std.proofs.Common.{◌≡◌, ◌∙◌, ◌↔◌, ◌⊎◌, ◌≤◌, ◌+◌, ℕ, List, [], ◌∷◌, ◌++◌, ap, arith, inl, inr, map, refl}
-use Rattle.std.proofs.Common.{append-nil, append_assoc, subst, sym}
-use Rattle.std.proofs.lemmas.List.{map-append}
-use Rattle.mxf_klv.specs.Parts.{NoteParts}
-use Rattle.mxf_klv.specs.Rising.{In}
-use Rattle.mxf_klv.proofs.Lists.{In-append}
-use Rattle.mxf_catalogue.specs.Content.{reduced_union, reduced_with}
-use Rattle.mxf_catalogue.specs.Covers.{LiesIn-with_run, with_run}
-use Rattle.mxf_catalogue.specs.Runs.{LiesIn, run}
-use Rattle.mxf_catalogue.specs.declared.run.Run.{Run}
+use Rattle.mxf_views.proofs.Common.{◌≡◌, ◌∙◌, ◌↔◌, ◌⊎◌, ◌≤◌, ◌+◌, ℕ, List, [], ◌∷◌, ◌++◌, ap, arith}
+use Rattle.mxf_views.proofs.Common.{inl, inr, map, refl, append-nil, append_assoc, subst, sym}
+use Rattle.mxf_views.proofs.Common.{map-append, NoteParts, In, In-append, reduced_union}
+use Rattle.mxf_views.proofs.Common.{reduced_with, LiesIn-with_run, with_run, LiesIn, run, Run, ◌<◌}
+use Rattle.mxf_views.proofs.Common.{drop, get_or, length, drop_all}
 use Rattle.mxf_read.proofs.Taking.{union_append}
-use Rattle.std.proofs.Common.{◌<◌, drop, get_or, length}
-use Rattle.std.proofs.lemmas.List.{drop_all}
 use Rattle.mxf_places.proofs.LoopLaws.{appended-step, nothing_left}
 use Rattle.mxf_restore.specs.declared.section.Section.{Section}
 use Rattle.mxf_hand.specs.Finding.{Finds, Grows, GrowsBySection, IsStart, read_notes}

@@ -1,18 +1,12 @@
 -- Bytes at hand of a head's key and length, run after run.
-use Rattle.std.proofs.Common.{◌≡◌, ◌≢◌, false, ◌∙◌, ◌≤◌, ◌<◌, ◌+◌, ◌-◌, ℕ, List, Some}
-use Rattle.std.proofs.Common.{ap, arith, filter, get_or, length, length-append, nat_lt, subst, sym}
-use Rattle.std.proofs.lemmas.Bool.{and_from, and_parts, false_from_ne_true, lt-ltb, ltb-true}
-use Rattle.std.proofs.lemmas.List.FromFn.{get_or-map-range_with_len, length-map-range_with_len}
-use Rattle.mxf_klv.specs.Parts.{NoteParts}
-use Rattle.mxf_klv.specs.Note.{IsNote}
-use Rattle.mxf_klv.specs.Ber.{length_bytes}
-use Rattle.mxf_klv.specs.Rising.{In}
-use Rattle.mxf_klv.proofs.LengthLemmas.{spelled_len}
-use Rattle.mxf_klv.proofs.Lists.{In-filter}
-use Rattle.mxf_klv.proofs.RoundTrips.{length_bytes-spelled}
-use Rattle.mxf_catalogue.specs.declared.run.Run.{Run}
-use Rattle.mxf_catalogue.specs.Covers.{is_between}
-use Rattle.mxf_catalogue.specs.Runs.{LiesIn}
+use Rattle.mxf_views.proofs.Common.{◌≡◌, ◌≢◌, false, ◌∙◌, ◌≤◌, ◌<◌, ◌+◌, ◌-◌, ℕ, List, Some, ap}
+use Rattle.mxf_views.proofs.Common.{arith, filter, get_or, length, length-append, nat_lt, subst}
+use Rattle.mxf_views.proofs.Common.{sym, and_from, and_parts, false_from_ne_true}
+use Rattle.mxf_views.proofs.Common.{length-map-range_with_len, NoteParts, IsNote, length_bytes, In}
+use Rattle.mxf_views.proofs.Common.{spelled_len, In-filter, length_bytes-spelled, Run, is_between}
+use Rattle.mxf_views.proofs.Common.{LiesIn}
+use Rattle.std.proofs.lemmas.Bool.{lt-ltb, ltb-true}
+use Rattle.std.proofs.lemmas.List.FromFn.{get_or-map-range_with_len}
 use Rattle.mxf_hand.specs.Given.{bytes_between}
 use Rattle.mxf_hand.specs.Hand.{HandBytes}
 use Rattle.mxf_hand.specs.Heads.{fits, key_and_length}

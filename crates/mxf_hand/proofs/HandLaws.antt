@@ -1,26 +1,20 @@
 -- Runs of bytes at hand.
-use Rattle.std.proofs.Common.{◌≡◌, ◌∙◌, ◌≤◌, ◌<◌, ◌+◌, ◌-◌, ◌&&◌, ◌||◌, ◌==◌, ℕ, zero, suc, Bool, true, false, List}
-use Rattle.std.proofs.Common.{[], ◌∷◌, Option, None, Some, ap, arith, cond, filter, find, get_or, inl, inr, nat_le}
-use Rattle.std.proofs.Common.{nat_lt, not, refl, subst, sym}
-use Rattle.std.proofs.lemmas.Bool.{le-leb, leb-true, lt-leb, ltb-true, ltb-false}
-use Rattle.std.specs.List.{range_with_len}
-use Rattle.std.specs.Option.{option_and_then, option_map_or}
-use Rattle.mxf_klv.specs.Parts.{NoteParts}
-use Rattle.mxf_klv.specs.Rising.{In}
-use Rattle.mxf_klv.proofs.Lists.{In-list_all, found-In, list_all-In}
-use Rattle.mxf_klv.proofs.Tests.{equals_itself}
-use Rattle.mxf_catalogue.specs.declared.run.Run.{Run}
-use Rattle.mxf_catalogue.specs.Covers.{is_between}
-use Rattle.mxf_catalogue.specs.Runs.{LiesIn}
+use Rattle.mxf_views.proofs.Common.{◌≡◌, ◌∙◌, ◌≤◌, ◌<◌, ◌+◌, ◌-◌, ◌&&◌, ◌||◌, ◌==◌, ℕ, zero, suc}
+use Rattle.mxf_views.proofs.Common.{Bool, true, false, List, [], ◌∷◌, Option, None, Some, ap, arith}
+use Rattle.mxf_views.proofs.Common.{cond, filter, find, get_or, inl, inr, nat_le, nat_lt, not, refl}
+use Rattle.mxf_views.proofs.Common.{subst, sym, le-leb, leb-true, lt-leb, ltb-false, range_with_len}
+use Rattle.mxf_views.proofs.Common.{option_map_or, NoteParts, In, In-list_all, found-In}
+use Rattle.mxf_views.proofs.Common.{list_all-In, equals_itself, Run, is_between, LiesIn}
+use Rattle.mxf_views.proofs.Common.{same_covers}
+use Rattle.std.proofs.lemmas.Bool.{ltb-true}
+use Rattle.std.specs.Option.{option_and_then}
 use Rattle.mxf_places.specs.AtHand.{has_offset, up_to_bound}
-use Rattle.mxf_places.proofs.AtHandLaws.{has_offset-says}
-use Rattle.mxf_catalogue.proofs.CoverLaws.{same_covers}
+use Rattle.mxf_places.proofs.AtHandLaws.{has_offset-says, bound_le}
 use Rattle.mxf_hand.specs.Given.{AreAtHand, AreTold, SourceParts}
 use Rattle.mxf_hand.specs.Places.{GivenParts}
 use Rattle.mxf_hand.specs.declared.given.Extent.{Extent}
 use Rattle.mxf_hand.specs.Hand.{AreOf, AreToldIn, HandBytes, HandParts, read_to, run_end}
 use Rattle.mxf_hand.specs.Heads.{fits, key_and_length}
-use Rattle.mxf_places.proofs.AtHandLaws.{bound_le}
 
 -- The first run that ends above an offset is the first of those that lie behind it.
 pub first_above : (runs left : List Run) (x : ℕ) (r : Run) → filter (is_between x None) runs ≡ r ∷ left

@@ -1,23 +1,15 @@
 -- Heads and where their key and length end.
-use Rattle.std.proofs.Common.{◌≡◌, ◌∙◌, ◌≤◌, ◌<◌, ◌+◌, ◌-◌, ◌&&◌, ◌==◌, ℕ, Bool, true, false, List, [], ◌∷◌, Option}
-use Rattle.std.proofs.Common.{None, Some, ap, arith, cond, filter, find, inl, inr, map, nat_le, nat_lt, not, refl, subst, sym}
-use Rattle.std.proofs.lemmas.Bool.{and_from, le-leb, lt-ltb}
-use Rattle.std.specs.Prelude.{slice_get}
-use Rattle.std.specs.Option.{option_map_or}
-use Rattle.mxf_klv.specs.Parts.{NoteParts}
-use Rattle.mxf_klv.specs.Note.{IsNote, covered_end}
-use Rattle.mxf_klv.specs.Rising.{In}
-use Rattle.mxf_klv.proofs.Lists.{In-filter, In-map, all-In}
-use Rattle.mxf_klv.proofs.Tests.{equals_itself}
+use Rattle.mxf_views.proofs.Common.{◌≡◌, ◌∙◌, ◌≤◌, ◌<◌, ◌+◌, ◌-◌, ◌&&◌, ◌==◌, ℕ, Bool, true, false}
+use Rattle.mxf_views.proofs.Common.{List, [], ◌∷◌, Option, None, Some, ap, arith, cond, filter}
+use Rattle.mxf_views.proofs.Common.{find, inl, inr, map, nat_le, nat_lt, not, refl, subst, sym}
+use Rattle.mxf_views.proofs.Common.{and_from, le-leb, slice_get, option_map_or, NoteParts, IsNote}
+use Rattle.mxf_views.proofs.Common.{covered_end, In, In-filter, In-map, all-In, equals_itself, ◌++◌}
+use Rattle.mxf_views.proofs.Common.{append-nil, append_assoc, drop, get_or, length, length-map}
+use Rattle.mxf_views.proofs.Common.{at_drop_all, at_drop_more, IsNonDecreasingBy, IsCatalogue}
+use Rattle.mxf_views.proofs.Common.{IsContent-filter, offsets_rise}
+use Rattle.std.proofs.lemmas.Bool.{lt-ltb}
 use Rattle.mxf_restore.specs.Plan.{is_head_to, start_of}
-use Rattle.std.proofs.Common.{◌++◌, append-nil, append_assoc, drop, get_or, length}
-use Rattle.std.proofs.lemmas.List.{length-map}
-use Rattle.std.proofs.lemmas.List.{at_drop_all, at_drop_more}
 use Rattle.std.proofs.Math.ListN.{get_or-map}
-use Rattle.std.specs.List.Sorted.{IsNonDecreasingBy}
-use Rattle.mxf_catalogue.specs.Content.{IsCatalogue}
-use Rattle.mxf_catalogue.proofs.DisputeLaws.{IsContent-filter}
-use Rattle.mxf_catalogue.proofs.Ranges.{offsets_rise}
 use Rattle.mxf_hand.specs.Heads.{AreHeads, heads_to}
 use Rattle.mxf_hand.specs.declared.head.HeadNote.{HeadNote}
 

@@ -1,9 +1,8 @@
 -- What was put together, as what calls leave.
-use Rattle.std.proofs.Common.{◌≡◌, ◌∙◌, ℕ, zero, suc, List, [], ◌∷◌, ap, inl, inr, refl, sym}
-use Rattle.mxf_klv.specs.Parts.{NoteParts}
-use Rattle.mxf_catalogue.specs.Content.{AreReduced, IsContent, has_note, reduced_union}
-use Rattle.mxf_catalogue.specs.History.{Add, Hands, History, content}
-use Rattle.mxf_catalogue.proofs.HeadLaws.{AreReduced-reduced_union, IsContent-reduced_union, has-reduced_union, one_reduced}
+use Rattle.mxf_views.proofs.Common.{◌≡◌, ◌∙◌, ℕ, zero, suc, List, [], ◌∷◌, ap, inl, inr, refl, sym}
+use Rattle.mxf_views.proofs.Common.{NoteParts, AreReduced, IsContent, has_note, reduced_union, Add}
+use Rattle.mxf_views.proofs.Common.{Hands, History, content, AreReduced-reduced_union}
+use Rattle.mxf_views.proofs.Common.{IsContent-reduced_union, has-reduced_union, one_reduced}
 use Rattle.mxf_restore.specs.Sections.{sections_of}
 use Rattle.mxf_hand.specs.Hand.{HandBytes}
 use Rattle.mxf_hand.specs.Rounds.{put_together, round, rounds, taken_in}

@@ -1,21 +1,12 @@
 -- Where all packets of a file are held, a round changes nothing.
-use Rattle.std.proofs.Common.{◌≡◌, ◌∙◌, ◌≤◌, ◌-◌, ◌&&◌, ◌++◌, ◌==◌, ℕ, not}
-use Rattle.std.proofs.Common.{List, [], ◌∷◌, Option, Some, ap, arith, filter, flat_map, inl}
-use Rattle.std.proofs.Common.{inr, map, refl}
-use Rattle.std.proofs.lemmas.Bool.{and_parts, cases_lt}
-use Rattle.std.proofs.lemmas.Option.{slice_get_within}
-use Rattle.std.specs.List.{range_with_len}
-use Rattle.std.specs.Option.{option_map_or}
-use Rattle.mxf_klv.specs.Parts.{NoteParts, PacketParts}
-use Rattle.mxf_klv.specs.Note.{covered_end}
-use Rattle.mxf_klv.specs.Piece.{end_after, notes_from}
-use Rattle.mxf_klv.specs.PieceReading.{head_at, heads_at, packets_in as packets_of_piece}
-use Rattle.mxf_klv.specs.Rising.{In}
-use Rattle.mxf_klv.proofs.Lists.{filter_none, find-none}
-use Rattle.mxf_klv.proofs.PieceLaws.{none_at_end, packets_in-none, rest_in-none}
-use Rattle.mxf_catalogue.specs.Content.{reduced_union}
-use Rattle.mxf_catalogue.proofs.ClearLaws.{is_whole}
-use Rattle.mxf_catalogue.proofs.LaidNotes.{IsContent-laid}
+use Rattle.mxf_views.proofs.Common.{◌≡◌, ◌∙◌, ◌≤◌, ◌-◌, ◌&&◌, ◌++◌, ◌==◌, ℕ, not, List, [], ◌∷◌}
+use Rattle.mxf_views.proofs.Common.{Option, Some, ap, arith, filter, flat_map, inl, inr, map, refl}
+use Rattle.mxf_views.proofs.Common.{and_parts, cases_lt, slice_get_within, range_with_len}
+use Rattle.mxf_views.proofs.Common.{option_map_or, NoteParts, PacketParts, covered_end, end_after}
+use Rattle.mxf_views.proofs.Common.{notes_from, head_at, heads_at, In, filter_none, find-none}
+use Rattle.mxf_views.proofs.Common.{none_at_end, packets_in-none, rest_in-none, reduced_union}
+use Rattle.mxf_views.proofs.Common.{is_whole, IsContent-laid}
+use Rattle.mxf_klv.specs.PieceReading.{packets_in as packets_of_piece}
 use Rattle.mxf_hand.specs.Noting.{cut_heads, packet_notes}
 use Rattle.mxf_restore.specs.Plan.{is_head_to, start_of}
 use Rattle.mxf_restore.specs.Sections.{AreSections, sections_of}
@@ -24,8 +15,7 @@ use Rattle.mxf_restore.proofs.SectionCover.{are_sections}
 use Rattle.mxf_hand.specs.File.{AreBytesOfFile}
 use Rattle.mxf_hand.specs.Hand.{HandBytes, read_bytes, read_heads, read_packets, read_to}
 use Rattle.mxf_hand.specs.Heads.{fits, fitting, heads_to}
-use Rattle.mxf_hand.specs.Rounds.{is_taken, read_heads_of}
-use Rattle.mxf_hand.specs.Rounds.{read_in, round, taken_in}
+use Rattle.mxf_hand.specs.Rounds.{is_taken, read_heads_of, read_in, round, taken_in}
 use Rattle.mxf_hand.specs.Sections.{from_of, made_by, made_of, packets_of, read_from}
 use Rattle.mxf_hand.specs.declared.found.CutHead.{CutHead}
 use Rattle.mxf_hand.proofs.HandLaws.{read_lies}

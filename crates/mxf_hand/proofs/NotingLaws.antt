@@ -1,15 +1,13 @@
 -- What bytes that were read make: the packet of a head, and the reading of a piece.
-use Rattle.std.proofs.Common.{◌≡◌, ◌+◌, ◌++◌, ◌∙◌, ℕ, Bool, List, Option, Some, false, sym, ap, subst, arith, length}
-use Rattle.std.proofs.Common.{length-append}
+use Rattle.mxf_views.proofs.Common.{◌≡◌, ◌+◌, ◌++◌, ◌∙◌, ℕ, Bool, List, Option, Some, false, sym}
+use Rattle.mxf_views.proofs.Common.{ap, subst, arith, length, length-append, CanSpell, LengthParts}
+use Rattle.mxf_views.proofs.Common.{NoteParts, packet_parts, IsNote, covered_end, end_of, note_of}
+use Rattle.mxf_views.proofs.Common.{heads_at, rest_in}
 use Rattle.std.specs.Prelude.{if◌then◌else◌}
 use Rattle.std.specs.Option.{SomeIff}
-use Rattle.mxf_klv.specs.Parts.{CanSpell, LengthParts, NoteParts, packet_parts}
-use Rattle.mxf_klv.specs.Note.{IsNote, covered_end, end_of, note_of}
-use Rattle.mxf_klv.specs.PieceReading.{heads_at, rest_in}
 use Rattle.mxf_read.specs.Coming.{HasTaken, IsSamePacket}
-use Rattle.mxf_read.specs.Feeding.{Tells, begun_heads}
+use Rattle.mxf_read.specs.Feeding.{Tells, begun_heads, option_list}
 use Rattle.mxf_hand.specs.Noting.{IsReading}
-use Rattle.mxf_read.specs.Feeding.{option_list}
 use Rattle.mxf_read.specs.declared.coming.ComingValue.{ComingValue}
 use Rattle.mxf_read.specs.declared.piece.Piece.{Piece}
 

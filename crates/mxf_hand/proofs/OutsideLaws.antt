@@ -1,16 +1,13 @@
 -- The offsets of runs that aren't in others.
-use Rattle.std.proofs.Common.{◌≡◌, ◌↔◌, ◌⊎◌, ◌<◌, ◌≤◌, ◌+◌, ℕ, List, [], ◌∷◌, Some, true, false}
-use Rattle.std.proofs.Common.{filter, if◌then◌else◌, max, min, nat_lt}
-use Rattle.std.proofs.Common.{refl, inl, inr, arith, lt-ltb, ltb-false, ltb-true}
-use Rattle.std.proofs.lemmas.Bool.{and_from, cases_lt}
-use Rattle.std.specs.List.{AllByRecursion}
-use Rattle.mxf_klv.specs.Note.{greatest_end}
-use Rattle.mxf_klv.proofs.Lists.{In-filter}
-use Rattle.mxf_catalogue.specs.declared.run.Run.{Run}
-use Rattle.mxf_catalogue.specs.Covers.{IsCover, IsRun, LiesIn-first, LiesIn-with_run, is_between, with_run}
-use Rattle.mxf_catalogue.specs.Runs.{AreMaximal, LiesIn, run}
-use Rattle.mxf_catalogue.proofs.CoverLaws.{IsCover-with_run}
-use Rattle.mxf_catalogue.proofs.RunLaws.{AreMaximal-lower, at_or_above}
+use Rattle.mxf_views.proofs.Common.{◌≡◌, ◌↔◌, ◌⊎◌, ◌<◌, ◌≤◌, ◌+◌, ℕ, List, [], ◌∷◌, Some, true}
+use Rattle.mxf_views.proofs.Common.{false, filter, if◌then◌else◌, max, min, nat_lt, refl, inl, inr}
+use Rattle.mxf_views.proofs.Common.{arith, lt-ltb, ltb-true, and_from, cases_lt, AllByRecursion}
+use Rattle.mxf_views.proofs.Common.{greatest_end, In-filter, Run, IsCover, IsRun, LiesIn-with_run}
+use Rattle.mxf_views.proofs.Common.{is_between, with_run, AreMaximal, LiesIn, run, IsCover-with_run}
+use Rattle.mxf_views.proofs.Common.{AreMaximal-lower}
+use Rattle.std.proofs.Common.{ltb-false}
+use Rattle.mxf_catalogue.specs.Covers.{LiesIn-first}
+use Rattle.mxf_catalogue.proofs.RunLaws.{at_or_above}
 use Rattle.mxf_hand.specs.Outside.{with_all_outside, with_outside, with_some}
 
 -- ---- offsets from a start up to an end

@@ -1,16 +1,11 @@
 -- Where the packets of a file lie, and what notes of the file that share a byte are.
-use Rattle.std.proofs.Common.{◌≡◌, ◌∙◌, ◌⊎◌, ◌≤◌, ◌<◌, ◌+◌, ◌++◌, ℕ, List, [], ◌∷◌, ap, arith, drop, inl, inr, length}
-use Rattle.std.proofs.Common.{false, length-append, refl, subst, sym, take, take-append-drop, true}
-use Rattle.std.proofs.lemmas.List.{take-append-le, take_at}
-use Rattle.mxf_klv.specs.Parts.{NoteParts, PacketParts}
-use Rattle.mxf_klv.specs.Note.{end_of, head_note, note_of}
-use Rattle.mxf_klv.specs.Packet.{size_of}
-use Rattle.mxf_klv.specs.Piece.{AreLaid, end_after, notes_from}
-use Rattle.mxf_klv.specs.Rising.{In}
-use Rattle.mxf_klv.proofs.Lists.{In-append}
-use Rattle.mxf_klv.proofs.MoreBytes.{notes_from-append}
-use Rattle.mxf_klv.proofs.PieceLaws.{length-spelled}
-use Rattle.mxf_catalogue.proofs.ClearLaws.{after, apart, is_whole}
+use Rattle.mxf_views.proofs.Common.{◌≡◌, ◌∙◌, ◌⊎◌, ◌≤◌, ◌<◌, ◌+◌, ◌++◌, ℕ, List, [], ◌∷◌, ap, arith}
+use Rattle.mxf_views.proofs.Common.{drop, inl, inr, length, false, length-append, refl, subst, sym}
+use Rattle.mxf_views.proofs.Common.{take, true, take-append-le, take_at, NoteParts, PacketParts}
+use Rattle.mxf_views.proofs.Common.{end_of, head_note, note_of, size_of, AreLaid, end_after}
+use Rattle.mxf_views.proofs.Common.{notes_from, In, In-append, notes_from-append, length-spelled}
+use Rattle.mxf_views.proofs.Common.{after, apart, is_whole}
+use Rattle.std.proofs.Common.{take-append-drop}
 use Rattle.mxf_places.proofs.LaidPlaces.{ends_below}
 use Rattle.mxf_hand.specs.File.{IsBoundary, IsOfFile}
 

@@ -1,21 +1,14 @@
 -- The places and overlaps of extents: what they are of spans that rise by their starts.
-use Rattle.std.proofs.Common.{◌≡◌, ◌∙◌, ◌↔◌, ◌⊎◌, ◌<◌, ◌≤◌, ◌+◌, ℕ, zero, suc, List, [], ◌∷◌, ◌++◌, Some, true, false}
-use Rattle.std.proofs.Common.{if◌then◌else◌, length, map, max, min, nat_lt}
-use Rattle.std.proofs.Common.{refl, sym, ap, subst, inl, inr, arith, lt-ltb, ltb-true}
-use Rattle.std.proofs.lemmas.Bool.{cases_lt}
-use Rattle.std.proofs.lemmas.List.Sorted.{Contains-permutation, IsPermutation-sym}
-use Rattle.std.proofs.lemmas.Option.{same_Some}
-use Rattle.std.specs.Prelude.{slice_get}
-use Rattle.std.specs.List.Sorted.{IsNonDecreasingBy}
-use Rattle.mxf_klv.specs.Rising.{In}
-use Rattle.mxf_klv.proofs.Lists.{Contains-from_In, In-append, In-from_Contains, In-map}
-use Rattle.mxf_catalogue.specs.declared.run.Run.{Run}
-use Rattle.mxf_catalogue.specs.Covers.{IsCover, IsRun, union_of_runs, union_of_runs-IsUnion, with_run}
-use Rattle.mxf_catalogue.specs.Runs.{LiesIn}
-use Rattle.mxf_catalogue.proofs.CoverLaws.{IsCover-with_run}
-use Rattle.mxf_hand.specs.Places.{AreApart, ArePlaces, AreSpans, GivenParts, IsPlaceOf, LiesInExtent, LiesInPlace}
-use Rattle.mxf_hand.specs.Places.{overlaps_below}
-use Rattle.mxf_hand.specs.Places.{place, places_above, run_of, some_place, spans_from}
+use Rattle.mxf_views.proofs.Common.{◌≡◌, ◌∙◌, ◌↔◌, ◌⊎◌, ◌<◌, ◌≤◌, ◌+◌, ℕ, zero, suc, List, [], ◌∷◌}
+use Rattle.mxf_views.proofs.Common.{◌++◌, Some, true, false, if◌then◌else◌, length, map, max, min}
+use Rattle.mxf_views.proofs.Common.{nat_lt, refl, sym, ap, subst, inl, inr, arith, lt-ltb, ltb-true}
+use Rattle.mxf_views.proofs.Common.{cases_lt, Contains-permutation, IsPermutation-sym, same_Some}
+use Rattle.mxf_views.proofs.Common.{slice_get, IsNonDecreasingBy, In, Contains-from_In, In-append}
+use Rattle.mxf_views.proofs.Common.{In-from_Contains, In-map, Run, IsCover, IsRun, union_of_runs}
+use Rattle.mxf_views.proofs.Common.{union_of_runs-IsUnion, with_run, LiesIn, IsCover-with_run}
+use Rattle.mxf_hand.specs.Places.{AreApart, ArePlaces, AreSpans, GivenParts, IsPlaceOf}
+use Rattle.mxf_hand.specs.Places.{LiesInExtent, LiesInPlace, overlaps_below, place, places_above}
+use Rattle.mxf_hand.specs.Places.{run_of, some_place, spans_from}
 use Rattle.mxf_hand.specs.declared.given.Extent.{Extent}
 use Rattle.mxf_hand.specs.declared.given.Place.{Place}
 

@@ -1,31 +1,26 @@
 -- For which stops of pieces what is held makes up.
-use Rattle.std.proofs.Common.{◌≡◌, ◌↔◌, ◌∙◌, ℕ, ◌+◌, ◌<◌, ◌≤◌, ◌==◌, ◌&&◌, Bool, true, false, IsTrue, not, nat_lt, List}
-use Rattle.std.proofs.Common.{Option, Some, None, arith, ap, eq-eqb, eqb-true, find, inl, inr, refl, subst, sym, lt-ltb}
-use Rattle.std.proofs.Common.{[], ◌∷◌, count_by, filter, length, ltb-true, map, slice_get}
-use Rattle.std.specs.List.Sorted.{IsNonDecreasingBy}
-use Rattle.std.proofs.lemmas.List.{get_or-map, length-map}
-use Rattle.std.specs.List.{range_with_len}
-use Rattle.std.specs.Option.{option_map_or}
-use Rattle.std.proofs.lemmas.Bool.{and_from, and_parts}
-use Rattle.mxf_klv.proofs.Lists.{In-filter, In-map, found-In, list_any-In, none_found}
-use Rattle.mxf_klv.proofs.Counts.{range-all, range-full}
-use Rattle.mxf_klv.proofs.Tests.{same_bool}
-use Rattle.mxf_klv.specs.Parts.{NoteParts}
-use Rattle.mxf_klv.specs.Rising.{In}
-use Rattle.mxf_klv.specs.declared.piece.Stop.{Stop}
-use Rattle.mxf_klv.specs.declared.piece.Stop.TheVariants as stops
-use Rattle.mxf_catalogue.specs.Content.{IsContent}
-use Rattle.mxf_catalogue.specs.Disputes.{DisputedParts, disputed_notes, is_disputed, undisputed_notes, whole_notes}
-use Rattle.mxf_catalogue.proofs.Ranges.{offsets_rise}
-use Rattle.mxf_catalogue.proofs.DisputeLaws.{IsContent-disputed_notes, IsContent-filter}
-use Rattle.mxf_catalogue.proofs.DisputeLaws.{In-undisputed_notes, SharesByte-same_offset, notes-disputed_notes}
-use Rattle.mxf_catalogue.proofs.HeadLaws.{same_note}
+use Rattle.mxf_views.proofs.Common.{◌≡◌, ◌↔◌, ◌∙◌, ℕ, ◌+◌, ◌<◌, ◌≤◌, ◌==◌, ◌&&◌, Bool, true, false}
+use Rattle.mxf_views.proofs.Common.{IsTrue, not, nat_lt, List, Option, Some, None, arith, ap}
+use Rattle.mxf_views.proofs.Common.{eq-eqb, eqb-true, find, inl, inr, refl, subst, sym, lt-ltb, []}
+use Rattle.mxf_views.proofs.Common.{◌∷◌, count_by, filter, length, ltb-true, map, IsNonDecreasingBy}
+use Rattle.mxf_views.proofs.Common.{get_or-map, length-map, range_with_len, option_map_or, and_from}
+use Rattle.mxf_views.proofs.Common.{and_parts, In-filter, In-map, found-In, list_any-In, none_found}
+use Rattle.mxf_views.proofs.Common.{range-all, range-full, same_bool, NoteParts, In, Stop}
+use Rattle.mxf_views.proofs.Common.{IsContent, DisputedParts, disputed_notes, is_disputed}
+use Rattle.mxf_views.proofs.Common.{undisputed_notes, offsets_rise, IsContent-filter}
+use Rattle.mxf_views.proofs.Common.{In-undisputed_notes, SharesByte-same_offset}
+use Rattle.mxf_views.proofs.Common.{notes-disputed_notes, same_note}
+use Rattle.std.proofs.Common.{slice_get}
+use Rattle.mxf_catalogue.specs.Disputes.{whole_notes}
+use Rattle.mxf_catalogue.proofs.DisputeLaws.{IsContent-disputed_notes}
 use Rattle.mxf_places.specs.Held.{IsHeld, is_held}
 use Rattle.mxf_places.proofs.HeldLaws.{is_held-says}
 use Rattle.mxf_read.specs.declared.gathering.report.PieceReport.{PieceReport}
 use Rattle.mxf_hand.specs.declared.given.Extent.{Extent}
-use Rattle.mxf_hand.specs.Settling.{BeginsWhole, IsHeldExtent, IsWholeStop, MakesUpFor, begins_whole, is_all_held}
-use Rattle.mxf_hand.specs.Settling.{disputed_starts, is_whole_stop, makes_up_for}
+use Rattle.mxf_hand.specs.Settling.{BeginsWhole, IsHeldExtent, IsWholeStop, MakesUpFor}
+use Rattle.mxf_hand.specs.Settling.{begins_whole, is_all_held, disputed_starts, is_whole_stop}
+use Rattle.mxf_hand.specs.Settling.{makes_up_for}
+use Rattle.mxf_klv.specs.declared.piece.Stop.TheVariants as stops
 
 begins-says : (notes : List NoteParts) (x : ℕ) → IsTrue (begins_whole notes x) ↔ BeginsWhole notes x
 begins-says notes x = grind (arith, list_any-In, and_parts, eqb-true, and_from, eq-eqb)

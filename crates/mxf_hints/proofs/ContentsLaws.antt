@@ -1,8 +1,6 @@
 -- What sources hold, each by itself, one source after another.
-use Rattle.std.proofs.Common.{◌≡◌, ◌∙◌, ◌+◌, ◌++◌, ℕ, Option, List, [], ◌∷◌, ap, append-nil, arith, length, map, refl}
-use Rattle.std.proofs.Common.{subst, sym}
-use Rattle.mxf_klv.specs.Parts.{NoteParts}
-use Rattle.mxf_views.specs.Headline.{IsTheRun}
+use Rattle.mxf_views.proofs.Common.{◌≡◌, ◌∙◌, ◌+◌, ◌++◌, ℕ, Option, List, [], ◌∷◌, ap, append-nil}
+use Rattle.mxf_views.proofs.Common.{arith, length, map, refl, subst, sym, NoteParts, IsTheRun}
 use Rattle.mxf_read.specs.declared.gathering.part.Part.{Part}
 use Rattle.mxf_read.specs.declared.gathering.part.Part.TheVariants.{Piece, Range, Saved}
 use Rattle.mxf_read.specs.declared.gathering.report.PieceReport.{PieceReport}

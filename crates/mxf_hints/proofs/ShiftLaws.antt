@@ -1,9 +1,7 @@
 -- The shifts of partitions, and of contents one after another.
-use Rattle.std.proofs.Common.{◌≡◌, ◌++◌, ◌<◌, ℕ, Option, None, Some, MatchOption, List, [], ◌∷◌, arith, map}
-use Rattle.std.proofs.Common.{subst, sym}
-use Rattle.std.specs.List.{list_all}
-use Rattle.mxf_klv.specs.Parts.{NoteParts}
-use Rattle.mxf_views.specs.Partitions.{PartitionParts, in_numbers, partitions_of}
+use Rattle.mxf_views.proofs.Common.{◌≡◌, ◌++◌, ◌<◌, ℕ, Option, None, Some, MatchOption, List, []}
+use Rattle.mxf_views.proofs.Common.{◌∷◌, arith, map, subst, sym, list_all, NoteParts}
+use Rattle.mxf_views.proofs.Common.{PartitionParts, in_numbers, partitions_of}
 use Rattle.mxf_views.proofs.NumbersLaws.{all_mapped}
 use Rattle.mxf_hints.specs.declared.shift.Shift.{Shift}
 use Rattle.mxf_hints.specs.declared.shift.Shift.TheVariants.{High, Low}

@@ -1,10 +1,7 @@
 -- How many elements of a list pass a test, and how many numbers of a range.
-use Rattle.std.proofs.Common.{◌≡◌, ℕ, zero, suc, ◌+◌, ◌<◌, ◌≤◌, Bool, true, false, cond, List, [], ◌∷◌}
-use Rattle.std.proofs.Common.{count_by}
-use Rattle.std.proofs.Common.{refl, ap, inr, arith}
+use Rattle.mxf_klv.proofs.Common.{◌≡◌, ℕ, zero, suc, ◌+◌, ◌<◌, ◌≤◌, Bool, true, false, cond, List}
+use Rattle.mxf_klv.proofs.Common.{[], ◌∷◌, count_by, refl, ap, inr, arith, sum_by-cons, In}
 use Rattle.std.specs.List.{range_with_len}
-use Rattle.std.proofs.lemmas.List.Sums.{sum_by-cons}
-use Rattle.mxf_klv.specs.Rising.{In}
 
 abbrev pub tally : Bool → ℕ
 tally b = cond b 1 0

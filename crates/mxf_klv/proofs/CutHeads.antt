@@ -1,18 +1,15 @@
 -- The head of a packet that is cut.
-use Rattle.std.proofs.Common.{◌≡◌, ◌↔◌, ℕ, ◌+◌, ◌<◌, ◌≤◌, true, false, cond, nat_lt, List, [], ◌∷◌}
-use Rattle.std.specs.Prelude.{IfSome, IfNone}
-use Rattle.std.proofs.Common.{length, take, drop, Option, None, Some, refl, sym, ap, subst, ◌∙◌, arith, inl, inr}
-use Rattle.std.specs.Option.{option_map_or}
-use Rattle.std.proofs.lemmas.Bool.{leb-true, ltb-true, le-leb, lt-leb, le-ltb, lt-ltb, and_parts, and_from, cond-true}
-use Rattle.std.proofs.lemmas.Bool.{cond-false, and_left, and_right}
-use Rattle.std.proofs.lemmas.List.{take_at}
-use Rattle.mxf_klv.specs.Parts.{LengthParts, NoteParts, head_parts}
-use Rattle.mxf_klv.specs.Note.{greatest_end}
-use Rattle.mxf_klv.specs.KeyAndLength.{BeginsWithKeyAndLength, HasNoKeyAndLength}
+use Rattle.mxf_klv.proofs.Common.{◌≡◌, ◌↔◌, ℕ, ◌+◌, ◌<◌, ◌≤◌, true, false, cond, nat_lt, List, []}
+use Rattle.mxf_klv.proofs.Common.{◌∷◌, IfSome, length, take, drop, Option, None, Some, refl, sym}
+use Rattle.mxf_klv.proofs.Common.{ap, subst, ◌∙◌, arith, inl, inr, option_map_or, leb-true}
+use Rattle.mxf_klv.proofs.Common.{ltb-true, le-leb, lt-leb, lt-ltb, and_parts, and_from, cond-true}
+use Rattle.mxf_klv.proofs.Common.{cond-false, take_at, LengthParts, NoteParts, head_parts}
+use Rattle.mxf_klv.proofs.Common.{greatest_end, BeginsWithKeyAndLength, HasNoKeyAndLength, head_at}
+use Rattle.mxf_klv.proofs.Common.{stop_of, In, Truncated}
+use Rattle.std.specs.Prelude.{IfNone}
+use Rattle.std.proofs.lemmas.Bool.{le-ltb, and_left, and_right}
 use Rattle.mxf_klv.specs.Piece.{BeginsWithCut}
-use Rattle.mxf_klv.specs.PieceReading.{head_at, heads_at, is_cut_at, stop_of}
-use Rattle.mxf_klv.specs.Rising.{In}
-use Rattle.mxf_klv.specs.declared.piece.Stop.TheVariants.{Truncated}
+use Rattle.mxf_klv.specs.PieceReading.{heads_at, is_cut_at}
 use Rattle.std.specs.Option.{SomeIff}
 use Rattle.mxf_klv.proofs.KeyAndLengthLaws.{head-size}
 use Rattle.mxf_klv.proofs.PieceLaws.{head_at-stands, head_at-head}

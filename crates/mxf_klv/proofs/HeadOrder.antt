@@ -1,17 +1,13 @@
 -- Where a head stands in the order of notes: directly before the notes of the whole packet.
+use Rattle.mxf_klv.proofs.Common.{bool_cmp, eq_by_cmp, nat_cmp, ordering_then, IsTotalOrder}
+use Rattle.mxf_klv.proofs.Common.{Decides, note_total, note_cmp-IsAntisymmetric, slice_cmp}
+use Rattle.mxf_klv.proofs.Common.{nat_cmp-IsAntisymmetric, Ordering, Less, Equal, Greater, sym, ◌∙◌}
+use Rattle.mxf_klv.proofs.Common.{ap, subst, inl, inr, nat_cmp_total, tied_itself, NoteParts}
+use Rattle.mxf_klv.proofs.Common.{head_note, note_cmp}
 use Rattle.std.specs.Prelude.{◌≡◌, ◌⊎◌, true, false, [], ◌∷◌, refl}
-use Rattle.std.specs.Ordering.{bool_cmp, eq_by_cmp, nat_cmp, ordering_then}
-use Rattle.std.specs.Cmp.{IsTotalOrder, Equal-is}
-use Rattle.std.specs.Bool.{Decides}
-use Rattle.mxf_klv.specs.NoteOrder.{note_total, note_cmp-IsAntisymmetric}
-use Rattle.std.specs.Cmp.Lexicographic.{slice_cmp, nat_list_cmp_total}
-use Rattle.std.specs.FinSet.{nat_cmp-IsAntisymmetric, slice_cmp-IsAntisymmetric}
-use Rattle.std.specs.declared.cmp.Ordering.{Ordering}
-use Rattle.std.specs.declared.cmp.Ordering.TheVariants.{Less, Equal, Greater}
-use Rattle.std.proofs.Common.{sym, ◌∙◌, ap, subst, inl, inr}
-use Rattle.std.proofs.lemmas.Cmp.{nat_cmp_total, tied_itself}
-use Rattle.mxf_klv.specs.Parts.{NoteParts}
-use Rattle.mxf_klv.specs.Note.{head_note, note_cmp}
+use Rattle.std.specs.Cmp.{Equal-is}
+use Rattle.std.specs.Cmp.Lexicographic.{nat_list_cmp_total}
+use Rattle.std.specs.FinSet.{slice_cmp-IsAntisymmetric}
 
 -- `==` of notes tells whether they are one
 pub same_note-Decides : (a b : NoteParts) → Decides (eq_by_cmp note_cmp a b) (a ≡ b)

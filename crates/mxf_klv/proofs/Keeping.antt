@@ -1,9 +1,8 @@
 -- What a note keeps has the length that its key and length say.
-use Rattle.std.proofs.Common.{◌≡◌, ℕ, length, cond, ◌∙◌, sym, refl}
-use Rattle.std.proofs.lemmas.Bool.{cond-true, cond-false}
+use Rattle.mxf_klv.proofs.Common.{◌≡◌, ℕ, length, cond, ◌∙◌, sym, refl, cond-true, cond-false}
+use Rattle.mxf_klv.proofs.Common.{keeps}
 use Rattle.mxf_klv.specs.declared.note.held.KeptValue.{KeptValue}
 use Rattle.mxf_klv.specs.declared.note.held.KeptValue.TheVariants.{Whole, Digest, Head}
-use Rattle.mxf_klv.specs.Note.{keeps}
 use Rattle.mxf_klv.specs.KeptValue.{front_of, kept_bytes, is_whole, IsKeptBy}
 
 pub length-kept_bytes : (k : KeptValue) (len : ℕ) → IsKeptBy k len

@@ -1,18 +1,15 @@
 -- The head of a packet, and what stands behind it.
-use Rattle.std.proofs.Common.{Option, None, Some, SomeIff, ok_or}
-use Rattle.std.proofs.Common.{◌≡◌, ℕ, ◌+◌, ◌-◌, ◌<◌, ◌≤◌, List, ◌++◌, length, take, drop, replicate}
-use Rattle.std.proofs.Common.{Ok, Err, sym, ap, subst, ◌∙◌, arith, length-append, append_assoc}
-use Rattle.std.proofs.lemmas.List.{take_at, drop_at, take_all, take-append-drop, take-take}
-use Rattle.std.proofs.lemmas.List.{length-take, length-replicate}
-use Rattle.mxf_klv.specs.declared.ber.BerFault.{BerFault}
-use Rattle.mxf_klv.specs.declared.packet.PacketFault.TheVariants as faults
-use Rattle.mxf_klv.specs.Parts.{LengthParts, PacketParts, packet_parts}
-use Rattle.mxf_klv.specs.Label.{label_start, IsLabel, BeginsAsLabel}
-use Rattle.mxf_klv.specs.Ber.{ReadsLength}
-use Rattle.mxf_klv.specs.Packet.{IsSpelledPacket, IsCutPacket, ReadsPacket, packet_fault}
-use Rattle.mxf_klv.specs.KeyAndLength.{BeginsWithKeyAndLength, HasNoKeyAndLength, ReadsKeyAndLength}
+use Rattle.mxf_klv.proofs.Common.{Option, None, Some, SomeIff, ok_or, ◌≡◌, ℕ, ◌+◌, ◌-◌, ◌<◌, ◌≤◌}
+use Rattle.mxf_klv.proofs.Common.{List, ◌++◌, length, take, drop, replicate, Ok, Err, sym, ap}
+use Rattle.mxf_klv.proofs.Common.{subst, ◌∙◌, arith, length-append, append_assoc, take_at, drop_at}
+use Rattle.mxf_klv.proofs.Common.{take_all, take-append-drop, take-take, length-take}
+use Rattle.mxf_klv.proofs.Common.{length-replicate, BerFault, LengthParts, PacketParts}
+use Rattle.mxf_klv.proofs.Common.{packet_parts, label_start, IsLabel, BeginsAsLabel, ReadsLength}
+use Rattle.mxf_klv.proofs.Common.{IsSpelledPacket, IsCutPacket, ReadsPacket, packet_fault}
+use Rattle.mxf_klv.proofs.Common.{BeginsWithKeyAndLength, HasNoKeyAndLength, ReadsKeyAndLength}
 use Rattle.mxf_klv.proofs.LengthLemmas.{spelled_len, one_reading}
 use Rattle.mxf_klv.proofs.PacketLemmas.{key_cut, length_fault}
+use Rattle.mxf_klv.specs.declared.packet.PacketFault.TheVariants as faults
 
 -- a label and a whole length behind it are a head
 pub head_of : (bytes : List ℕ) (l : LengthParts) → IsLabel (take 16 bytes) → ReadsLength (drop 16 bytes) (Ok l)

@@ -1,10 +1,7 @@
 -- Labels go by the bytes after those that each of them begins with.
+use Rattle.mxf_klv.proofs.Common.{nat_cmp, slice_cmp, sym, ◌∙◌, ap, take-append-drop, IsLabel}
+use Rattle.mxf_klv.proofs.Common.{label_start}
 use Rattle.std.specs.Prelude.{◌≡◌, ℕ, List, ◌++◌, drop}
-use Rattle.std.specs.Ordering.{nat_cmp}
-use Rattle.std.specs.Cmp.Lexicographic.{slice_cmp}
-use Rattle.std.proofs.Common.{sym, ◌∙◌, ap}
-use Rattle.std.proofs.lemmas.List.{take-append-drop}
-use Rattle.mxf_klv.specs.Label.{IsLabel, label_start}
 
 parts : (a : List ℕ) → IsLabel a → label_start ++ drop 4 a ≡ a
 parts a h = ap (λ (s : List ℕ). s ++ drop 4 a) (sym h.1) ∙ take-append-drop 4 a

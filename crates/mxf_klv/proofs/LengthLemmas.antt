@@ -1,14 +1,11 @@
 -- Facts on spelled lengths.
-use Rattle.std.proofs.Common.{◌≡◌, ℕ, suc, ◌+◌, ◌-◌, ◌^◌, ◌<◌, ◌≤◌, List, [], ◌∷◌, ◌++◌, length, get_or, take}
-use Rattle.std.proofs.Common.{drop, refl, sym, ap, ◌∙◌, arith, inr}
+use Rattle.mxf_klv.proofs.Common.{◌≡◌, ℕ, suc, ◌+◌, ◌-◌, ◌^◌, ◌<◌, ◌≤◌, List, [], ◌∷◌, ◌++◌, length}
+use Rattle.mxf_klv.proofs.Common.{get_or, take, drop, refl, sym, ap, ◌∙◌, arith, inr, take_at}
+use Rattle.mxf_klv.proofs.Common.{take-append-drop, length-take, CanSpell, LengthParts, Result, Ok}
+use Rattle.mxf_klv.proofs.Common.{Err, BerFault, IsSpelledLength, ReadsLength}
 use Rattle.std.proofs.Math.Nat.{pow-le-pow_right}
-use Rattle.std.proofs.lemmas.List.{take_at, take-append-drop, length-take}
 use Rattle.byteorder.specs.Endian.{big_number, big_bytes}
 use Rattle.byteorder.specs.Numbers.{big_from-lt, big_from-take}
-use Rattle.mxf_klv.specs.Parts.{CanSpell, LengthParts}
-use Rattle.std.proofs.Common.{Result, Ok, Err}
-use Rattle.mxf_klv.specs.declared.ber.BerFault.{BerFault}
-use Rattle.mxf_klv.specs.Ber.{IsSpelledLength, ReadsLength}
 
 pub pow_256 : (n : ℕ) → n ≤ 8 → 256 ^ n ≤ 2 ^ 64
 pow_256 n h = pow-le-pow_right {n = 256} (omega arith) {i = n} {j = 8} h

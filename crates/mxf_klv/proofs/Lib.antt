@@ -1,3 +1,4 @@
+pub mod Common
 pub mod LengthLemmas
 pub mod KeyAndLengthLaws
 pub mod PacketLemmas

@@ -1,11 +1,10 @@
 -- Members of lists that are tested, filtered, searched, mapped and appended.
-use Rattle.std.proofs.Common.{◌≡◌, ◌↔◌, ◌⊎◌, ◌≤◌, ◌<◌, ◌&&◌, ℕ, zero, suc, Bool, true}
-use Rattle.std.proofs.Common.{List, [], ◌∷◌, ◌++◌}
-use Rattle.std.proofs.Common.{Option, Some, None, IsTrue, Contains, refl, sym, ap, subst, inl, inr, arith, length}
-use Rattle.std.proofs.Common.{filter, filter_map, find, flat_map, get_or, map}
-use Rattle.std.specs.List.{list_all, list_any, AllByRecursion}
-use Rattle.std.proofs.lemmas.Bool.{and_from, false_from_ne_true, ltb-false}
-use Rattle.mxf_klv.specs.Rising.{In}
+use Rattle.mxf_klv.proofs.Common.{◌≡◌, ◌↔◌, ◌⊎◌, ◌≤◌, ◌<◌, ◌&&◌, ℕ, zero, suc, Bool, true, List, []}
+use Rattle.mxf_klv.proofs.Common.{◌∷◌, ◌++◌, Option, Some, None, IsTrue, refl, sym, ap, subst, inl}
+use Rattle.mxf_klv.proofs.Common.{inr, arith, length, filter, filter_map, get_or, map, list_all}
+use Rattle.mxf_klv.proofs.Common.{list_any, AllByRecursion, and_from, false_from_ne_true, ltb-false}
+use Rattle.mxf_klv.proofs.Common.{In}
+use Rattle.std.proofs.Common.{Contains, find, flat_map}
 
 -- ---- all
 

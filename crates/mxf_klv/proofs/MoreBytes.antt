@@ -1,29 +1,23 @@
 -- A piece to which more bytes come: the packets that stood stay, and so does a stop behind which it can't go on.
-use Rattle.std.proofs.Common.{◌≡◌, ℕ, ◌+◌, ◌-◌, ◌<◌, ◌≤◌, List, [], ◌∷◌, ◌++◌, length, take, drop, None, Some}
-use Rattle.std.proofs.Common.{Err, refl, sym, ap, subst, ◌∙◌, arith, inl, inr, append_assoc, append-nil}
-use Rattle.std.proofs.Common.{length-append, length-take}
-use Rattle.std.proofs.lemmas.List.{length-drop}
-use Rattle.std.specs.Prelude.{slice_get, IsSomeAnd}
-use Rattle.std.proofs.lemmas.List.{take_at, take_all, take-take, drop-append-le, nil_from_length}
-use Rattle.std.proofs.Math.Seq.{take-append-add}
-use Rattle.std.proofs.lemmas.Bool.{cases_lt}
-use Rattle.mxf_klv.specs.Parts.{LengthParts, PacketParts, packet_parts}
-use Rattle.mxf_klv.specs.Label.{label_start, BeginsAsLabel}
-use Rattle.mxf_klv.specs.Ber.{IsSpelledLength}
-use Rattle.mxf_klv.specs.Packet.{IsCutPacket, IsSpelledPacket, ReadsPacket, size_of}
-use Rattle.mxf_klv.specs.KeyAndLength.{BeginsWithKeyAndLength, HasNoKeyAndLength}
-use Rattle.mxf_klv.specs.Note.{greatest_end, note_of}
-use Rattle.mxf_klv.specs.Piece.{AreLaid, BeginsWithNone, IsStop, end_after, notes_from}
-use Rattle.mxf_klv.specs.PieceReading.{IsOpen, packet_at, packets_in, rest_in, stop_in, stop_of}
-use Rattle.mxf_klv.specs.declared.packet.PacketFault.{PacketFault}
-use Rattle.mxf_klv.specs.declared.packet.PacketFault.TheVariants as faults
-use Rattle.mxf_klv.specs.declared.piece.Stop.{Stop}
-use Rattle.mxf_klv.specs.declared.piece.Stop.TheVariants.{End, NotUl, BadLength, TooFar, Truncated, NoStart}
+use Rattle.mxf_klv.proofs.Common.{◌≡◌, ℕ, ◌+◌, ◌-◌, ◌<◌, ◌≤◌, List, [], ◌∷◌, ◌++◌, length, take}
+use Rattle.mxf_klv.proofs.Common.{drop, None, Some, Err, refl, sym, ap, subst, ◌∙◌, arith, inl, inr}
+use Rattle.mxf_klv.proofs.Common.{append_assoc, append-nil, length-append, length-drop, slice_get}
+use Rattle.mxf_klv.proofs.Common.{IsSomeAnd, take_at, take_all, take-take, drop-append-le}
+use Rattle.mxf_klv.proofs.Common.{nil_from_length, take-append-add, cases_lt, LengthParts}
+use Rattle.mxf_klv.proofs.Common.{PacketParts, packet_parts, label_start, BeginsAsLabel}
+use Rattle.mxf_klv.proofs.Common.{IsSpelledLength, IsCutPacket, IsSpelledPacket, ReadsPacket}
+use Rattle.mxf_klv.proofs.Common.{size_of, BeginsWithKeyAndLength, HasNoKeyAndLength, greatest_end}
+use Rattle.mxf_klv.proofs.Common.{note_of, BeginsWithNone, IsStop, end_after, notes_from, IsOpen}
+use Rattle.mxf_klv.proofs.Common.{packet_at, packets_in, rest_in, stop_in, stop_of, PacketFault}
+use Rattle.mxf_klv.proofs.Common.{Stop, End, NotUl, BadLength, TooFar, Truncated, NoStart}
+use Rattle.std.proofs.Common.{length-take}
+use Rattle.mxf_klv.specs.Piece.{AreLaid}
 use Rattle.mxf_klv.proofs.KeyAndLengthLaws.{head_in, head-size}
-use Rattle.mxf_klv.proofs.PieceLaws.{none-packet_at, one_piece, packet_at-fault, packet_at-given, packet_at-none}
-use Rattle.mxf_klv.proofs.PieceLaws.{packets_in-none, packets_in-some, rest_in-none, rest_in-some, some_piece}
-use Rattle.mxf_klv.proofs.PieceLaws.{none_at_end}
+use Rattle.mxf_klv.proofs.PieceLaws.{none-packet_at, one_piece, packet_at-fault, packet_at-given}
+use Rattle.mxf_klv.proofs.PieceLaws.{packet_at-none, packets_in-none, packets_in-some, rest_in-none}
+use Rattle.mxf_klv.proofs.PieceLaws.{rest_in-some, some_piece, none_at_end}
 use Rattle.mxf_klv.proofs.StopLaws.{Stopped, at_far, one_stop, stops}
+use Rattle.mxf_klv.specs.declared.packet.PacketFault.TheVariants as faults
 
 -- ---- lists
 

@@ -1,12 +1,10 @@
 -- Notes that are picked by a test: lists, sums and counts of them.
-use Rattle.std.proofs.Common.{Bool, List, [], ap, arith, cond, count_by, false, filter, inl, inr}
-use Rattle.std.proofs.Common.{nat_lt, not, refl, true, ℕ, ◌&&◌, ◌++◌, ◌+◌, ◌<◌, ◌==◌, ◌||◌, ◌∷◌, ◌≡◌, ◌≤◌}
-use Rattle.std.proofs.lemmas.List.Sums.{sum_by-cons}
-use Rattle.std.specs.List.{AllByRecursion}
+use Rattle.mxf_klv.proofs.Common.{Bool, List, [], ap, arith, cond, count_by, false, filter, inl}
+use Rattle.mxf_klv.proofs.Common.{inr, nat_lt, not, refl, true, ℕ, ◌&&◌, ◌++◌, ◌+◌, ◌<◌, ◌==◌, ◌||◌}
+use Rattle.mxf_klv.proofs.Common.{◌∷◌, ◌≡◌, ◌≤◌, sum_by-cons, AllByRecursion, NoteParts}
+use Rattle.mxf_klv.proofs.Common.{PacketParts, In}
 use Rattle.std.specs.Prelude.{sum_by}
 use Rattle.mxf_klv.proofs.Counts.{count_by-cons, tally}
-use Rattle.mxf_klv.specs.Parts.{NoteParts, PacketParts}
-use Rattle.mxf_klv.specs.Rising.{In}
 
 pub left_first : (p : NoteParts → Bool) (n : NoteParts) (ns ms : List NoteParts) → p n ≡ false → filter p ns ≡ ms
     → filter p (n ∷ ns) ≡ ms

@@ -1,19 +1,16 @@
 -- What bytes begin with is one thing: a packet, or one of the faults.
-use Rattle.std.proofs.Common.{◌≡◌, ℕ, ◌≤◌, List, [], ◌∷◌, ◌++◌, length, take, drop, Result, Ok, Err, refl, sym, ap}
-use Rattle.std.proofs.Common.{subst, ◌∙◌, arith, length-append, append_assoc}
-use Rattle.std.proofs.lemmas.List.{take_all, take-append-drop}
-use Rattle.std.proofs.lemmas.List.{length-take, append-nil, drop-append-le}
-use Rattle.mxf_klv.specs.declared.ber.BerFault.{BerFault}
-use Rattle.mxf_klv.specs.declared.ber.BerFault.TheVariants as lengths
-use Rattle.mxf_klv.specs.declared.packet.PacketFault.{PacketFault}
-use Rattle.mxf_klv.specs.declared.packet.PacketFault.TheVariants as faults
-use Rattle.mxf_klv.specs.Parts.{LengthParts, PacketParts}
-use Rattle.mxf_klv.specs.Label.{label_start, BeginsAsLabel}
-use Rattle.mxf_klv.specs.Ber.{ReadsLength}
-use Rattle.mxf_klv.specs.Packet.{IsSpelledPacket, IsCutPacket, ReadsPacket}
+use Rattle.mxf_klv.proofs.Common.{◌≡◌, ℕ, ◌≤◌, List, [], ◌∷◌, ◌++◌, length, take, drop, Result, Ok}
+use Rattle.mxf_klv.proofs.Common.{Err, refl, sym, ap, subst, ◌∙◌, arith, length-append}
+use Rattle.mxf_klv.proofs.Common.{append_assoc, take_all, take-append-drop, length-take}
+use Rattle.mxf_klv.proofs.Common.{drop-append-le, BerFault, PacketFault, LengthParts, PacketParts}
+use Rattle.mxf_klv.proofs.Common.{label_start, BeginsAsLabel, ReadsLength, IsSpelledPacket}
+use Rattle.mxf_klv.proofs.Common.{IsCutPacket, ReadsPacket}
+use Rattle.std.proofs.lemmas.List.{append-nil}
 use Rattle.mxf_klv.proofs.LengthLemmas.{one_reading}
 use Rattle.mxf_klv.proofs.KeyAndLengthLaws.{head_in, head-length}
 use Rattle.mxf_klv.proofs.PacketLemmas.{same_packet}
+use Rattle.mxf_klv.specs.declared.ber.BerFault.TheVariants as lengths
+use Rattle.mxf_klv.specs.declared.packet.PacketFault.TheVariants as faults
 
 -- what begins a text that begins as a label begins as a label
 begins_front : (bytes more : List ℕ) → take 4 (bytes ++ more) ≡ label_start → BeginsAsLabel bytes

@@ -1,14 +1,13 @@
 -- Facts on packets and what bytes begin with.
-use Rattle.std.proofs.Common.{◌≡◌, ℕ, suc, ◌+◌, ◌-◌, ◌<◌, ◌≤◌, List, [], ◌∷◌, ◌++◌, length, take, drop, replicate}
-use Rattle.std.proofs.Common.{Err, refl, sym, ap, subst, ◌∙◌, arith, inl, length-append, append_assoc}
-use Rattle.std.proofs.lemmas.List.{take_at, drop_at, take_all, take-append-drop}
-use Rattle.std.proofs.lemmas.List.{length-replicate, append-nil}
+use Rattle.mxf_klv.proofs.Common.{◌≡◌, ℕ, suc, ◌+◌, ◌-◌, ◌<◌, ◌≤◌, List, [], ◌∷◌, ◌++◌, length}
+use Rattle.mxf_klv.proofs.Common.{take, drop, replicate, Err, refl, sym, ap, subst, ◌∙◌, arith, inl}
+use Rattle.mxf_klv.proofs.Common.{length-append, append_assoc, take_at, drop_at, take_all}
+use Rattle.mxf_klv.proofs.Common.{take-append-drop, length-replicate, BerFault, PacketParts}
+use Rattle.mxf_klv.proofs.Common.{label_start, IsLabel, BeginsAsLabel, IsSpelledLength, IsCutLength}
+use Rattle.mxf_klv.proofs.Common.{ReadsLength, IsSpelledPacket, IsCutPacket, ReadsPacket}
+use Rattle.mxf_klv.proofs.Common.{packet_fault}
+use Rattle.std.proofs.lemmas.List.{append-nil}
 use Rattle.byteorder.specs.Endian.{big_number}
-use Rattle.mxf_klv.specs.declared.ber.BerFault.{BerFault}
-use Rattle.mxf_klv.specs.Parts.{PacketParts}
-use Rattle.mxf_klv.specs.Label.{label_start, IsLabel, BeginsAsLabel}
-use Rattle.mxf_klv.specs.Ber.{IsSpelledLength, IsCutLength, ReadsLength}
-use Rattle.mxf_klv.specs.Packet.{IsSpelledPacket, IsCutPacket, ReadsPacket, packet_fault}
 use Rattle.mxf_klv.proofs.LengthLemmas.{wide_found_cons}
 
 -- the first sixteen of bytes that begin as a label

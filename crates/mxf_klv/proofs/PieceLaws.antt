@@ -1,27 +1,20 @@
 -- Facts on the packets of a piece.
-use Rattle.std.proofs.Common.{◌≡◌, ℕ, zero, suc, ◌+◌, ◌<◌, ◌≤◌, true, cond}
-use Rattle.std.proofs.Common.{List, [], ◌∷◌, ◌++◌, length, take, drop, Result, Ok, Err, None, Some, refl, sym}
-use Rattle.std.proofs.Common.{ap, subst, ◌∙◌, arith, inl, inr, length-append, length-drop, take-append-drop}
-use Rattle.std.specs.Option.{option_map_or, option_and_then}
-use Rattle.std.specs.Result.{result_ok}
-use Rattle.std.proofs.lemmas.Bool.{le-leb, and_from}
-use Rattle.std.proofs.lemmas.Bool.{cases_lt, cond-true}
-use Rattle.std.proofs.lemmas.List.{take_at, drop_at, length-take}
-use Rattle.std.proofs.lemmas.Slice.Eq.{bytes_eq-Decides}
-use Rattle.mxf_klv.specs.declared.ber.BerFault.{BerFault}
-use Rattle.mxf_klv.specs.declared.packet.PacketFault.{PacketFault}
-use Rattle.mxf_klv.specs.Parts.{LengthParts, PacketParts}
-use Rattle.mxf_klv.specs.Label.{label_start, BeginsAsLabel, begins_as_label}
-use Rattle.mxf_klv.specs.Ber.{IsSpelledLength, ReadsLength}
-use Rattle.mxf_klv.specs.Packet.{IsSpelledPacket, ReadsPacket, size_of}
-use Rattle.mxf_klv.specs.Note.{greatest_end}
-use Rattle.mxf_klv.specs.Piece.{BeginsWithNone, IsPiece}
-use Rattle.mxf_klv.specs.declared.piece.Stop.{Stop}
-use Rattle.mxf_klv.specs.PieceReading.{length_at, head_at, end_with, fits_at, packet_with, packet_at, packets_by}
-use Rattle.mxf_klv.specs.PieceReading.{rest_by, packets_in, rest_in, stop_of, GoesOn, EndsAt}
+use Rattle.mxf_klv.proofs.Common.{◌≡◌, ℕ, zero, suc, ◌+◌, ◌<◌, ◌≤◌, true, cond, List, [], ◌∷◌, ◌++◌}
+use Rattle.mxf_klv.proofs.Common.{length, take, drop, Result, Ok, Err, None, Some, refl, sym, ap}
+use Rattle.mxf_klv.proofs.Common.{subst, ◌∙◌, arith, inl, inr, length-append, option_map_or}
+use Rattle.mxf_klv.proofs.Common.{result_ok, le-leb, and_from, cases_lt, cond-true, take_at}
+use Rattle.mxf_klv.proofs.Common.{drop_at, length-take, bytes_eq-Decides, BerFault, PacketFault}
+use Rattle.mxf_klv.proofs.Common.{LengthParts, PacketParts, label_start, BeginsAsLabel}
+use Rattle.mxf_klv.proofs.Common.{begins_as_label, IsSpelledLength, ReadsLength, IsSpelledPacket}
+use Rattle.mxf_klv.proofs.Common.{ReadsPacket, size_of, greatest_end, BeginsWithNone, IsPiece, Stop}
+use Rattle.mxf_klv.proofs.Common.{length_at, head_at, end_with, packet_at, packets_in, rest_in}
+use Rattle.mxf_klv.proofs.Common.{stop_of, GoesOn, EndsAt, BeginsWithKeyAndLength}
+use Rattle.std.proofs.Common.{length-drop, take-append-drop}
+use Rattle.std.specs.Option.{option_and_then}
+use Rattle.mxf_klv.specs.PieceReading.{fits_at, packet_with, packets_by, rest_by}
 use Rattle.mxf_klv.proofs.LengthLemmas.{one_reading, wide_found}
-use Rattle.mxf_klv.specs.KeyAndLength.{BeginsWithKeyAndLength}
-use Rattle.mxf_klv.proofs.KeyAndLengthLaws.{head_of, head_in, head-begins, head-length, head-packet, head-size}
+use Rattle.mxf_klv.proofs.KeyAndLengthLaws.{head_of, head_in, head-begins, head-length, head-packet}
+use Rattle.mxf_klv.proofs.KeyAndLengthLaws.{head-size}
 use Rattle.mxf_klv.proofs.PacketLemmas.{same_packet}
 use Rattle.mxf_klv.proofs.PacketLaw.{one_packet_reading}
 

@@ -1,14 +1,9 @@
 -- Packets that are laid one after another, and small ones that are packets by a test.
-use Rattle.std.proofs.Common.{Bool, List, [], arith, length, nat_lt, take}
-use Rattle.std.proofs.Common.{true, ℕ, ◌&&◌, ◌+◌, ◌==◌, ◌∷◌, ◌≡◌, ◌≤◌}
-use Rattle.std.proofs.lemmas.Bool.{and_parts}
+use Rattle.mxf_klv.proofs.Common.{Bool, List, [], arith, length, nat_lt, take, true, ℕ, ◌&&◌, ◌+◌}
+use Rattle.mxf_klv.proofs.Common.{◌==◌, ◌∷◌, ◌≡◌, ◌≤◌, and_parts, AllByRecursion, list_all}
+use Rattle.mxf_klv.proofs.Common.{bytes_eq, label_start, IsPacket, packet_bytes, size_of}
+use Rattle.mxf_klv.proofs.Common.{PacketParts, BeginsWithNone, end_after}
 use Rattle.std.proofs.lemmas.List.{length-append}
-use Rattle.std.specs.List.{AllByRecursion, list_all}
-use Rattle.std.specs.Str.{bytes_eq}
-use Rattle.mxf_klv.specs.Label.{label_start}
-use Rattle.mxf_klv.specs.Packet.{IsPacket, packet_bytes, size_of}
-use Rattle.mxf_klv.specs.Parts.{PacketParts}
-use Rattle.mxf_klv.specs.Piece.{BeginsWithNone, end_after}
 
 abbrev pub is_small : PacketParts → Bool
 is_small p =

@@ -1,9 +1,8 @@
 -- Tests, what is there or not, and orderings.
-use Rattle.std.proofs.Common.{◌≡◌, ◌≢◌, ◌↔◌, ◌⊎◌, ◌&&◌, ◌||◌, ◌==◌, ◌<◌, ◌≤◌, ℕ, Bool, true, false, cond, not, IsTrue}
-use Rattle.std.proofs.Common.{Option, Some, None}
-use Rattle.std.proofs.Common.{is_none, is_some, option_map, refl, arith, eqb-true, eq-eqb}
-use Rattle.std.proofs.Common.{Ordering, Less, Equal, Greater, is_lt, nat_cmp, nat_lt}
-use Rattle.std.proofs.lemmas.Bool.{ltb-true, lt-ltb}
+use Rattle.mxf_klv.proofs.Common.{◌≡◌, ◌≢◌, ◌↔◌, ◌⊎◌, ◌&&◌, ◌||◌, ◌==◌, ◌<◌, ◌≤◌, ℕ, Bool, true}
+use Rattle.mxf_klv.proofs.Common.{false, cond, not, IsTrue, Option, Some, None, is_some, refl}
+use Rattle.mxf_klv.proofs.Common.{arith, eqb-true, eq-eqb, nat_lt, ltb-true, lt-ltb}
+use Rattle.std.proofs.Common.{is_none, option_map, Ordering, Less, Equal, Greater, is_lt, nat_cmp}
 
 pub not_true : (b : Bool) → (b ≡ true → ⊥) → not b ≡ true
 not_true b h = grind arith

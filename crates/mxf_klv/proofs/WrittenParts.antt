@@ -1,15 +1,11 @@
 -- Parts of a value that are written one after another.
-use Rattle.std.proofs.Common.{◌≡◌, ℕ, ◌+◌, ◌≤◌, ◌<◌, List, ◌∷◌, ◌++◌, suc, get_or, drop-cons, take-append-drop}
-use Rattle.std.proofs.Common.{Result, arith, length, take, drop, sym, ap, ◌∙◌, subst, append_assoc}
-use Rattle.std.proofs.Common.{length-append}
+use Rattle.mxf_klv.proofs.Common.{◌≡◌, ℕ, ◌+◌, ◌≤◌, ◌<◌, List, ◌∷◌, ◌++◌, suc, get_or, Result}
+use Rattle.mxf_klv.proofs.Common.{arith, length, take, drop, sym, ap, ◌∙◌, subst, append_assoc}
+use Rattle.mxf_klv.proofs.Common.{length-append, flat_map-append, Appends, Appends-trans}
+use Rattle.mxf_klv.proofs.Common.{WriteFault, WritesPart, StopsIn, counted, take-append-le}
+use Rattle.mxf_klv.proofs.Common.{take-append-add}
+use Rattle.std.proofs.Common.{drop-cons, take-append-drop}
 use Rattle.std.specs.Prelude.{Option, flat_map}
-use Rattle.std.proofs.lemmas.Grind.{flat_map-append}
-use Rattle.std.specs.Io.KnownBytes.{Appends}
-use Rattle.std.proofs.KnownBytes.{Appends-trans}
-use Rattle.mxf_klv.specs.declared.writing.WriteFault.{WriteFault}
-use Rattle.mxf_klv.specs.Written.{WritesPart, StopsIn, counted}
-use Rattle.std.proofs.lemmas.List.{take-append-le}
-use Rattle.std.proofs.Math.Seq.{take-append-add}
 
 counted_again : (a b c m : ℕ) → m ≡ counted (a + b) → counted (m + c) ≡ counted (a + (b + c))
 counted_again a b c m e = omega arith

@@ -1,12 +1,9 @@
 -- Runs that were handed the same hold one content, and print the same of it.
-use Rattle.std.proofs.Common.{◌≡◌, ℕ, Bool, List, [], ◌∷◌, ◌++◌, Option, None, Some, sym, ap, subst, ◌∙◌}
+use Rattle.mxf_views.proofs.Common.{◌≡◌, ℕ, Bool, List, [], ◌∷◌, ◌++◌, Option, None, Some, sym, ap}
+use Rattle.mxf_views.proofs.Common.{subst, ◌∙◌, NoteParts, In, SameMembers, file_bytes, IsLocated}
+use Rattle.mxf_views.proofs.Common.{Read, IsTheRun}
 use Rattle.std.specs.Prelude.{codes, filter, flat_map}
-use Rattle.mxf_klv.specs.Parts.{NoteParts}
-use Rattle.mxf_klv.specs.Rising.{In, SameMembers}
-use Rattle.mxf_catalogue.specs.CatalogueFile.{file_bytes}
-use Rattle.mxf_catalogue.specs.Content.{IsLocated}
-use Rattle.mxf_catalogue.specs.History.{HandsSame, Read}
-use Rattle.mxf_views.specs.Headline.{IsTheRun}
+use Rattle.mxf_catalogue.specs.History.{HandsSame}
 use Rattle.mxf_places.specs.AtHand.{KnownParts}
 use Rattle.mxf_map.specs.Map.{MapParts}
 use Rattle.mxf_map.proofs.MarkLaws.{one_map}
@@ -25,14 +22,14 @@ use Rattle.mxf_read.specs.declared.gathering.report.PieceReport.{PieceReport}
 use Rattle.mxf_lines.specs.Answering.{stop_lines}
 use Rattle.mxf_forms.specs.Forms.{line, lines_in, number}
 use Rattle.mxf_lines.specs.Lines.{note_fields}
-use Rattle.mxf_lines.specs.OneRun.{Answer, AreTold, AskedUnits, IsPrinted, Map, PrintSame, Printed, Question, Renewal}
-use Rattle.mxf_lines.specs.OneRun.{Sources, UnitPlan, Verification}
+use Rattle.mxf_lines.specs.OneRun.{Answer, AreTold, AskedUnits, IsPrinted, Map, PrintSame, Printed}
+use Rattle.mxf_lines.specs.OneRun.{Question, Renewal, Sources, UnitPlan, Verification}
 use Rattle.mxf_lines.specs.MapLines.{AreToldExtents, map_lines}
 use Rattle.mxf_lines.proofs.MapLineLaws.{one_told}
 use Rattle.mxf_lines.specs.UnitPlanLines.{asked_of, unit_plan_lines, unit_plan_status}
 use Rattle.mxf_lines.specs.VerificationLines.{cut_lines, differs_line, other_fields, range_lines}
-use Rattle.mxf_lines.specs.VerificationLines.{span_fields, unit_run_line, verification_lines, verification_status}
-use Rattle.mxf_lines.specs.VerificationLines.{verified_fields, verified_line}
+use Rattle.mxf_lines.specs.VerificationLines.{span_fields, unit_run_line, verification_lines}
+use Rattle.mxf_lines.specs.VerificationLines.{verification_status, verified_fields, verified_line}
 
 -- ---- one content
 

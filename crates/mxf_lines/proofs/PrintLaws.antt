@@ -1,10 +1,8 @@
 -- Lines that are printed one after another.
-use Rattle.std.proofs.Common.{◌≡◌, ℕ, ◌+◌, ◌^◌, ◌<◌, List, [], ◌++◌, Ok, Err, Result, arith, length, refl, take, sym, ap}
-use Rattle.std.proofs.Common.{◌∙◌, subst, length-append, Option}
-use Rattle.std.proofs.KnownBytes.{Appends-nil}
-use Rattle.std.proofs.Math.Seq.{take-append-add}
+use Rattle.mxf_views.proofs.Common.{◌≡◌, ℕ, ◌+◌, ◌^◌, ◌<◌, List, [], ◌++◌, Ok, Err, Result, arith}
+use Rattle.mxf_views.proofs.Common.{length, refl, take, sym, ap, ◌∙◌, subst, length-append, Option}
+use Rattle.mxf_views.proofs.Common.{Appends-nil, take-append-add, take-append-le}
 use Rattle.std.proofs.lemmas.Grind.{flat_map-append}
-use Rattle.std.proofs.lemmas.List.{take-append-le}
 use Rattle.std.specs.Io.KnownBytes.{Appends}
 use Rattle.mxf_klv.proofs.WrittenParts.{WritesPart-after}
 use Rattle.mxf_klv.specs.Written.{WritesPart}

@@ -1,21 +1,20 @@
 -- Units one after another.
-use Rattle.std.proofs.Common.{◌≡◌, ◌∙◌, ◌==◌, ◌+◌, ◌++◌, ◌≤◌, ℕ, List, [], ◌∷◌, Option, None, Some, Result, Err}
-use Rattle.std.proofs.Common.{ap, arith, filter_map, flat_map, if◌then◌else◌, length, refl, subst, sym}
-use Rattle.std.proofs.lemmas.List.FromFn.{length-map-range_with_len}
+use Rattle.mxf_views.proofs.Common.{◌≡◌, ◌∙◌, ◌==◌, ◌+◌, ◌++◌, ◌≤◌, ℕ, List, [], ◌∷◌, Option, None}
+use Rattle.mxf_views.proofs.Common.{Some, Result, Err, ap, arith, filter_map, flat_map}
+use Rattle.mxf_views.proofs.Common.{if◌then◌else◌, length, refl, subst, sym}
+use Rattle.mxf_views.proofs.Common.{length-map-range_with_len, cons_option, count_by-cons, tally}
 use Rattle.mxf_units.specs.Units.{UnitsParts, unit_of}
-use Rattle.std.specs.List.{cons_option}
-use Rattle.mxf_klv.proofs.Counts.{count_by-cons, tally}
 use Rattle.mxf_units.specs.declared.standing.UnitStanding.{UnitStanding}
-use Rattle.mxf_units.specs.declared.standing.UnitStanding.TheVariants as standings
 use Rattle.mxf_units.specs.declared.unit.EditUnit.{EditUnit}
 use Rattle.mxf_units.specs.Ranges.{least_of, needed_from, units_from}
 use Rattle.mxf_forms.specs.Forms.{PrintedLine}
-use Rattle.mxf_lines.specs.UnitLines.{hand_count, held_count, is_hand, is_held, last_line, unit_line}
-use Rattle.mxf_lines.specs.UnitLines.{unit_lines, units_line, units_status}
+use Rattle.mxf_lines.specs.UnitLines.{hand_count, held_count, is_hand, is_held, last_line}
+use Rattle.mxf_lines.specs.UnitLines.{unit_line, unit_lines, units_line, units_status}
 use Rattle.mxf_lines.specs.declared.printing.AnswerFault.{AnswerFault}
 use Rattle.mxf_lines.specs.declared.printing.AnswerFault.TheVariants.{OutOfMemory, Write, BadUnit}
 use Rattle.mxf_forms.specs.declared.form.Form.{Form}
 use Rattle.mxf_lines.proofs.PrintLaws.{Leads, PrintsPart}
+use Rattle.mxf_units.specs.declared.standing.UnitStanding.TheVariants as standings
 
 pub units_length : (u : UnitsParts) (first count : ℕ) → length (units_from u first count) ≡ count
 units_length u first count = length-map-range_with_len (unit_of u.known u.index_sid) first count

@@ -1,21 +1,16 @@
 -- Maximal ranges of offsets that stand alike.
-use Rattle.std.proofs.Common.{◌≡◌, ◌≢◌, ◌↔◌, ◌⊎◌, ◌<◌, ◌≤◌, ◌+◌, ◌-◌, ℕ, Bool, true, false, IsTrue, List, [], ◌∷◌}
-use Rattle.std.proofs.Common.{Some, arith, ap, filter, if◌then◌else◌, inl, inr, nat_lt, refl, subst, sym, ◌∙◌}
-use Rattle.std.proofs.lemmas.Bool.{cases_lt, ltb-true, lt-ltb, and_from, and_parts}
-use Rattle.mxf_klv.proofs.Lists.{In-filter}
-use Rattle.mxf_klv.proofs.Tests.{same_bool}
-use Rattle.mxf_klv.specs.Rising.{In}
-use Rattle.mxf_catalogue.specs.Covers.{is_between}
-use Rattle.mxf_catalogue.specs.NoteLists.{Covers}
-use Rattle.mxf_catalogue.specs.Runs.{AreMaximal, LiesIn}
-use Rattle.mxf_catalogue.specs.declared.run.Run.{Run}
-use Rattle.mxf_catalogue.proofs.RunBounds.{starts_above}
-use Rattle.mxf_catalogue.proofs.RunLaws.{AreMaximal-lower}
+use Rattle.mxf_views.proofs.Common.{◌≡◌, ◌≢◌, ◌↔◌, ◌⊎◌, ◌<◌, ◌≤◌, ◌+◌, ◌-◌, ℕ, Bool, true, false}
+use Rattle.mxf_views.proofs.Common.{IsTrue, List, [], ◌∷◌, Some, arith, ap, filter, if◌then◌else◌}
+use Rattle.mxf_views.proofs.Common.{inl, inr, nat_lt, refl, subst, sym, ◌∙◌, cases_lt, and_from}
+use Rattle.mxf_views.proofs.Common.{and_parts, In-filter, same_bool, In, is_between, Covers}
+use Rattle.mxf_views.proofs.Common.{AreMaximal, LiesIn, Run, starts_above, AreMaximal-lower}
+use Rattle.std.proofs.lemmas.Bool.{ltb-true, lt-ltb}
 use Rattle.mxf_places.specs.AtHand.{KnownParts, has_offset}
 use Rattle.mxf_places.specs.Held.{AreDisputed, IsDisputedAt, IsHeld, is_disputed_at, is_held}
 use Rattle.mxf_places.proofs.AtHandLaws.{has_offset-says}
 use Rattle.mxf_places.proofs.HeldLaws.{is_disputed_at-says, is_held-says}
-use Rattle.mxf_map.specs.Extents.{AreExtents, IsExtent, IsExtentFrom, IsOfExtent, StandsAs, standing_at}
+use Rattle.mxf_map.specs.Extents.{AreExtents, IsExtent, IsExtentFrom, IsOfExtent, StandsAs}
+use Rattle.mxf_map.specs.Extents.{standing_at}
 use Rattle.mxf_map.specs.declared.extent.ByteStanding.{ByteStanding}
 use Rattle.mxf_map.specs.declared.extent.ByteStanding.TheVariants.{Disputed, Held, Hand, Missing}
 use Rattle.mxf_map.specs.declared.extent.MapExtent.{MapExtent}

@@ -1,33 +1,22 @@
 -- The end of a map, its cells, and the bytes that are held.
-use Rattle.std.proofs.Common.{◌≡◌, ◌↔◌, ◌∙◌, ◌<◌, ◌≤◌, ◌+◌, ◌-◌, ◌*◌, ◌/◌, ◌%◌, ℕ, Bool, true, false}
-use Rattle.std.proofs.Common.{List, [], ◌∷◌, refl, sym, ap, subst, inl, inr, arith, map, max}
-use Rattle.std.proofs.Common.{Option, Some, None, count_by, if◌then◌else◌, nat_lt, not, ◌&&◌, unwrap_or}
-use Rattle.std.proofs.lemmas.Bool.{cases_lt, false_from_ne_true, lt-ltb}
-use Rattle.std.specs.List.{range_with_len}
+use Rattle.mxf_views.proofs.Common.{◌≡◌, ◌↔◌, ◌∙◌, ◌<◌, ◌≤◌, ◌+◌, ◌-◌, ◌*◌, ◌/◌, ◌%◌, ℕ, Bool, true}
+use Rattle.mxf_views.proofs.Common.{false, List, [], ◌∷◌, refl, sym, ap, subst, inl, inr, arith}
+use Rattle.mxf_views.proofs.Common.{map, max, Option, Some, None, count_by, if◌then◌else◌, nat_lt}
+use Rattle.mxf_views.proofs.Common.{not, ◌&&◌, unwrap_or, cases_lt, false_from_ne_true}
+use Rattle.mxf_views.proofs.Common.{range_with_len, covered_end, range-all, range-none, range-same}
+use Rattle.mxf_views.proofs.Common.{range-split, list_any-In, Covers, covers_below_end}
+use Rattle.mxf_views.proofs.Common.{starts_above, rip_view_of, same_bool, AllByRecursion, NoteParts}
+use Rattle.mxf_views.proofs.Common.{In, all_from_In, IsCover, AreMaximal, LiesIn, Run, has_byte}
+use Rattle.std.proofs.lemmas.Bool.{lt-ltb}
 use Rattle.std.specs.Option.{option_and_then}
-use Rattle.mxf_klv.specs.Note.{covered_end}
-use Rattle.mxf_klv.proofs.Counts.{range-all, range-none, range-same, range-split}
-use Rattle.mxf_klv.proofs.Lists.{list_any-In}
-use Rattle.mxf_catalogue.specs.NoteLists.{Covers}
-use Rattle.mxf_catalogue.proofs.RunBounds.{covers_below_end, starts_above}
-use Rattle.mxf_views.specs.RandomIndexView.{rip_view_of}
-use Rattle.mxf_places.specs.Held.{IsHeld, bytes_of, end_of_file, is_held, reaches_past, rip_end_by, top_of}
+use Rattle.mxf_places.specs.Held.{IsHeld, bytes_of, end_of_file, is_held, reaches_past, rip_end_by}
+use Rattle.mxf_places.specs.Held.{top_of}
 use Rattle.mxf_places.specs.AtHand.{KnownParts, edge_of, has_offset, outside_below, runs_end}
-use Rattle.mxf_map.specs.Map.{hand_below, held_below}
-use Rattle.mxf_klv.proofs.Tests.{same_bool}
+use Rattle.mxf_map.specs.Map.{hand_below, held_below, greatest_of, map_end}
 use Rattle.mxf_places.proofs.AtHandLaws.{has_offset-says}
 use Rattle.mxf_places.proofs.HeldLaws.{is_held-says, same_bounds, top_of-bound}
 use Rattle.std.proofs.lemmas.Nat.{div-mul-add, div-add-mod'}
-use Rattle.std.specs.List.{AllByRecursion}
-use Rattle.mxf_klv.specs.Parts.{NoteParts}
-use Rattle.mxf_klv.specs.Rising.{In}
-use Rattle.mxf_klv.proofs.Lists.{all_from_In}
-use Rattle.mxf_catalogue.specs.Covers.{IsCover}
-use Rattle.mxf_catalogue.specs.Runs.{AreMaximal, LiesIn}
-use Rattle.mxf_catalogue.specs.declared.run.Run.{Run}
-use Rattle.mxf_catalogue.proofs.RunBounds.{has_byte}
 use Rattle.mxf_map.specs.Layers.{AreOffsets}
-use Rattle.mxf_map.specs.Map.{greatest_of, map_end}
 use Rattle.mxf_restore.specs.Missing.{missing_places}
 
 -- ---- the end and the cells

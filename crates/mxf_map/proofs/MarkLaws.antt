@@ -1,23 +1,19 @@
 -- What the marks of cells say, by sets of offsets.
-use Rattle.std.proofs.Common.{◌≡◌, ◌↔◌, ◌⊎◌, ◌<◌, ◌≤◌, ◌+◌, ◌-◌, ℕ, zero, suc, Bool, true, false, not, IsTrue, List, [], ◌∷◌}
-use Rattle.std.proofs.Common.{refl, sym, ap, subst, inl, inr, arith, get_or, length, min, ◌∙◌}
-use Rattle.std.proofs.lemmas.Bool.{cases_lt}
-use Rattle.mxf_klv.proofs.Tests.{not-true-false, not_true}
-use Rattle.mxf_klv.specs.Parts.{NoteParts}
-use Rattle.mxf_klv.specs.Rising.{In}
-use Rattle.mxf_sets.specs.declared.pack.part.PackPart.{PackPart}
-use Rattle.mxf_catalogue.specs.Runs.{LiesIn}
-use Rattle.mxf_catalogue.specs.declared.run.Run.{Run}
+use Rattle.mxf_views.proofs.Common.{◌≡◌, ◌↔◌, ◌⊎◌, ◌<◌, ◌≤◌, ◌+◌, ◌-◌, ℕ, zero, suc, Bool, true}
+use Rattle.mxf_views.proofs.Common.{false, not, IsTrue, List, [], ◌∷◌, refl, sym, ap, subst, inl}
+use Rattle.mxf_views.proofs.Common.{inr, arith, get_or, length, min, ◌∙◌, cases_lt, not-true-false}
+use Rattle.mxf_views.proofs.Common.{not_true, NoteParts, In, PackPart, LiesIn, Run}
 use Rattle.mxf_places.specs.AtHand.{KnownParts}
 use Rattle.mxf_places.specs.Held.{IsHeld, is_held}
-use Rattle.mxf_map.specs.Layers.{AreOffsets, BeginsPartition, BeginsRandomIndex, IsOfZone, LiesInZone, marks_in_order}
-use Rattle.mxf_map.specs.Map.{AreMarks, HasByteOf, HasPartition, IsMark, Says, rank}
+use Rattle.mxf_map.specs.Layers.{AreOffsets, BeginsPartition, BeginsRandomIndex, IsOfZone}
+use Rattle.mxf_map.specs.Layers.{LiesInZone, marks_in_order}
+use Rattle.mxf_map.specs.Map.{AreMarks, HasByteOf, HasPartition, IsMark, Says, rank, IsMap}
+use Rattle.mxf_map.specs.Map.{MapParts, cell_size, gaps_below, hand_below, held_below}
 use Rattle.mxf_restore.specs.Missing.{missing_places}
-use Rattle.mxf_map.specs.Map.{IsMap, MapParts, cell_size, gaps_below, hand_below, held_below}
 use Rattle.mxf_map.specs.declared.map.Mark.{Mark}
-use Rattle.mxf_map.specs.declared.map.Mark.TheVariants as marks
 use Rattle.mxf_places.specs.declared.stretch.Zone.{Zone}
 use Rattle.mxf_places.proofs.HeldLaws.{is_held-says}
+use Rattle.mxf_map.specs.declared.map.Mark.TheVariants as marks
 
 -- A test of one mark of what is known is one of an equal mark of what is equal.
 pub told : (part all : KnownParts) (from to : ℕ) (mark given : Mark) (b : Bool) → part ≡ all → mark ≡ given

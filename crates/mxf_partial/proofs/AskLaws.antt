@@ -1,15 +1,13 @@
 -- What units ask for, as lists and by definition.
-use Rattle.std.proofs.Common.{◌≡◌, ◌↔◌, ◌⊎◌, ◌∙◌, ◌++◌, ◌+◌, ◌<◌, ◌==◌, ℕ, List, [], ◌∷◌, Option, None, Some, ap, arith, inl, inr}
-use Rattle.std.proofs.Common.{Err, Ok, Result, true, filter_map, map, refl, subst, sym, zero, suc, nat_cmp}
+use Rattle.mxf_views.proofs.Common.{◌≡◌, ◌↔◌, ◌⊎◌, ◌∙◌, ◌++◌, ◌+◌, ◌<◌, ◌==◌, ℕ, List, [], ◌∷◌}
+use Rattle.mxf_views.proofs.Common.{Option, None, Some, ap, arith, inl, inr, Err, Ok, Result, true}
+use Rattle.mxf_views.proofs.Common.{filter_map, map, refl, subst, sym, zero, suc, same_Some}
+use Rattle.mxf_views.proofs.Common.{range_with_len, result_ok, cons_option, ◌-◌, In, IsRising}
+use Rattle.mxf_views.proofs.Common.{In-append, In-filter_map, all_from_In, find-only, found-In}
+use Rattle.mxf_views.proofs.Common.{StreamPlace, IsRisingBy, from_lower, one_by_key}
+use Rattle.std.proofs.Common.{nat_cmp}
 use Rattle.std.proofs.lemmas.Bool.{eq-eqb, eqb-true}
-use Rattle.std.proofs.lemmas.Option.{same_Some}
-use Rattle.std.specs.List.{range_with_len}
 use Rattle.std.specs.Option.{option_and_then}
-use Rattle.std.specs.Result.{result_ok}
-use Rattle.std.specs.List.{cons_option}
-use Rattle.std.proofs.Common.{◌-◌}
-use Rattle.mxf_klv.specs.Rising.{In, IsRising}
-use Rattle.mxf_klv.proofs.Lists.{In-append, In-filter_map, all_from_In, find-only, found-In}
 use Rattle.mxf_restore.specs.declared.named.NamedPlace.{NamedPlace}
 use Rattle.mxf_units.specs.Streams.{place_of, segments_for}
 use Rattle.mxf_units.specs.Ranges.{needed_from, units_from}
@@ -17,18 +15,18 @@ use Rattle.mxf_units.specs.Units.{UnitsParts, location_of, unit_of}
 use Rattle.mxf_units.specs.declared.essence_zone.part.StreamPart.{StreamPart}
 use Rattle.mxf_units.specs.declared.location.Location.{Location}
 use Rattle.mxf_units.specs.declared.standing.UnitStanding.{UnitStanding}
-use Rattle.mxf_units.specs.declared.standing.UnitStanding.TheVariants as standings
 use Rattle.mxf_units.specs.declared.unit.EditUnit.{EditUnit}
-use Rattle.mxf_views.specs.declared.index.place.StreamPlace.{StreamPlace}
 use Rattle.mxf_partial.specs.Between.{IsOneOf16, LiesBetweenSegments, MayIndex, MayIndexOneOf}
-use Rattle.mxf_partial.specs.Asks.{IsAskedByIndex, IsAskedByUnit, NeedsLimit, NeedsPartition, NeedsWay}
+use Rattle.mxf_partial.specs.Asks.{IsAskedByIndex, IsAskedByUnit, NeedsLimit, NeedsPartition}
+use Rattle.mxf_partial.specs.Asks.{NeedsWay}
 use Rattle.mxf_partial.specs.Named.{AreNamed, IsNamedBy, named_at}
 use Rattle.mxf_partial.specs.Near.{MayLieAt}
 use Rattle.mxf_partial.specs.Questions.{limit_asked, number_unindexed, partition_asked, way_asked}
 use Rattle.mxf_partial.specs.Wanted.{WantedParts, notes_of, wanted_units}
 use Rattle.mxf_partial.specs.Ways.{LeadsTo}
 use Rattle.mxf_partial.proofs.ChosenLaws.{keys_rise, numbers_rise}
-use Rattle.mxf_klv.proofs.RisingBy.{IsRisingBy, IsRisingFrom, at_or_above, from_lower, one_by_key}
+use Rattle.mxf_klv.proofs.RisingBy.{IsRisingFrom, at_or_above}
+use Rattle.mxf_units.specs.declared.standing.UnitStanding.TheVariants as standings
 
 from_ok : {T E : Type 0} (r : Result T E) (x : T) → result_ok r ≡ Some x → r ≡ Ok x
 from_ok (Ok y) x e = ap Ok (same_Some y x e)

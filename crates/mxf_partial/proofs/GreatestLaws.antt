@@ -1,22 +1,15 @@
 -- The greatest offsets of streams that segments give: of one segment, and of those that a loop has passed.
-use Rattle.std.proofs.Common.{◌≡◌, ◌∙◌, ◌≢◌, ◌<◌, ◌≤◌, ◌+◌, ◌-◌, ◌*◌, ◌==◌, ◌⊎◌, ℕ, Bool, true, false, List, [], ◌∷◌}
-use Rattle.std.proofs.Common.{Option, None, Some, MatchOption, pos, refl, sym, ap, subst, inl, inr, arith, eq-eqb}
-use Rattle.std.proofs.Common.{eqb-true}
-use Rattle.std.proofs.Common.{if◌then◌else◌, negsuc, suc, zero, ℤ, max, mul-le-mul_left, unsigned_abs, lt-ltb}
-use Rattle.std.proofs.lemmas.Bool.{cases_lt}
-use Rattle.std.specs.Cmp.{IsTotalOrder}
-use Rattle.std.specs.FinSet.{IsAntisymmetric}
-use Rattle.std.specs.FinMap.{nat_cmp-IsAntisymmetric}
-use Rattle.std.specs.Ordering.{nat_cmp, on, then_cmp}
-use Rattle.std.specs.declared.cmp.Ordering.{Ordering}
-use Rattle.std.proofs.lemmas.Cmp.{nat_cmp_total, on_total, then_total}
-use Rattle.mxf_klv.specs.Rising.{In, In-union, IsRising, union}
-use Rattle.mxf_klv.proofs.Lists.{In-end, In-filter}
-use Rattle.mxf_klv.proofs.Tests.{lt_from_less}
-use Rattle.mxf_klv.specs.NoteOrder.{ties}
-use Rattle.mxf_sets.specs.Offset.{covers_constant, covers_entry, entry_offset, stream_offset}
-use Rattle.mxf_sets.specs.Segment.{SegmentParts, entry_count, is_constant}
-use Rattle.mxf_views.specs.Places.{SegmentAtParts, segments_of}
+use Rattle.mxf_views.proofs.Common.{◌≡◌, ◌∙◌, ◌≢◌, ◌<◌, ◌≤◌, ◌+◌, ◌-◌, ◌*◌, ◌==◌, ◌⊎◌, ℕ, Bool}
+use Rattle.mxf_views.proofs.Common.{true, false, List, [], ◌∷◌, Option, None, Some, MatchOption}
+use Rattle.mxf_views.proofs.Common.{pos, refl, sym, ap, subst, inl, inr, arith, eq-eqb, eqb-true}
+use Rattle.mxf_views.proofs.Common.{if◌then◌else◌, negsuc, suc, zero, ℤ, max, unsigned_abs, lt-ltb}
+use Rattle.mxf_views.proofs.Common.{cases_lt, IsTotalOrder, IsAntisymmetric}
+use Rattle.mxf_views.proofs.Common.{nat_cmp-IsAntisymmetric, nat_cmp, on, then_cmp, Ordering}
+use Rattle.mxf_views.proofs.Common.{nat_cmp_total, on_total, then_total, In, In-union, IsRising}
+use Rattle.mxf_views.proofs.Common.{union, In-end, In-filter, lt_from_less, ties, covers_constant}
+use Rattle.mxf_views.proofs.Common.{covers_entry, entry_offset, stream_offset, SegmentParts}
+use Rattle.mxf_views.proofs.Common.{entry_count, is_constant, SegmentAtParts, segments_of}
+use Rattle.std.proofs.Common.{mul-le-mul_left}
 use Rattle.mxf_units.specs.LastUnits.{IsEndless}
 use Rattle.mxf_units.specs.Streams.{segments_for}
 use Rattle.mxf_units.specs.Units.{UnitsParts}

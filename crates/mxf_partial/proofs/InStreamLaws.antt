@@ -1,21 +1,15 @@
 -- Elements of streams in their order: what their places say.
-use Rattle.std.proofs.Common.{◌≡◌, ◌∙◌, ◌<◌, ◌≤◌, ◌-◌, ◌⊎◌, ◌&&◌, ◌||◌, ◌==◌, ℕ, zero, suc, Bool, true, false, List}
-use Rattle.std.proofs.Common.{[], ◌∷◌}
-use Rattle.std.proofs.Common.{Some, refl, sym, ap, subst, inl, inr, arith, eq-eqb, eqb-true, get_or, length, lt-ltb}
-use Rattle.std.proofs.Common.{ltb-true}
-use Rattle.std.proofs.Common.{nat_lt, slice_get}
-use Rattle.std.proofs.lemmas.Bool.{and_from, and_parts, cases_lt}
-use Rattle.std.proofs.lemmas.Option.{get_or_from_slice_get, slice_get_within}
-use Rattle.std.specs.List.Sorted.{IsPartitionPoint, IsPartitionedBy}
-use Rattle.std.specs.List.{AllByRecursion}
-use Rattle.std.specs.Ordering.{ordering_then}
-use Rattle.std.specs.declared.cmp.Ordering.{Ordering}
-use Rattle.std.specs.declared.cmp.Ordering.TheVariants.{Less, Equal, Greater}
-use Rattle.mxf_klv.specs.Rising.{In, IsRising}
-use Rattle.mxf_klv.proofs.Lists.{all-In, In-at, Contains-from_In}
-use Rattle.mxf_klv.proofs.Tests.{either}
-use Rattle.mxf_partial.specs.InStreams.{ArePartedAt, GoesTo, HasNoneBelow, HasNoneFrom, IsBelow, IsFirstFrom, IsInOrder}
-use Rattle.mxf_partial.specs.InStreams.{IsLastBelow, Precedes, is_below}
+use Rattle.mxf_views.proofs.Common.{◌≡◌, ◌∙◌, ◌<◌, ◌≤◌, ◌-◌, ◌⊎◌, ◌&&◌, ◌||◌, ◌==◌, ℕ, zero, suc}
+use Rattle.mxf_views.proofs.Common.{Bool, true, false, List, [], ◌∷◌, Some, refl, sym, ap, subst}
+use Rattle.mxf_views.proofs.Common.{inl, inr, arith, eq-eqb, eqb-true, get_or, length, lt-ltb}
+use Rattle.mxf_views.proofs.Common.{ltb-true, nat_lt, and_from, and_parts, cases_lt}
+use Rattle.mxf_views.proofs.Common.{get_or_from_slice_get, slice_get_within, IsPartitionedBy}
+use Rattle.mxf_views.proofs.Common.{AllByRecursion, ordering_then, Ordering, Less, Equal, Greater}
+use Rattle.mxf_views.proofs.Common.{In, IsRising, all-In, In-at, Contains-from_In, either}
+use Rattle.std.proofs.Common.{slice_get}
+use Rattle.std.specs.List.Sorted.{IsPartitionPoint}
+use Rattle.mxf_partial.specs.InStreams.{ArePartedAt, GoesTo, HasNoneBelow, HasNoneFrom, IsBelow}
+use Rattle.mxf_partial.specs.InStreams.{IsFirstFrom, IsInOrder, IsLastBelow, Precedes, is_below}
 
 -- ---- the test
 

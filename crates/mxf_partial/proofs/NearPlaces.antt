@@ -1,28 +1,20 @@
 -- What is asked for of a place of a stream is found by the tables.
-use Rattle.std.proofs.Common.{◌≡◌, ◌∙◌, ◌<◌, ◌≤◌, ◌+◌, ◌⊎◌, ◌++◌, ◌↔◌, ℕ, Bool, true, false, List, [], ◌∷◌, Option}
-use Rattle.std.proofs.Common.{None, Some}
-use Rattle.std.proofs.Common.{refl, sym, ap, subst, inl, inr, arith, get_or, length, map, slice_get}
-use Rattle.std.proofs.lemmas.Bool.{cases_lt}
-use Rattle.std.specs.List.{AllByRecursion}
-use Rattle.std.specs.declared.cmp.Ordering.TheVariants.{Less}
-use Rattle.mxf_klv.specs.Parts.{NoteParts}
-use Rattle.mxf_klv.specs.Rising.{In, IsRising}
-use Rattle.mxf_klv.proofs.Lists.{In-append, In-at, In-map, Contains-from_In}
-use Rattle.mxf_klv.proofs.RisingBy.{IsRisingBy, one_by_key}
-use Rattle.mxf_klv.proofs.Tests.{lt_from_less}
-use Rattle.std.proofs.lemmas.Option.{get_or_from_slice_get, slice_get-get_or, slice_get_read, slice_get_within}
-use Rattle.mxf_catalogue.specs.Runs.{LiesIn}
-use Rattle.mxf_catalogue.specs.declared.run.Run.{Run}
+use Rattle.mxf_views.proofs.Common.{◌≡◌, ◌∙◌, ◌<◌, ◌≤◌, ◌+◌, ◌⊎◌, ◌++◌, ◌↔◌, ℕ, Bool, true, false}
+use Rattle.mxf_views.proofs.Common.{List, [], ◌∷◌, Option, None, Some, refl, sym, ap, subst, inl}
+use Rattle.mxf_views.proofs.Common.{inr, arith, get_or, length, map, cases_lt, AllByRecursion, Less}
+use Rattle.mxf_views.proofs.Common.{NoteParts, In, IsRising, In-append, In-at, In-map}
+use Rattle.mxf_views.proofs.Common.{Contains-from_In, IsRisingBy, one_by_key, lt_from_less}
+use Rattle.mxf_views.proofs.Common.{get_or_from_slice_get, slice_get-get_or, slice_get_read}
+use Rattle.mxf_views.proofs.Common.{slice_get_within, LiesIn, Run, partitions_of, StreamPlace}
+use Rattle.std.proofs.Common.{slice_get}
 use Rattle.mxf_places.specs.AtHand.{LiesBetween}
 use Rattle.mxf_restore.specs.NamedPlaces.{place_cmp}
 use Rattle.mxf_restore.specs.declared.named.NamedPlace.{NamedPlace}
-use Rattle.mxf_views.specs.Partitions.{partitions_of}
-use Rattle.mxf_views.specs.declared.index.place.StreamPlace.{StreamPlace}
 use Rattle.mxf_units.specs.Units.{UnitsParts}
 use Rattle.mxf_partial.specs.Named.{AreNamed, IsNamed}
 use Rattle.mxf_partial.specs.Near.{IsNamedOf, IsNear, IsOfStream, IsPlaceOf, MayLieAt}
-use Rattle.mxf_partial.specs.NearTable.{AreNear, Asks, HasAddedThose, IsFrom, LiesInStream, Serves, named_of}
-use Rattle.mxf_partial.specs.NearTable.{partition_place}
+use Rattle.mxf_partial.specs.NearTable.{AreNear, Asks, HasAddedThose, IsFrom, LiesInStream, Serves}
+use Rattle.mxf_partial.specs.NearTable.{named_of, partition_place}
 use Rattle.mxf_partial.specs.Streams.{IsHigh, IsLow}
 use Rattle.mxf_partial.specs.declared.near.Asked.{Asked}
 use Rattle.mxf_partial.specs.declared.near.Near.{Near}

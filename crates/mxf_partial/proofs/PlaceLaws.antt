@@ -1,33 +1,20 @@
 -- Places at which partitions may stand, each with the streams that it may be of.
-use Rattle.std.proofs.Common.{◌≡◌, ◌∙◌, ◌<◌, ◌≤◌, ◌+◌, ◌⊎◌, ◌++◌, ◌↔◌, ℕ, List, [], ◌∷◌, Option, None, Some}
-use Rattle.std.proofs.Common.{refl, sym, ap, subst, inl, inr, arith, get_or, length, map, slice_get}
-use Rattle.std.proofs.lemmas.Option.{slice_get-get_or, slice_get_read}
-use Rattle.std.proofs.Common.{Ok, Result}
-use Rattle.std.specs.Result.{OnOk}
-use Rattle.std.proofs.lemmas.Bool.{cases_lt}
-use Rattle.std.specs.Cmp.{IsTotalOrder}
-use Rattle.std.specs.Cmp.Lexicographic.{options_total}
-use Rattle.std.specs.FinSet.{IsAntisymmetric}
-use Rattle.std.specs.FinMap.{nat_cmp-IsAntisymmetric}
-use Rattle.std.specs.Option.{option_cmp}
-use Rattle.std.specs.Ordering.{nat_cmp, on, then_cmp}
-use Rattle.std.specs.declared.cmp.Ordering.{Ordering}
-use Rattle.std.specs.declared.cmp.Ordering.TheVariants.{Less}
-use Rattle.std.proofs.lemmas.Cmp.{nat_cmp_total, on_total, then_total}
-use Rattle.mxf_klv.specs.Parts.{NoteParts}
-use Rattle.mxf_klv.specs.Rising.{In, In-union, IsRising, union}
-use Rattle.mxf_klv.proofs.Lists.{In-at, In-end, In-map, Contains-from_In}
-use Rattle.mxf_klv.proofs.Tests.{lt_from_less}
-use Rattle.mxf_klv.specs.NoteOrder.{ties}
-use Rattle.mxf_sets.specs.declared.pack.random_index.RipEntry.{RipEntry}
+use Rattle.mxf_views.proofs.Common.{◌≡◌, ◌∙◌, ◌<◌, ◌≤◌, ◌+◌, ◌⊎◌, ◌++◌, ◌↔◌, ℕ, List, [], ◌∷◌}
+use Rattle.mxf_views.proofs.Common.{Option, None, Some, refl, sym, ap, subst, inl, inr, arith}
+use Rattle.mxf_views.proofs.Common.{get_or, length, map, slice_get-get_or, slice_get_read, Ok}
+use Rattle.mxf_views.proofs.Common.{Result, OnOk, cases_lt, IsTotalOrder, options_total}
+use Rattle.mxf_views.proofs.Common.{IsAntisymmetric, nat_cmp-IsAntisymmetric, option_cmp, nat_cmp}
+use Rattle.mxf_views.proofs.Common.{on, then_cmp, Ordering, Less, nat_cmp_total, on_total}
+use Rattle.mxf_views.proofs.Common.{then_total, NoteParts, In, In-union, IsRising, union, In-at}
+use Rattle.mxf_views.proofs.Common.{In-end, In-map, Contains-from_In, lt_from_less, ties, RipEntry}
+use Rattle.mxf_views.proofs.Common.{RipAtParts, rip_view_of, One, Standing}
+use Rattle.std.proofs.Common.{slice_get}
 use Rattle.mxf_restore.specs.declared.named.NamedPlace.{NamedPlace}
-use Rattle.mxf_views.specs.RandomIndex.{RipAtParts}
-use Rattle.mxf_views.specs.RandomIndexView.{rip_view_of}
-use Rattle.mxf_views.specs.declared.random_index.RipView.TheVariants.{One}
-use Rattle.mxf_views.specs.declared.random_index.Standing.{Standing}
-use Rattle.mxf_partial.specs.InStreams.{HasNoneBelow, HasNoneFrom, IsFirstFrom, IsInOrder, IsLastBelow}
+use Rattle.mxf_partial.specs.InStreams.{HasNoneBelow, HasNoneFrom, IsFirstFrom, IsInOrder}
+use Rattle.mxf_partial.specs.InStreams.{IsLastBelow}
 use Rattle.mxf_partial.specs.Near.{IsOfStream}
-use Rattle.mxf_partial.specs.NearTable.{AreListed, AreOfStreams, IsOfNoStream, IsOfStreams, entry_of, named_of, rank}
+use Rattle.mxf_partial.specs.NearTable.{AreListed, AreOfStreams, IsOfNoStream, IsOfStreams}
+use Rattle.mxf_partial.specs.NearTable.{entry_of, named_of, rank}
 use Rattle.mxf_partial.specs.declared.place_streams.ListedStream.{ListedStream}
 use Rattle.mxf_partial.specs.declared.place_streams.PlaceOf.{PlaceOf}
 use Rattle.mxf_partial.proofs.InStreamLaws.{in_order_from, then_less}

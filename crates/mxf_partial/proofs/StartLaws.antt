@@ -1,17 +1,13 @@
 -- Where segments of an index stand and begin, and which places lie between them.
-use Rattle.std.proofs.Common.{◌≡◌, ◌↔◌, ◌+◌, ◌-◌, ◌<◌, ◌≤◌, ℕ, zero, suc, false, IsTrue, List, [], ◌∷◌}
-use Rattle.std.proofs.Common.{arith, ap, get_or, inl, inr, length, map, max, min, nat_lt}
-use Rattle.std.proofs.Common.{subst, sym}
+use Rattle.mxf_views.proofs.Common.{◌≡◌, ◌↔◌, ◌+◌, ◌-◌, ◌<◌, ◌≤◌, ℕ, zero, suc, false, IsTrue, List}
+use Rattle.mxf_views.proofs.Common.{[], ◌∷◌, arith, ap, get_or, inl, inr, length, map, max, min}
+use Rattle.mxf_views.proofs.Common.{nat_lt, subst, sym, AllWithin, list_all, IsNonDecreasingBy}
+use Rattle.mxf_views.proofs.Common.{leb_tells, get_or-map, get_or-reverse, length-map}
+use Rattle.mxf_views.proofs.Common.{length-reverse, In, Contains-from_In, In-at, In-list_all}
+use Rattle.mxf_views.proofs.Common.{list_all-In, list_any-In, same_bool}
 use Rattle.std.specs.Prelude.{reverse}
-use Rattle.std.specs.List.{AllWithin, list_all}
-use Rattle.std.specs.List.Sorted.{IsNonDecreasingBy}
 use Rattle.std.proofs.lemmas.Bool.{lt-ltb, ltb-true}
-use Rattle.std.proofs.lemmas.Bool.Decides.{leb_tells}
 use Rattle.std.proofs.lemmas.Grind.{get_or_default_zero}
-use Rattle.std.proofs.lemmas.List.{get_or-map, get_or-reverse, length-map, length-reverse}
-use Rattle.mxf_klv.specs.Rising.{In}
-use Rattle.mxf_klv.proofs.Lists.{Contains-from_In, In-at, In-list_all, list_all-In, list_any-In}
-use Rattle.mxf_klv.proofs.Tests.{same_bool}
 use Rattle.mxf_partial.specs.SegmentStarts.{greatest_so_far, is_apart, is_between_any, least_so_far}
 use Rattle.mxf_partial.specs.declared.between.SegmentStart.{SegmentStart}
 

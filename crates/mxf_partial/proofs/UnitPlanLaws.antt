@@ -1,34 +1,25 @@
 -- The orders of a plan for edit units.
-use Rattle.std.proofs.Common.{◌≡◌, ◌↔◌, ◌⊎◌, ◌∙◌, ◌++◌, ◌<◌, ◌≤◌, ◌+◌, ℕ, Bool, true, false, List, [], ◌∷◌, Option, None, Some, ap}
-use Rattle.std.proofs.Common.{nat_lt, unwrap_or, arith, filter_map, flat_map, inl, inr, is_some, map, refl, subst, sym, Result, Ok, Err, if◌then◌else◌, IfOk, drop, get_or, length, suc}
-use Rattle.std.proofs.Common.{◌==◌}
+use Rattle.mxf_views.proofs.Common.{◌≡◌, ◌↔◌, ◌⊎◌, ◌∙◌, ◌++◌, ◌<◌, ◌≤◌, ◌+◌, ℕ, Bool, true, false}
+use Rattle.mxf_views.proofs.Common.{List, [], ◌∷◌, Option, None, Some, ap, nat_lt, unwrap_or, arith}
+use Rattle.mxf_views.proofs.Common.{filter_map, flat_map, inl, inr, is_some, map, refl, subst, sym}
+use Rattle.mxf_views.proofs.Common.{Result, Ok, Err, if◌then◌else◌, IfOk, drop, get_or, length, suc}
+use Rattle.mxf_views.proofs.Common.{◌==◌, same_Some, result_ok, option_map_or, NoteParts}
+use Rattle.mxf_views.proofs.Common.{greatest_end, In, In-union, same_from_members, union, In-append}
+use Rattle.mxf_views.proofs.Common.{In-filter_map, In-flat_map, In-map, all-In, found-In}
+use Rattle.mxf_views.proofs.Common.{none_found, drop_all, drop-cons, IsCover, union_of_runs}
+use Rattle.mxf_views.proofs.Common.{union_of_runs-IsUnion, Cover, LiesIn, Run, same_covers}
+use Rattle.mxf_views.proofs.Common.{option_to_list, slice_get, ltb-false}
 use Rattle.std.proofs.lemmas.Bool.{eq-eqb, eqb-true}
-use Rattle.std.proofs.lemmas.Option.{same_Some}
-use Rattle.std.specs.Result.{result_ok}
-use Rattle.std.specs.Option.{option_map_or}
-use Rattle.mxf_klv.specs.Parts.{NoteParts}
-use Rattle.mxf_klv.specs.Note.{greatest_end}
-use Rattle.mxf_klv.specs.Rising.{In, In-union, same_from_members, union}
-use Rattle.mxf_klv.proofs.Lists.{In-append, In-filter_map, In-flat_map, In-map, all-In, found-In, none_found}
-use Rattle.std.proofs.lemmas.List.{drop_all}
-use Rattle.std.proofs.Math.Seq.{drop-cons}
-use Rattle.mxf_catalogue.specs.Covers.{IsCover, union_of_runs, union_of_runs-IsUnion}
-use Rattle.mxf_catalogue.specs.declared.cover.Cover.{Cover}
-use Rattle.mxf_catalogue.specs.Runs.{LiesIn}
-use Rattle.mxf_catalogue.specs.declared.run.Run.{Run}
-use Rattle.mxf_catalogue.proofs.CoverLaws.{same_covers}
 use Rattle.mxf_places.specs.AtHand.{AtHandParts, KnownParts, LiesInRange, has_offset, lacking}
 use Rattle.mxf_places.specs.declared.at_hand.OffsetRange.{OffsetRange}
 use Rattle.mxf_places.proofs.AtHandLaws.{has_offset-says, lacked_there, members as lacking_members}
-use Rattle.std.specs.Option.{option_map, option_to_list}
-use Rattle.std.specs.Prelude.{slice_get}
-use Rattle.std.proofs.lemmas.Bool.{ltb-false}
+use Rattle.std.specs.Option.{option_map}
 use Rattle.mxf_places.specs.Claims.{claim_at}
 use Rattle.mxf_places.specs.declared.claim.Claim.{Claim}
 use Rattle.mxf_places.specs.declared.reason.Reason.{Reason}
-use Rattle.mxf_places.specs.declared.reason.Reason.TheVariants as reasons
 use Rattle.mxf_restore.specs.Fronts.{all_from, front_of, front_range, looked_for}
-use Rattle.mxf_restore.specs.Plan.{LiesInOrder, asked_by, asked_of, order_cmp, orders_by, orders_of, part_order, parts_of, start_of}
+use Rattle.mxf_restore.specs.Plan.{LiesInOrder, asked_by, asked_of, order_cmp, orders_by, orders_of}
+use Rattle.mxf_restore.specs.Plan.{part_order, parts_of, start_of}
 use Rattle.mxf_restore.specs.Sections.{sections_of}
 use Rattle.mxf_restore.specs.declared.named.NamedPlace.{NamedPlace}
 use Rattle.mxf_restore.specs.declared.plan.Order.{Order}
@@ -37,17 +28,20 @@ use Rattle.mxf_restore.proofs.PlanLaws.{one_order, order_total}
 use Rattle.mxf_units.specs.Units.{AreKnown, IsKnown, UnitsParts, location_of}
 use Rattle.mxf_units.specs.declared.location.Location.{Location}
 use Rattle.mxf_units.specs.declared.standing.UnitStanding.{UnitStanding}
-use Rattle.mxf_units.specs.declared.standing.UnitStanding.TheVariants as standings
 use Rattle.mxf_units.specs.declared.unit.EditUnit.{EditUnit}
 use Rattle.mxf_partial.specs.Asks.{IsAskedByIndex, IsAskedByUnit}
 use Rattle.mxf_partial.specs.Fronts.{front_order}
 use Rattle.mxf_partial.specs.Helping.{helping_by, helping_for, helping_of}
 use Rattle.mxf_partial.specs.Named.{AreNamed, IsNamed, is_named, named_at}
-use Rattle.mxf_partial.specs.Orders.{AreAsked, AreOffsetsOf, IsFindingOrder, IsFrontOrder, IsOrdered, IsThere, IsUnitOrder}
-use Rattle.mxf_partial.specs.Orders.{IsUnitPlan, UnitPlanParts, helping_orders, is_described, known_end, unit_order}
-use Rattle.mxf_partial.specs.Wanted.{HasByte, HasByteOf, HasNamedLimit, IsWantedByte, WantedParts, WantsAt, WantsByte}
-use Rattle.mxf_partial.specs.Wanted.{hand_of, is_limit_named, notes_of, wanted_at, wanted_by, wanted_of, wanted_units}
+use Rattle.mxf_partial.specs.Orders.{AreAsked, AreOffsetsOf, IsFindingOrder, IsFrontOrder}
+use Rattle.mxf_partial.specs.Orders.{IsOrdered, IsThere, IsUnitOrder, IsUnitPlan, UnitPlanParts}
+use Rattle.mxf_partial.specs.Orders.{helping_orders, is_described, known_end, unit_order}
+use Rattle.mxf_partial.specs.Wanted.{HasByte, HasByteOf, HasNamedLimit, IsWantedByte, WantedParts}
+use Rattle.mxf_partial.specs.Wanted.{WantsAt, WantsByte, hand_of, is_limit_named, notes_of}
+use Rattle.mxf_partial.specs.Wanted.{wanted_at, wanted_by, wanted_of, wanted_units}
 use Rattle.mxf_partial.proofs.FrontLaws.{by_members, front_is}
+use Rattle.mxf_places.specs.declared.reason.Reason.TheVariants as reasons
+use Rattle.mxf_units.specs.declared.standing.UnitStanding.TheVariants as standings
 
 -- ---- what finds partitions and index table segments
 

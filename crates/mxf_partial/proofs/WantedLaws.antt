@@ -1,11 +1,8 @@
 -- What is wanted of units, one after another.
-use Rattle.std.proofs.Common.{◌≡◌, ◌↔◌, ◌⊎◌, ◌<◌, ℕ, List, [], ◌∷◌, Option, None, Some, arith, inl, inr, min, refl}
-use Rattle.std.proofs.Common.{subst, sym, unwrap_or}
-use Rattle.std.proofs.lemmas.Option.{same_Some}
-use Rattle.mxf_klv.specs.Note.{greatest_end}
-use Rattle.mxf_catalogue.specs.Covers.{LiesIn-with_run, with_run}
-use Rattle.mxf_catalogue.specs.Runs.{IsWithin, LiesIn, run}
-use Rattle.mxf_catalogue.specs.declared.run.Run.{Run}
+use Rattle.mxf_views.proofs.Common.{◌≡◌, ◌↔◌, ◌⊎◌, ◌<◌, ℕ, List, [], ◌∷◌, Option, None, Some, arith}
+use Rattle.mxf_views.proofs.Common.{inl, inr, min, refl, subst, sym, unwrap_or, same_Some}
+use Rattle.mxf_views.proofs.Common.{greatest_end, LiesIn-with_run, with_run, IsWithin, LiesIn, run}
+use Rattle.mxf_views.proofs.Common.{Run}
 use Rattle.mxf_restore.specs.declared.named.NamedPlace.{NamedPlace}
 use Rattle.mxf_units.specs.Units.{UnitsParts}
 use Rattle.mxf_units.specs.declared.unit.EditUnit.{EditUnit}

@@ -1,29 +1,19 @@
 -- The ways from partitions of streams, by where these begin.
-use Rattle.std.proofs.Common.{◌≡◌, ◌↔◌, ◌⊎◌, ◌∙◌, ◌+◌, ◌<◌, ◌≤◌, ◌==◌, ℕ, true, false, List, ◌∷◌, Option, None, Some, ap, arith}
-use Rattle.std.proofs.Common.{drop, find, get_or, if◌then◌else◌, inl, inr, is_some, length, nat_cmp, nat_lt, refl, suc, subst, sym}
-use Rattle.std.proofs.lemmas.Bool.{eq-eqb, eqb-true, lt-ltb, ltb-false, ltb-true}
-use Rattle.std.proofs.lemmas.Option.{same_Some}
+use Rattle.mxf_views.proofs.Common.{◌≡◌, ◌↔◌, ◌⊎◌, ◌∙◌, ◌+◌, ◌<◌, ◌≤◌, ◌==◌, ℕ, true, false, List}
+use Rattle.mxf_views.proofs.Common.{◌∷◌, Option, None, Some, ap, arith, drop, find, get_or}
+use Rattle.mxf_views.proofs.Common.{if◌then◌else◌, inl, inr, is_some, length, nat_lt, refl, suc}
+use Rattle.mxf_views.proofs.Common.{subst, sym, ltb-false, same_Some, IsNote, greatest_end}
+use Rattle.mxf_views.proofs.Common.{IsCatalogue, undisputed_notes, In-undisputed_notes, NoteParts}
+use Rattle.mxf_views.proofs.Common.{In, IsRising, all-In, find-only, found-In, lt_from_less}
+use Rattle.mxf_views.proofs.Common.{IsContent, place_cmp, drop_all, drop-cons, Less}
+use Rattle.mxf_views.proofs.Common.{nat_cmp-IsAntisymmetric, PartitionParts, in_numbers}
+use Rattle.mxf_views.proofs.Common.{partitions_of, StreamPlace}
+use Rattle.std.proofs.Common.{nat_cmp}
+use Rattle.std.proofs.lemmas.Bool.{eq-eqb, eqb-true, lt-ltb, ltb-true}
 use Rattle.std.specs.Option.{option_and_then, option_map}
-use Rattle.mxf_klv.specs.Note.{IsNote, greatest_end}
-use Rattle.mxf_catalogue.specs.Content.{IsCatalogue}
-use Rattle.mxf_catalogue.specs.Disputes.{undisputed_notes}
-use Rattle.mxf_catalogue.proofs.DisputeLaws.{In-undisputed_notes}
-use Rattle.mxf_places.specs.Claims.{over_fills}
-use Rattle.mxf_klv.specs.Parts.{NoteParts}
-use Rattle.mxf_klv.specs.Rising.{In, IsRising}
-use Rattle.mxf_klv.proofs.Lists.{all-In, find-only, found-In}
-use Rattle.mxf_klv.proofs.Tests.{lt_from_less}
-use Rattle.mxf_catalogue.specs.Content.{IsContent}
+use Rattle.mxf_places.specs.Claims.{over_fills, index_of, metadata_of}
 use Rattle.mxf_views.proofs.PartitionLaws.{one_there, partitions_rise}
-use Rattle.mxf_views.specs.Places.{place_cmp}
-use Rattle.mxf_places.specs.Claims.{index_of, metadata_of}
 use Rattle.mxf_units.specs.declared.essence_zone.EssenceZone.{EssenceZone}
-use Rattle.std.proofs.lemmas.List.{drop_all}
-use Rattle.std.proofs.Math.Seq.{drop-cons}
-use Rattle.std.specs.declared.cmp.Ordering.TheVariants.{Less}
-use Rattle.std.specs.FinMap.{nat_cmp-IsAntisymmetric}
-use Rattle.mxf_views.specs.Partitions.{PartitionParts, in_numbers, partitions_of}
-use Rattle.mxf_views.specs.declared.index.place.StreamPlace.{StreamPlace}
 use Rattle.mxf_restore.specs.declared.named.NamedPlace.{NamedPlace}
 use Rattle.mxf_units.specs.EssenceZones.{parts_of}
 use Rattle.mxf_units.specs.declared.essence_zone.part.StreamPart.{StreamPart}

@@ -1,12 +1,7 @@
 -- The bytes of runs.
-use Rattle.std.proofs.Common.{◌≤◌, ◌<◌, ◌+◌, ◌-◌, ℕ, List, [], ◌∷◌, arith}
-use Rattle.std.specs.List.{AllByRecursion}
-use Rattle.mxf_klv.specs.Note.{greatest_end}
-use Rattle.mxf_klv.proofs.Lists.{all-In, all_from_In}
-use Rattle.mxf_catalogue.specs.Covers.{IsCover, IsRun}
-use Rattle.mxf_catalogue.specs.Runs.{AreMaximal}
-use Rattle.mxf_catalogue.specs.declared.run.Run.{Run}
-use Rattle.mxf_catalogue.proofs.RunBounds.{has_byte}
+use Rattle.mxf_views.proofs.Common.{◌≤◌, ◌<◌, ◌+◌, ◌-◌, ℕ, List, [], ◌∷◌, arith, AllByRecursion}
+use Rattle.mxf_views.proofs.Common.{greatest_end, all-In, all_from_In, IsCover, IsRun, AreMaximal}
+use Rattle.mxf_views.proofs.Common.{Run, has_byte}
 use Rattle.mxf_places.specs.Held.{bytes_of}
 
 pub runs_of_cover : (runs : List Run) → IsCover runs → AllByRecursion IsRun runs

@@ -1,12 +1,7 @@
 -- How far the file reaches, as the function and as the relation.
-use Rattle.std.proofs.Common.{◌≡◌, ◌↔◌, ◌∙◌, ◌<◌, ◌≤◌, ℕ, max, List, Some, None, refl, sym, ap, subst, inl, inr, arith}
-use Rattle.std.proofs.Common.{unwrap_or}
-use Rattle.std.proofs.lemmas.Option.{same_Some}
-use Rattle.mxf_klv.specs.Parts.{NoteParts}
-use Rattle.mxf_klv.specs.Note.{end_of}
-use Rattle.mxf_klv.specs.Rising.{In}
-use Rattle.mxf_catalogue.specs.Covers.{IsCover}
-use Rattle.mxf_catalogue.specs.Runs.{LiesIn}
+use Rattle.mxf_views.proofs.Common.{◌≡◌, ◌↔◌, ◌∙◌, ◌<◌, ◌≤◌, ℕ, max, List, Some, None, refl, sym}
+use Rattle.mxf_views.proofs.Common.{ap, subst, inl, inr, arith, unwrap_or, same_Some, NoteParts}
+use Rattle.mxf_views.proofs.Common.{end_of, In, IsCover, LiesIn}
 use Rattle.mxf_places.specs.AtHand.{AtHandParts, IsEdge, IsTop, edge_of, runs_end}
 use Rattle.mxf_places.specs.Held.{end_of_file, top_of}
 use Rattle.mxf_places.proofs.AtHandLaws.{runs_end-bound}

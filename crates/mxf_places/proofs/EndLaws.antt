@@ -1,24 +1,16 @@
 -- The end of the file, what may lie in it, and of what isn't known what begins there: by functions and by relations.
-use Rattle.std.proofs.Common.{◌≡◌, ◌↔◌, ◌∙◌, ◌<◌, ◌≤◌, ◌+◌, ◌-◌, ◌||◌, ℕ, true, false, IsTrue, List, Option, Some, None}
-use Rattle.std.proofs.Common.{refl, sym, ap, subst, inl, inr, nat_lt, not, cond, find, option_and_then, option_map, arith}
-use Rattle.std.proofs.Common.{lt-ltb, ltb-true, eqb-true, ◌==◌}
-use Rattle.std.proofs.lemmas.Bool.{and_from, and_parts, or_cases, or_left, or_right}
-use Rattle.std.proofs.lemmas.Option.{same_Some}
-use Rattle.std.specs.Option.{option_map_or}
-use Rattle.mxf_klv.specs.Parts.{NoteParts}
-use Rattle.mxf_klv.specs.Note.{covered_end, end_of, greatest_end}
-use Rattle.mxf_klv.proofs.Lists.{found-In, list_any-In}
-use Rattle.mxf_klv.proofs.Tests.{not_true, not-true-false}
-use Rattle.mxf_catalogue.specs.Disputes.{clear_notes}
-use Rattle.mxf_catalogue.proofs.DisputeLaws.{In-clear_notes, clear_at-found}
-use Rattle.mxf_catalogue.proofs.RunBounds.{covers_first}
-use Rattle.mxf_views.specs.RandomIndex.{RipAtParts}
-use Rattle.mxf_views.specs.RandomIndexView.{rip_view_of}
-use Rattle.mxf_views.specs.declared.random_index.RipView.{RipView}
-use Rattle.mxf_views.specs.declared.random_index.RipView.TheVariants.{Absent, Several, Unreadable, One}
+use Rattle.mxf_views.proofs.Common.{◌≡◌, ◌↔◌, ◌∙◌, ◌<◌, ◌≤◌, ◌+◌, ◌-◌, ◌||◌, ℕ, true, false, IsTrue}
+use Rattle.mxf_views.proofs.Common.{List, Option, Some, None, refl, sym, ap, subst, inl, inr}
+use Rattle.mxf_views.proofs.Common.{nat_lt, not, cond, find, option_and_then, option_map, arith}
+use Rattle.mxf_views.proofs.Common.{lt-ltb, ltb-true, eqb-true, ◌==◌, and_from, and_parts, or_cases}
+use Rattle.mxf_views.proofs.Common.{or_left, or_right, same_Some, option_map_or, NoteParts}
+use Rattle.mxf_views.proofs.Common.{covered_end, end_of, greatest_end, found-In, list_any-In}
+use Rattle.mxf_views.proofs.Common.{not_true, not-true-false, clear_notes, In-clear_notes}
+use Rattle.mxf_views.proofs.Common.{clear_at-found, covers_first, RipAtParts, rip_view_of, RipView}
+use Rattle.mxf_views.proofs.Common.{Absent, Several, Unreadable, One}
 use Rattle.mxf_places.specs.Claims.{is_unknown}
-use Rattle.mxf_places.specs.Held.{IsEndOfFile, IsHeld, end_of_file, is_disputed_at, is_held, is_in_file, reaches_past}
-use Rattle.mxf_places.specs.Held.{rip_end_by}
+use Rattle.mxf_places.specs.Held.{IsEndOfFile, IsHeld, end_of_file, is_disputed_at, is_held}
+use Rattle.mxf_places.specs.Held.{is_in_file, reaches_past, rip_end_by}
 use Rattle.mxf_places.specs.Named.{IsInFile, IsUnknown}
 use Rattle.mxf_places.proofs.HeldLaws.{is_disputed_at-says, is_held-says}
 

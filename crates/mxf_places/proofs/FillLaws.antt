@@ -1,15 +1,9 @@
 -- Going over fills, by notes, by the list of fills, and by a table.
-use Rattle.std.proofs.Common.{◌≡◌, ◌∙◌, ◌==◌, ℕ, true, false, List, [], ◌∷◌, refl, ap, cond, eqb-true}
-use Rattle.std.proofs.Common.{Some, unwrap_or}
+use Rattle.mxf_views.proofs.Common.{◌≡◌, ◌∙◌, ◌==◌, ℕ, true, false, List, [], ◌∷◌, refl, ap, cond}
+use Rattle.mxf_views.proofs.Common.{eqb-true, Some, unwrap_or, nat_cmp, BTreeMap, get, is_at}
+use Rattle.mxf_views.proofs.Common.{NoteParts, kind_of, end_of, at_equal, at_other, is_fill}
 use Rattle.std.proofs.Math.Bool.{and-true, and-false}
-use Rattle.std.specs.Ordering.{nat_cmp}
-use Rattle.std.specs.BTreeMap.{BTreeMap, get, is_at}
-use Rattle.mxf_klv.specs.Parts.{NoteParts}
-use Rattle.mxf_klv.specs.Kind.{kind_of}
-use Rattle.mxf_klv.specs.Note.{end_of}
-use Rattle.mxf_sets.proofs.TableLaws.{at_equal, at_other}
 use Rattle.mxf_places.specs.Claims.{over_among}
-use Rattle.mxf_views.specs.Copies.{is_fill}
 use Rattle.mxf_places.specs.Fills.{fill_at, fills_among, over_in, over_list}
 use Rattle.mxf_places.specs.declared.fills.Fill.{Fill}
 

@@ -1,24 +1,15 @@
 -- What is held, by tests and by relations.
-use Rattle.std.proofs.Common.{◌≡◌, ◌↔◌, ◌∙◌, ◌<◌, ◌≤◌, ◌+◌, ◌-◌, ℕ, true, false, IsTrue, List, [], ◌∷◌, arith}
-use Rattle.std.proofs.Common.{refl, sym, ap, subst, inl, inr, nat_le, nat_lt, map, leb-true, le-leb, ltb-true, lt-ltb}
-use Rattle.std.proofs.Common.{Some, None, option_and_then, cond}
-use Rattle.std.proofs.lemmas.Bool.{ltb-false, and_parts, and_from}
-use Rattle.mxf_klv.specs.Parts.{NoteParts}
-use Rattle.mxf_klv.specs.Note.{IsCovered, covered_end, end_of}
-use Rattle.mxf_klv.specs.Rising.{In}
-use Rattle.mxf_klv.proofs.Lists.{In-filter, In-map, list_any-In}
-use Rattle.mxf_klv.proofs.Tests.{same_bool}
-use Rattle.mxf_catalogue.specs.Disputes.{IsDisputed, disputed_notes, is_disputed}
-use Rattle.mxf_views.specs.RandomIndexView.{rip_view_of}
-use Rattle.mxf_catalogue.specs.Covers.{union_of_runs}
-use Rattle.mxf_catalogue.specs.NoteLists.{Covers, covered_run}
-use Rattle.mxf_catalogue.proofs.ApartLaws.{covers_all}
-use Rattle.mxf_catalogue.specs.Runs.{LiesIn}
-use Rattle.mxf_catalogue.specs.declared.run.Run.{Run}
-use Rattle.mxf_catalogue.proofs.DisputeLaws.{is_disputed-IsDisputed, notes-disputed_notes}
-use Rattle.mxf_catalogue.proofs.RunBounds.{covers_first}
-use Rattle.mxf_places.specs.Held.{AreDisputed, IsDisputedAt, IsHeld, covers, is_disputed_at, is_held, reaches_past, top_of}
-use Rattle.mxf_places.specs.Held.{end_of_file, held_end, rip_end_by}
+use Rattle.mxf_views.proofs.Common.{◌≡◌, ◌↔◌, ◌∙◌, ◌<◌, ◌≤◌, ◌+◌, ◌-◌, ℕ, true, false, IsTrue, List}
+use Rattle.mxf_views.proofs.Common.{[], ◌∷◌, arith, refl, sym, ap, subst, inl, inr, nat_le, nat_lt}
+use Rattle.mxf_views.proofs.Common.{map, ltb-true, lt-ltb, Some, None, option_and_then, cond}
+use Rattle.mxf_views.proofs.Common.{ltb-false, and_parts, and_from, NoteParts, IsCovered}
+use Rattle.mxf_views.proofs.Common.{covered_end, end_of, In, In-filter, In-map, list_any-In}
+use Rattle.mxf_views.proofs.Common.{same_bool, IsDisputed, disputed_notes, is_disputed, rip_view_of}
+use Rattle.mxf_views.proofs.Common.{union_of_runs, Covers, covered_run, covers_all, LiesIn, Run}
+use Rattle.mxf_views.proofs.Common.{is_disputed-IsDisputed, notes-disputed_notes, covers_first}
+use Rattle.std.proofs.Common.{leb-true, le-leb}
+use Rattle.mxf_places.specs.Held.{AreDisputed, IsDisputedAt, IsHeld, covers, is_disputed_at}
+use Rattle.mxf_places.specs.Held.{is_held, reaches_past, top_of, end_of_file, held_end, rip_end_by}
 
 pub covers-says : (x : ℕ) (n : NoteParts) → IsTrue (covers x n) ↔ IsCovered n x
 covers-says x n = (

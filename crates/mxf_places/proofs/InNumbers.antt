@@ -1,8 +1,6 @@
 -- What the definitions of places say of partitions by their numbers is what they say of the partitions.
-use Rattle.std.proofs.Common.{◌≡◌, List, map}
+use Rattle.mxf_views.proofs.Common.{◌≡◌, List, map, NoteParts, PartitionParts, in_numbers}
 use Rattle.std.specs.List.{filter_map}
-use Rattle.mxf_klv.specs.Parts.{NoteParts}
-use Rattle.mxf_views.specs.Partitions.{PartitionParts, in_numbers}
 use Rattle.mxf_views.proofs.NumbersLaws.{filter_map_mapped}
 use Rattle.mxf_places.specs.Claims.{footer_claim, index_of, metadata_of, previous_claim, zone_claim}
 use Rattle.mxf_places.specs.declared.stretch.Zone.{Zone}

@@ -1,13 +1,8 @@
 -- Which offsets the packets of a file hold.
-use Rattle.std.proofs.Common.{◌≡◌, ◌≤◌, ◌<◌, ◌+◌, ℕ, List, [], ◌∷◌, ap, arith, inl, inr, refl}
-use Rattle.std.proofs.lemmas.Bool.{cases_lt}
-use Rattle.mxf_klv.specs.Parts.{NoteParts, PacketParts}
-use Rattle.mxf_klv.specs.Note.{end_of, note_of}
-use Rattle.mxf_klv.specs.Packet.{size_of}
-use Rattle.mxf_klv.specs.Piece.{end_after, notes_from}
-use Rattle.mxf_klv.specs.Rising.{In}
+use Rattle.mxf_views.proofs.Common.{◌≡◌, ◌≤◌, ◌<◌, ◌+◌, ℕ, List, [], ◌∷◌, ap, arith, inl, inr, refl}
+use Rattle.mxf_views.proofs.Common.{cases_lt, NoteParts, PacketParts, end_of, note_of, size_of}
+use Rattle.mxf_views.proofs.Common.{end_after, notes_from, In, end_up}
 use Rattle.mxf_places.specs.Held.{IsHeld}
-use Rattle.mxf_klv.proofs.SmallPackets.{end_up}
 
 -- Each packet ends at or below the end of all.
 pub ends_below : (o : ℕ) (l : List PacketParts) (m : NoteParts) → In m (notes_from o l) → end_of m ≤ end_after o l

@@ -1,23 +1,16 @@
 -- Going over fills leads to where none begins.
-use Rattle.std.proofs.Common.{◌≡◌, ◌≢◌, ◌↔◌, ◌⊎◌, ◌∙◌, ◌<◌, ◌≤◌, ◌==◌, ◌&&◌, ◌+◌, ℕ, true, false, IsTrue, List, [], ◌∷◌}
-use Rattle.std.proofs.Common.{refl, sym, subst, inl, inr, not, cond, arith, eqb-true, eq-eqb}
-use Rattle.std.proofs.lemmas.Bool.{and_from, and_parts, cases_lt}
-use Rattle.std.proofs.lemmas.Option.{same_Some}
-use Rattle.std.specs.declared.cmp.Ordering.TheVariants.{Less}
-use Rattle.mxf_klv.specs.Parts.{NoteParts}
-use Rattle.mxf_klv.specs.Kind.{kind_of}
-use Rattle.mxf_klv.specs.Note.{end_of, note_cmp}
-use Rattle.mxf_klv.specs.NoteOrder.{note_total}
-use Rattle.mxf_klv.specs.Rising.{In, less_in}
-use Rattle.mxf_klv.specs.declared.kinds.Kind.TheVariants as kinds
-use Rattle.mxf_catalogue.specs.Content.{IsContent}
-use Rattle.mxf_catalogue.specs.Disputes.{AreApart, is_disputed, undisputed_notes}
-use Rattle.mxf_catalogue.proofs.DisputeLaws.{In-undisputed_notes, IsContent-filter, undisputed_at-found}
-use Rattle.mxf_catalogue.proofs.SpanLaws.{not_same, offset_le}
-use Rattle.mxf_views.specs.Copies.{is_fill}
+use Rattle.mxf_views.proofs.Common.{◌≡◌, ◌≢◌, ◌↔◌, ◌⊎◌, ◌∙◌, ◌<◌, ◌≤◌, ◌==◌, ◌&&◌, ◌+◌, ℕ, true}
+use Rattle.mxf_views.proofs.Common.{false, IsTrue, List, [], ◌∷◌, refl, sym, subst, inl, inr, not}
+use Rattle.mxf_views.proofs.Common.{cond, arith, eqb-true, eq-eqb, and_from, and_parts, cases_lt}
+use Rattle.mxf_views.proofs.Common.{same_Some, Less, NoteParts, kind_of, end_of, note_cmp}
+use Rattle.mxf_views.proofs.Common.{note_total, In, less_in, IsContent, AreApart, is_disputed}
+use Rattle.mxf_views.proofs.Common.{undisputed_notes, In-undisputed_notes, IsContent-filter}
+use Rattle.mxf_views.proofs.Common.{undisputed_at-found, offset_le, is_fill}
+use Rattle.mxf_catalogue.proofs.SpanLaws.{not_same}
 use Rattle.mxf_views.proofs.KindLaws.{fill_kind}
 use Rattle.mxf_places.specs.Claims.{over_among, over_fills}
 use Rattle.mxf_places.specs.Named.{Follow, IsOver, StandsAlone}
+use Rattle.mxf_klv.specs.declared.kinds.Kind.TheVariants as kinds
 
 -- Going over the fills among packets from an offset one comes to another, which is the same or above a bound.
 record Passed (packets : List NoteParts) (low from to : ℕ) : Type 0 where

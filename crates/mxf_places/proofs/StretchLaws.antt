@@ -1,20 +1,14 @@
 -- Stretches above all offsets.
-use Rattle.std.proofs.Common.{◌≡◌, ◌∙◌, ◌==◌, ◌&&◌, ◌<◌, ◌≤◌, ℕ, true, false, List, [], ◌∷◌, refl, ap, cond, arith}
-use Rattle.std.proofs.Common.{Option, None, Some, nat_lt, ne_eqb, eqb-true, inl, inr, ◌+◌, if◌then◌else◌, le-ltb, not}
-use Rattle.std.proofs.Common.{◌||◌, option_and_then, lt-ltb, ◌≢◌}
-use Rattle.std.specs.Option.{option_map_or}
-use Rattle.mxf_klv.specs.Parts.{NoteParts}
-use Rattle.mxf_klv.specs.Kind.{kind_of}
-use Rattle.mxf_klv.specs.Note.{IsNote, end_of, greatest_end}
-use Rattle.mxf_klv.specs.Rising.{In}
-use Rattle.mxf_klv.proofs.Lists.{all-In, find-none}
-use Rattle.mxf_catalogue.specs.Content.{IsCatalogue}
-use Rattle.mxf_catalogue.specs.Disputes.{undisputed_notes}
-use Rattle.mxf_catalogue.proofs.DisputeLaws.{In-undisputed_notes}
-use Rattle.mxf_views.specs.Partitions.{PartitionParts}
-use Rattle.mxf_places.specs.Claims.{behind_metadata, index_of}
-use Rattle.mxf_places.specs.Claims.{begins, is_unknown, over_among, stretch_at, stretch_from}
-use Rattle.mxf_views.specs.Copies.{is_fill}
+use Rattle.mxf_views.proofs.Common.{◌≡◌, ◌∙◌, ◌==◌, ◌&&◌, ◌<◌, ◌≤◌, ℕ, true, false, List, [], ◌∷◌}
+use Rattle.mxf_views.proofs.Common.{refl, ap, cond, arith, Option, None, Some, nat_lt, ne_eqb}
+use Rattle.mxf_views.proofs.Common.{eqb-true, inl, inr, ◌+◌, if◌then◌else◌, not, ◌||◌}
+use Rattle.mxf_views.proofs.Common.{option_and_then, lt-ltb, ◌≢◌, option_map_or, NoteParts, kind_of}
+use Rattle.mxf_views.proofs.Common.{IsNote, end_of, greatest_end, In, all-In, find-none}
+use Rattle.mxf_views.proofs.Common.{IsCatalogue, undisputed_notes, In-undisputed_notes}
+use Rattle.mxf_views.proofs.Common.{PartitionParts, is_fill}
+use Rattle.std.proofs.Common.{le-ltb}
+use Rattle.mxf_places.specs.Claims.{behind_metadata, index_of, begins, is_unknown, over_among}
+use Rattle.mxf_places.specs.Claims.{stretch_at, stretch_from}
 use Rattle.mxf_places.specs.Held.{end_of_file, is_disputed_at, is_held}
 use Rattle.mxf_places.specs.declared.stretch.Zone.{Zone}
 use Rattle.mxf_places.specs.declared.stretch.Zone.TheVariants as zones

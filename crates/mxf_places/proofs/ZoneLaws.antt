@@ -1,31 +1,25 @@
 -- Stretches, and the zones of partitions, by functions and by relations.
-use Rattle.std.proofs.Common.{◌≡◌, ◌↔◌, ◌∙◌, ◌<◌, ◌==◌, ◌+◌, ◌||◌, ℕ, Bool, true, false, IsTrue, List, Option, Some, None}
-use Rattle.std.proofs.Common.{refl, sym, ap, subst, inl, inr, nat_lt, not, cond, find, is_some, option_and_then, arith}
-use Rattle.std.proofs.Common.{lt-ltb, ltb-true, eqb-true, eq-eqb}
-use Rattle.std.proofs.lemmas.Bool.{and_from, and_parts, ltb-false, or_cases}
-use Rattle.std.proofs.lemmas.Option.{same_Some}
-use Rattle.std.specs.Option.{option_map_or}
-use Rattle.mxf_klv.specs.Parts.{NoteParts}
-use Rattle.mxf_klv.specs.Kind.{kind_of}
-use Rattle.mxf_klv.proofs.Lists.{found-In, none_found}
-use Rattle.mxf_klv.proofs.Tests.{guarded, not-true-false}
-use Rattle.mxf_sets.specs.PackReadings.{primer_at}
-use Rattle.mxf_sets.specs.Readable.{read_as}
-use Rattle.mxf_catalogue.specs.Content.{IsContent}
-use Rattle.mxf_catalogue.specs.Disputes.{undisputed_notes}
-use Rattle.mxf_catalogue.proofs.DisputeLaws.{undisputed_at-found, undisputed_at-lacked}
-use Rattle.mxf_views.specs.Copies.{is_primer}
-use Rattle.mxf_views.specs.Partitions.{PartitionParts}
+use Rattle.mxf_views.proofs.Common.{◌≡◌, ◌↔◌, ◌∙◌, ◌<◌, ◌==◌, ◌+◌, ◌||◌, ℕ, Bool, true, false}
+use Rattle.mxf_views.proofs.Common.{IsTrue, List, Option, Some, None, refl, sym, ap, subst, inl}
+use Rattle.mxf_views.proofs.Common.{inr, nat_lt, not, cond, find, is_some, option_and_then, arith}
+use Rattle.mxf_views.proofs.Common.{lt-ltb, ltb-true, eqb-true, eq-eqb, and_from, and_parts}
+use Rattle.mxf_views.proofs.Common.{ltb-false, or_cases, same_Some, option_map_or, NoteParts}
+use Rattle.mxf_views.proofs.Common.{kind_of, found-In, none_found, guarded, not-true-false}
+use Rattle.mxf_views.proofs.Common.{primer_at, read_as, IsContent, undisputed_notes}
+use Rattle.mxf_views.proofs.Common.{undisputed_at-found, is_primer, PartitionParts}
+use Rattle.mxf_catalogue.proofs.DisputeLaws.{undisputed_at-lacked}
 use Rattle.mxf_views.proofs.KindLaws.{primer_kind, segment_kind}
 use Rattle.mxf_views.proofs.ReadingLaws.{is_some_readable}
-use Rattle.mxf_places.specs.Claims.{begins, begins_index, begins_metadata, behind_metadata, index_of, is_unknown}
-use Rattle.mxf_places.specs.Claims.{known_end, metadata_of, over_fills, stretch_at, stretch_from, zone_of}
-use Rattle.mxf_places.specs.Named.{AreMetadata, AreSegments, Begins, IsBehindMetadata, IsOver, IsStretch, IsZone}
+use Rattle.mxf_places.specs.Claims.{begins, begins_index, begins_metadata, behind_metadata}
+use Rattle.mxf_places.specs.Claims.{index_of, is_unknown, known_end, metadata_of, over_fills}
+use Rattle.mxf_places.specs.Claims.{stretch_at, stretch_from, zone_of}
+use Rattle.mxf_places.specs.Named.{AreMetadata, AreSegments, Begins, IsBehindMetadata, IsOver}
+use Rattle.mxf_places.specs.Named.{IsStretch, IsZone}
 use Rattle.mxf_places.specs.declared.stretch.Stretch.{Stretch}
 use Rattle.mxf_places.specs.declared.stretch.Zone.{Zone}
-use Rattle.mxf_places.specs.declared.stretch.Zone.TheVariants as zones
 use Rattle.mxf_places.proofs.EndLaws.{unknown_says}
 use Rattle.mxf_places.proofs.OverLaws.{alone, among, moved, over_is, over_says}
+use Rattle.mxf_places.specs.declared.stretch.Zone.TheVariants as zones
 
 begins_says : (zone : Zone) (n : NoteParts) → IsTrue (begins zone n) ↔ Begins zone n
 unfolding begins_metadata begins_index

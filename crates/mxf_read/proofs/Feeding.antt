@@ -1,22 +1,15 @@
 -- What is known of a piece whose bytes come in parts.
-use Rattle.std.proofs.Common.{◌≡◌, ℕ, ◌+◌, ◌-◌, ◌<◌, ◌≤◌, List, [], ◌∷◌, ◌++◌, length, take, Option, None, Some}
-use Rattle.std.proofs.Common.{refl, sym, ap, subst, ◌∙◌, arith, append_assoc, append-nil}
-use Rattle.mxf_klv.specs.Parts.{LengthParts, NoteParts, packet_parts}
-use Rattle.mxf_klv.specs.Packet.{size_of}
+use Rattle.mxf_views.proofs.Common.{◌≡◌, ℕ, ◌+◌, ◌-◌, ◌<◌, ◌≤◌, List, [], ◌∷◌, ◌++◌, length, take}
+use Rattle.mxf_views.proofs.Common.{Option, None, Some, refl, sym, ap, subst, ◌∙◌, arith}
+use Rattle.mxf_views.proofs.Common.{append_assoc, append-nil, LengthParts, NoteParts, packet_parts}
+use Rattle.mxf_views.proofs.Common.{size_of, BeginsWithKeyAndLength, HasNoKeyAndLength, note_of}
+use Rattle.mxf_views.proofs.Common.{end_of, end_after, notes_from, IsHeadOf, IsNoHead, IsOpen}
+use Rattle.mxf_views.proofs.Common.{packet_at, packets_in, rest_in, stop_of, Stop, Truncated}
+use Rattle.mxf_views.proofs.Common.{IsHeadNow, none_more, none_at_end, packets_in-none}
+use Rattle.mxf_views.proofs.Common.{rest_in-none, at_cut, stops, reduced_with, AreApart}
 use Rattle.std.specs.Prelude.{true, is_some}
-use Rattle.mxf_klv.specs.KeyAndLength.{BeginsWithKeyAndLength, HasNoKeyAndLength}
-use Rattle.mxf_klv.specs.Note.{note_of, end_of}
-use Rattle.mxf_klv.specs.Piece.{end_after, notes_from}
-use Rattle.mxf_klv.specs.PieceReading.{IsHeadOf, IsNoHead, IsOpen, packet_at, packets_in, rest_in, stop_of}
-use Rattle.mxf_klv.specs.declared.piece.Stop.{Stop}
-use Rattle.mxf_klv.specs.declared.piece.Stop.TheVariants.{Truncated}
-use Rattle.mxf_klv.proofs.MoreBytes.{IsHeadNow, few_without_head, head_now}
-use Rattle.mxf_klv.proofs.MoreBytes.{none_more, one_more, stays, whole_value}
-use Rattle.mxf_klv.proofs.PieceLaws.{none_at_end, packets_in-none, rest_in-none}
+use Rattle.mxf_klv.proofs.MoreBytes.{few_without_head, head_now, one_more, stays, whole_value}
 use Rattle.mxf_klv.proofs.KeyAndLengthLaws.{no_head_short}
-use Rattle.mxf_klv.proofs.StopLaws.{at_cut, stops}
-use Rattle.mxf_catalogue.specs.Content.{reduced_with}
-use Rattle.mxf_catalogue.specs.Disputes.{AreApart}
 use Rattle.mxf_read.proofs.Pieces.{apart_packets}
 use Rattle.mxf_read.proofs.Taking.{with_last}
 use Rattle.mxf_read.specs.Coming.{HasCome, HasTaken}

@@ -1,19 +1,14 @@
 -- The parts so far, and those that are left; the history that gathers parts, and what it leaves.
-use Rattle.std.proofs.Common.{◌≡◌, ℕ, zero, suc, ◌+◌, ◌-◌, ◌<◌, ◌^◌, ◌⊎◌, ◌↔◌, List, [], ◌∷◌, ◌++◌, length, take}
-use Rattle.std.proofs.Common.{Option, Some, refl, sym, ap, subst, ◌∙◌, arith, inl, inr, append_assoc, append-nil}
-use Rattle.std.proofs.Common.{length-append}
-use Rattle.std.specs.Prelude.{slice_get}
-use Rattle.std.specs.List.{AllByRecursion}
-use Rattle.std.proofs.lemmas.List.{take_at}
-use Rattle.mxf_klv.specs.Parts.{NoteParts}
-use Rattle.mxf_klv.specs.PieceReading.{notes_in}
-use Rattle.mxf_klv.specs.Rising.{In}
-use Rattle.mxf_catalogue.specs.CatalogueFile.{IsFileOf, file_bytes}
-use Rattle.mxf_catalogue.specs.Content.{AreReduced, IsCatalogue, reduced_union}
-use Rattle.mxf_catalogue.specs.History.{History, New, Add, Join, Read, Absorb, Cut, Of, Hands, content}
-use Rattle.mxf_catalogue.proofs.FileLaws.{one_content, written_file}
-use Rattle.mxf_catalogue.proofs.HistoryLaws.{AreReduced-content, In-content}
-use Rattle.mxf_views.specs.Headline.{IsTheRun}
+use Rattle.mxf_views.proofs.Common.{◌≡◌, ℕ, zero, suc, ◌+◌, ◌-◌, ◌<◌, ◌^◌, ◌⊎◌, ◌↔◌, List, [], ◌∷◌}
+use Rattle.mxf_views.proofs.Common.{◌++◌, length, take, Option, Some, refl, sym, ap, subst, ◌∙◌}
+use Rattle.mxf_views.proofs.Common.{arith, inl, inr, append_assoc, append-nil, length-append}
+use Rattle.mxf_views.proofs.Common.{slice_get, AllByRecursion, take_at, NoteParts, notes_in, In}
+use Rattle.mxf_views.proofs.Common.{IsFileOf, file_bytes, AreReduced, IsCatalogue, reduced_union}
+use Rattle.mxf_views.proofs.Common.{History, New, Add, Read, Absorb, Cut, Hands, content}
+use Rattle.mxf_views.proofs.Common.{written_file, In-content, IsTheRun, all_push}
+use Rattle.mxf_catalogue.specs.History.{Join, Of}
+use Rattle.mxf_catalogue.proofs.FileLaws.{one_content}
+use Rattle.mxf_catalogue.proofs.HistoryLaws.{AreReduced-content}
 use Rattle.mxf_views.proofs.RunLaws.{IsTheRun-from_set}
 use Rattle.mxf_read.specs.declared.gathering.part.Part.{Part}
 use Rattle.mxf_read.specs.declared.gathering.part.Part.TheVariants.{Piece, Range, Saved}
@@ -22,11 +17,10 @@ use Rattle.mxf_read.specs.declared.gathering.fault.PartFault.{PartFault}
 use Rattle.mxf_read.specs.declared.gathering.fault.PartFault.TheVariants.{OutOfMemory}
 use Rattle.mxf_read.specs.Levels.{Adds, HoldsAll, merged_with}
 use Rattle.mxf_read.specs.Ranges.{range_notes}
-use Rattle.mxf_read.specs.Gathering.{AllTell, Gathers, HandedBy, HandsNote, HasFault, IsGatherFault, IsGood, IsLeftBy}
-use Rattle.mxf_read.specs.Gathering.{IsPieceOf}
+use Rattle.mxf_read.specs.Gathering.{AllTell, Gathers, HandedBy, HandsNote, HasFault, IsGatherFault}
+use Rattle.mxf_read.specs.Gathering.{IsGood, IsLeftBy, IsPieceOf, TakesPart, Tells, bytes_of}
+use Rattle.mxf_read.specs.Gathering.{piece_of, reports_from, reports_in, reports_of}
 use Rattle.mxf_read.proofs.Taking.{slice_get_at}
-use Rattle.mxf_read.specs.Gathering.{TakesPart, Tells, bytes_of, piece_of, reports_from, reports_in, reports_of}
-use Rattle.mxf_klv.proofs.Lists.{all_push}
 
 all_at : {K : Type 0} (P : K → Type 0) (xs ys : List K) (x : K) → AllByRecursion P (xs ++ x ∷ ys) → P x
 all_at P [] ys x a = a.0

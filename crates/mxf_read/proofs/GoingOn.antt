@@ -1,23 +1,19 @@
 -- The rest of a piece from one of its packets on.
-use Rattle.std.proofs.Common.{◌≡◌, ℕ, zero, suc, ◌+◌, ◌-◌, ◌≤◌, List, [], ◌∷◌, ◌++◌, length, take, drop, length-append}
-use Rattle.std.proofs.Common.{Option, None, Some, Result, Ok, Err, refl, sym, ap, subst, ◌∙◌, arith, append_assoc, inl}
-use Rattle.std.proofs.Common.{inr}
-use Rattle.std.specs.Prelude.{slice_get, IsSomeAnd}
-use Rattle.std.proofs.lemmas.List.{drop-drop, length-drop, take-append-le}
-use Rattle.mxf_klv.specs.Parts.{NoteParts, PacketParts}
-use Rattle.mxf_klv.specs.Note.{note_of}
-use Rattle.mxf_klv.specs.Packet.{size_of}
-use Rattle.mxf_klv.specs.Piece.{end_after, notes_from}
-use Rattle.mxf_klv.specs.PieceReading.{GoesOn, heads_at, notes_in, packet_at, packets_in, rest_in, stop_in, stop_of}
-use Rattle.mxf_klv.proofs.KeyAndLengthLaws.{head-size}
-use Rattle.mxf_klv.proofs.PieceLaws.{ends_at, goes_on, packets_in-none, packets_in-some}
-use Rattle.mxf_klv.proofs.MoreBytes.{seam, notes_from-append}
-use Rattle.mxf_catalogue.specs.Content.{reduced_union}
-use Rattle.mxf_catalogue.specs.History.{History, Absorb, Cut, content}
+use Rattle.mxf_views.proofs.Common.{◌≡◌, ℕ, zero, suc, ◌+◌, ◌-◌, ◌≤◌, List, [], ◌∷◌, ◌++◌, length}
+use Rattle.mxf_views.proofs.Common.{take, drop, length-append, Option, None, Some, Result, Ok, Err}
+use Rattle.mxf_views.proofs.Common.{refl, sym, ap, subst, ◌∙◌, arith, append_assoc, inl, inr}
+use Rattle.mxf_views.proofs.Common.{slice_get, IsSomeAnd, drop-drop, length-drop, take-append-le}
+use Rattle.mxf_views.proofs.Common.{NoteParts, PacketParts, note_of, size_of, end_after, notes_from}
+use Rattle.mxf_views.proofs.Common.{heads_at, notes_in, packet_at, packets_in, rest_in, stop_in}
+use Rattle.mxf_views.proofs.Common.{stop_of, head-size, ends_at, goes_on, packets_in-none}
+use Rattle.mxf_views.proofs.Common.{packets_in-some, seam, notes_from-append, reduced_union}
+use Rattle.mxf_views.proofs.Common.{History, Absorb, Cut, content}
+use Rattle.mxf_klv.specs.PieceReading.{GoesOn}
 use Rattle.mxf_read.specs.declared.report.Report.{Report}
 use Rattle.mxf_read.specs.declared.report.AbsorbFault.{AbsorbFault}
 use Rattle.mxf_read.specs.declared.report.AbsorbFault.TheVariants.{OutOfMemory, ReadFault}
-use Rattle.mxf_read.specs.Absorbs.{AbsorbsFrom, Absorbs, AddsFirst, GoesOnAt, first_notes_in, history_with}
+use Rattle.mxf_read.specs.Absorbs.{AbsorbsFrom, Absorbs, AddsFirst, GoesOnAt, first_notes_in}
+use Rattle.mxf_read.specs.Absorbs.{history_with}
 use Rattle.mxf_read.specs.Reads.{Takes}
 use Rattle.mxf_read.proofs.Pieces.{head_begins, heads_few, notes_for_packets}
 use Rattle.mxf_read.proofs.Taking.{union_append}

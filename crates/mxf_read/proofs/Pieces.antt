@@ -1,23 +1,16 @@
 -- How the notes of a piece stand: those of its packets, and the head of the packet that its end cuts.
-use Rattle.std.proofs.Common.{◌≡◌, ◌≢◌, ◌⊎◌, ℕ, zero, suc, ◌+◌, ◌<◌, ◌≤◌, List, [], ◌∷◌, ◌++◌, length, take}
-use Rattle.std.proofs.Common.{None, Some, true, false, refl, sym, ap, subst, ◌∙◌, arith, inl, inr, append-nil}
-use Rattle.std.specs.Prelude.{slice_get, IsSomeAnd}
-use Rattle.std.specs.List.{AllByRecursion}
-use Rattle.std.proofs.lemmas.List.{take_all}
-use Rattle.std.specs.declared.cmp.Ordering.TheVariants.{Less}
-use Rattle.mxf_klv.specs.Parts.{NoteParts, PacketParts, head_parts}
-use Rattle.mxf_klv.specs.Packet.{size_of}
-use Rattle.mxf_klv.specs.Note.{note_cmp}
-use Rattle.mxf_klv.specs.Piece.{BeginsWithCut, end_after, notes_from}
-use Rattle.mxf_klv.specs.PieceReading.{IsOpen, head_at, heads_at, is_cut_at, notes_in, packets_in, rest_in}
-use Rattle.mxf_klv.specs.PieceReading.{stop_in, stop_of}
-use Rattle.mxf_klv.specs.Rising.{In}
+use Rattle.mxf_views.proofs.Common.{◌≡◌, ◌≢◌, ◌⊎◌, ℕ, zero, suc, ◌+◌, ◌<◌, ◌≤◌, List, [], ◌∷◌, ◌++◌}
+use Rattle.mxf_views.proofs.Common.{length, take, None, Some, true, false, refl, sym, ap, subst}
+use Rattle.mxf_views.proofs.Common.{◌∙◌, arith, inl, inr, append-nil, slice_get, IsSomeAnd}
+use Rattle.mxf_views.proofs.Common.{AllByRecursion, take_all, Less, NoteParts, PacketParts}
+use Rattle.mxf_views.proofs.Common.{head_parts, size_of, note_cmp, BeginsWithCut, end_after}
+use Rattle.mxf_views.proofs.Common.{notes_from, IsOpen, head_at, heads_at, notes_in, packets_in}
+use Rattle.mxf_views.proofs.Common.{rest_in, stop_in, stop_of, In, AreReduced, IsContent}
+use Rattle.mxf_views.proofs.Common.{reduced_union, AreApart, reduced_union-none, AreApart-lower}
+use Rattle.mxf_views.proofs.Common.{less_by_offset}
+use Rattle.mxf_klv.specs.PieceReading.{is_cut_at}
 use Rattle.mxf_klv.proofs.CutHeads.{cut_stops, heads_at-stands}
-use Rattle.mxf_catalogue.specs.Content.{AreReduced, IsContent, reduced_union}
-use Rattle.mxf_catalogue.specs.Disputes.{AreApart}
-use Rattle.mxf_catalogue.proofs.HeadLaws.{reduced_union-none}
 use Rattle.mxf_catalogue.proofs.ApartLaws.{begins_above}
-use Rattle.mxf_catalogue.proofs.SpanLaws.{AreApart-lower, less_by_offset}
 
 -- ---- notes that stand apart
 

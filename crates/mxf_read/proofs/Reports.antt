@@ -1,35 +1,30 @@
 -- What is reported of a piece whose bytes come in parts, and what a reader's piece adds.
-use Rattle.std.proofs.Common.{◌≡◌, ℕ, ◌+◌, ◌-◌, ◌≤◌, List, [], ◌∷◌, ◌++◌, length, take, Option, None, Some}
-use Rattle.std.proofs.Common.{Result, Ok, Err, refl, sym, ap, subst, ◌∙◌, arith, inl, inr, ◌⊎◌, append-nil}
-use Rattle.std.proofs.Common.{append_assoc}
-use Rattle.std.proofs.Common.{length-append}
+use Rattle.mxf_views.proofs.Common.{◌≡◌, ℕ, ◌+◌, ◌-◌, ◌≤◌, List, [], ◌∷◌, ◌++◌, length, take}
+use Rattle.mxf_views.proofs.Common.{Option, None, Some, Result, Ok, Err, refl, sym, ap, subst, ◌∙◌}
+use Rattle.mxf_views.proofs.Common.{arith, inl, inr, ◌⊎◌, append-nil, append_assoc, length-append}
+use Rattle.mxf_views.proofs.Common.{IsAtEnd, take-append-add, take_at, take_all, NoteParts}
+use Rattle.mxf_views.proofs.Common.{head_parts, HasNoKeyAndLength, end_after, notes_from, IsOpen}
+use Rattle.mxf_views.proofs.Common.{heads_at, notes_in, packets_in, rest_in, stop_in, stop_of, Stop}
+use Rattle.mxf_views.proofs.Common.{End, NotUl, BadLength, TooFar, Truncated, NoStart, seam}
+use Rattle.mxf_views.proofs.Common.{notes_from-append, at_cut, stops, heads_at-cut, reduced_union}
+use Rattle.mxf_views.proofs.Common.{reduced_with}
 use Rattle.std.specs.Prelude.{true, false, is_some, nat_eq, IfOk, IfSome}
-use Rattle.std.specs.Io.KnownBytes.{IsAtEnd}
-use Rattle.std.proofs.Math.Seq.{take-append-add}
 use Rattle.std.proofs.lemmas.Bool.{eqb-true}
-use Rattle.std.proofs.lemmas.List.{take_at, take_all}
-use Rattle.mxf_klv.specs.Parts.{NoteParts, head_parts}
-use Rattle.mxf_klv.specs.KeyAndLength.{HasNoKeyAndLength}
-use Rattle.mxf_klv.specs.Piece.{end_after, notes_from}
-use Rattle.mxf_klv.specs.PieceReading.{IsOpen, heads_at, notes_in, packets_in, rest_in, stop_in, stop_of}
-use Rattle.mxf_klv.specs.declared.piece.Stop.{Stop}
-use Rattle.mxf_klv.specs.declared.piece.Stop.TheVariants.{End, NotUl, BadLength, TooFar, Truncated, NoStart}
-use Rattle.mxf_klv.proofs.MoreBytes.{seam, stop_is, stop_stays, notes_from-append}
-use Rattle.mxf_klv.proofs.StopLaws.{at_cut, stops}
-use Rattle.mxf_klv.proofs.CutHeads.{heads_at-cut, heads_at-none}
-use Rattle.mxf_catalogue.specs.Content.{reduced_union, reduced_with}
-use Rattle.mxf_read.proofs.Pieces.{alone_first, alone_in, alone_packets, closed_notes, no_heads, notes_for_packets}
+use Rattle.mxf_klv.proofs.MoreBytes.{stop_is, stop_stays}
+use Rattle.mxf_klv.proofs.CutHeads.{heads_at-none}
+use Rattle.mxf_read.proofs.Pieces.{alone_first, alone_in, alone_packets, closed_notes, no_heads}
+use Rattle.mxf_read.proofs.Pieces.{notes_for_packets}
 use Rattle.mxf_read.proofs.Taking.{union_append}
 use Rattle.mxf_read.specs.Absorbs.{Absorbs, AbsorbsFrom, AddsFirst, Finishes, report_of}
 use Rattle.mxf_read.specs.Feeding.{Fed, IsNext, Knows, NotesNone}
 use Rattle.mxf_read.specs.declared.coming.ComingValue.{ComingValue}
 use Rattle.mxf_read.specs.Reads.{ReadsAll, Takes}
 use Rattle.mxf_read.specs.declared.piece.Piece.{Piece}
-use Rattle.mxf_read.specs.declared.reading.Cause.TheVariants as causes
 use Rattle.mxf_read.specs.declared.report.Report.{Report}
 use Rattle.mxf_read.specs.declared.report.AbsorbFault.{AbsorbFault}
 use Rattle.mxf_read.specs.declared.report.AbsorbFault.TheVariants.{OutOfMemory, ReadFault}
 use Rattle.mxf_read.proofs.Feeding.{awaits, holds}
+use Rattle.mxf_read.specs.declared.reading.Cause.TheVariants as causes
 
 -- ---- the report
 

@@ -1,22 +1,19 @@
 -- What the bytes that were read of a part tell of all that its reader gives.
-use Rattle.std.proofs.Common.{◌≡◌, ℕ, ◌+◌, ◌<◌, ◌≤◌, List, [], ◌∷◌, ◌++◌, length, take, Option, Some, None}
-use Rattle.std.proofs.Common.{refl, sym, ap, subst, ◌∙◌, arith, append-nil}
+use Rattle.mxf_views.proofs.Common.{◌≡◌, ℕ, ◌+◌, ◌<◌, ◌≤◌, List, [], ◌∷◌, ◌++◌, length, take}
+use Rattle.mxf_views.proofs.Common.{Option, Some, None, refl, sym, ap, subst, ◌∙◌, arith}
+use Rattle.mxf_views.proofs.Common.{append-nil, length-take, take_all, NoteParts, notes_in}
+use Rattle.mxf_views.proofs.Common.{reduced_union, IsFileOf, New, Read, Absorb}
 use Rattle.std.specs.Prelude.{IfSome, IsSome, unwrap_or}
-use Rattle.std.proofs.lemmas.List.{length-take, take_all}
-use Rattle.mxf_klv.specs.Parts.{NoteParts}
-use Rattle.mxf_klv.specs.PieceReading.{notes_in}
-use Rattle.mxf_catalogue.specs.Content.{reduced_union}
-use Rattle.mxf_catalogue.specs.CatalogueFile.{IsFileOf, IsRefused}
+use Rattle.mxf_catalogue.specs.CatalogueFile.{IsRefused}
 use Rattle.mxf_catalogue.specs.declared.catalogue.file.FileFault.{FileFault}
-use Rattle.mxf_catalogue.specs.History.{New, Read, Absorb}
 use Rattle.mxf_read.specs.declared.report.Report.{Report}
 use Rattle.mxf_read.specs.Absorbs.{report_of}
 use Rattle.mxf_read.specs.declared.gathering.part.Part.TheVariants.{Piece, Saved}
 use Rattle.mxf_read.specs.declared.gathering.report.PieceReport.{PieceReport}
 use Rattle.mxf_read.specs.declared.gathering.fault.PartFault.{PartFault}
 use Rattle.mxf_read.specs.Levels.{Adds}
-use Rattle.mxf_read.specs.Gathering.{IsSavedAs, IsSavedFault, TakesPart, Tells, bytes_of, piece_limit, piece_of}
-use Rattle.mxf_read.specs.Gathering.{saved_limit}
+use Rattle.mxf_read.specs.Gathering.{IsSavedAs, IsSavedFault, TakesPart, Tells, bytes_of}
+use Rattle.mxf_read.specs.Gathering.{piece_limit, piece_of, saved_limit}
 
 pub too_long : (o : Option (List ℕ)) (v : List ℕ) → IfSome o (λ all. v ≡ take (saved_limit + 1) all)
     → saved_limit < length v → IfSome o (λ all. saved_limit < length all)

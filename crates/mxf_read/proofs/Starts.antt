@@ -1,34 +1,29 @@
 -- Where a piece may begin, by the tests, and the first such position.
-use Rattle.std.proofs.Common.{◌≡◌, ℕ, zero, suc, ◌+◌, ◌-◌, ◌<◌, ◌≤◌, Bool, true, false, not, ◌&&◌, nat_le}
-use Rattle.std.proofs.Common.{List, [], ◌∷◌, length, take, drop, Option, None, Some, refl, sym, ap, subst, ◌∙◌, arith}
-use Rattle.std.proofs.Common.{inl, inr, ◌↔◌}
-use Rattle.std.specs.Prelude.{slice_get}
-use Rattle.std.specs.Option.{option_map, option_map_or}
-use Rattle.std.specs.Str.{bytes_eq}
-use Rattle.std.proofs.lemmas.Bool.{leb-true, le-leb, and_parts, and_from, or_cases, or_left, or_right, both_ways}
-use Rattle.std.proofs.lemmas.Bool.{false_from_ne_true, cases_lt, cases_order, cases_Bool, cond-true, cond-false}
-use Rattle.std.proofs.lemmas.Slice.Eq.{bytes_eq-Decides}
-use Rattle.std.proofs.lemmas.List.{take_at, drop_at, drop-drop, take_all, length-drop, length-take, take-append-drop}
-use Rattle.mxf_klv.specs.Parts.{LengthParts, packet_parts}
-use Rattle.mxf_klv.specs.Label.{begins_as_label, label_start}
-use Rattle.mxf_klv.specs.Kind.{kind_of}
-use Rattle.mxf_klv.specs.KeyAndLength.{BeginsWithKeyAndLength}
-use Rattle.mxf_klv.specs.Note.{greatest_end}
-use Rattle.mxf_klv.specs.Packet.{size_of}
-use Rattle.mxf_klv.specs.PieceReading.{IsHeadOf, IsNoHead, IsOpen, end_with, head_at, packet_at}
-use Rattle.mxf_klv.specs.declared.kinds.Kind.{Kind}
-use Rattle.mxf_klv.specs.declared.kinds.Kind.TheVariants.{Header, Body, Footer, Primer, Segment, Rip, Preface}
-use Rattle.mxf_klv.specs.declared.kinds.Kind.TheVariants.{Identification, ContentStorage, MaterialPackage}
-use Rattle.mxf_klv.specs.declared.kinds.Kind.TheVariants.{SourcePackage, RawSet, Fill, Essence, Other}
-use Rattle.mxf_klv.specs.declared.piece.Stop.{Stop}
-use Rattle.mxf_klv.specs.declared.piece.Stop.TheVariants.{Truncated}
-use Rattle.mxf_klv.proofs.KeyAndLengthLaws.{head-begins, head-past_key, head-size, head-width, head-packet}
-use Rattle.mxf_klv.proofs.PieceLaws.{begins-test, head_at-head, head_at-stands, packet_at-given}
-use Rattle.mxf_klv.proofs.PieceLaws.{test-begins}
-use Rattle.mxf_klv.proofs.StopLaws.{at_cut, stops}
+use Rattle.mxf_views.proofs.Common.{◌≡◌, ℕ, zero, suc, ◌+◌, ◌-◌, ◌<◌, ◌≤◌, Bool, true, false, not}
+use Rattle.mxf_views.proofs.Common.{◌&&◌, nat_le, List, [], ◌∷◌, length, take, drop, Option, None}
+use Rattle.mxf_views.proofs.Common.{Some, refl, sym, ap, subst, ◌∙◌, arith, inl, inr, ◌↔◌}
+use Rattle.mxf_views.proofs.Common.{slice_get, option_map_or, bytes_eq, leb-true, le-leb, and_parts}
+use Rattle.mxf_views.proofs.Common.{and_from, or_cases, or_left, or_right, false_from_ne_true}
+use Rattle.mxf_views.proofs.Common.{cases_lt, cases_order, cases_Bool, cond-false, bytes_eq-Decides}
+use Rattle.mxf_views.proofs.Common.{take_at, drop_at, drop-drop, take_all, length-drop, length-take}
+use Rattle.mxf_views.proofs.Common.{take-append-drop, LengthParts, packet_parts, begins_as_label}
+use Rattle.mxf_views.proofs.Common.{label_start, kind_of, BeginsWithKeyAndLength, greatest_end}
+use Rattle.mxf_views.proofs.Common.{size_of, IsHeadOf, IsNoHead, IsOpen, head_at, packet_at, Kind}
+use Rattle.mxf_views.proofs.Common.{Essence, Stop, Truncated, head-size, head-width, head_at-head}
+use Rattle.mxf_views.proofs.Common.{packet_at-given, at_cut, stops}
+use Rattle.std.specs.Option.{option_map}
+use Rattle.std.proofs.lemmas.Bool.{both_ways, cond-true}
+use Rattle.mxf_klv.specs.PieceReading.{end_with}
+use Rattle.mxf_klv.specs.declared.kinds.Kind.TheVariants.{Header, Body, Footer, Primer, Segment}
+use Rattle.mxf_klv.specs.declared.kinds.Kind.TheVariants.{Rip, Preface, Identification}
+use Rattle.mxf_klv.specs.declared.kinds.Kind.TheVariants.{ContentStorage, MaterialPackage}
+use Rattle.mxf_klv.specs.declared.kinds.Kind.TheVariants.{SourcePackage, RawSet, Fill, Other}
+use Rattle.mxf_klv.proofs.KeyAndLengthLaws.{head-begins, head-past_key, head-packet}
+use Rattle.mxf_klv.proofs.PieceLaws.{begins-test, head_at-stands, test-begins}
 use Rattle.memchr.specs.Find.{FindsNeedle, OccursAt}
 use Rattle.memchr.proofs.lemmas.MatchLemmas.{OccursAt-from_part}
-use Rattle.mxf_read.specs.Ranges.{IsStart, IsStartKey, MayBegin, is_other, is_start_key, may_begin, start_in}
+use Rattle.mxf_read.specs.Ranges.{IsStart, IsStartKey, MayBegin, is_other, is_start_key, may_begin}
+use Rattle.mxf_read.specs.Ranges.{start_in}
 
 -- ---- keys
 

@@ -1,18 +1,15 @@
 -- The notes of a piece that are added so far, and those that are left; and a piece that is merged as a whole.
-use Rattle.std.proofs.Common.{◌≡◌, ◌≢◌, ℕ, zero, suc, ◌+◌, List, [], ◌∷◌, ◌++◌, length, take, Option, Some, refl}
-use Rattle.std.proofs.Common.{Result, Ok, Err, sym, ap, subst, ◌∙◌, arith, inl, inr, append_assoc, length-append}
-use Rattle.std.specs.Prelude.{slice_get, IsSomeAnd}
-use Rattle.std.proofs.lemmas.List.{take_at, take_all}
-use Rattle.mxf_klv.specs.Parts.{NoteParts}
-use Rattle.mxf_klv.specs.PieceReading.{heads_at, notes_in, packets_in, stop_in}
-use Rattle.mxf_klv.specs.declared.piece.Stop.{Stop}
-use Rattle.mxf_catalogue.specs.Content.{reduced_union, reduced_with}
-use Rattle.mxf_catalogue.specs.Disputes.{AreApart}
+use Rattle.mxf_views.proofs.Common.{◌≡◌, ◌≢◌, ℕ, zero, suc, ◌+◌, List, [], ◌∷◌, ◌++◌, length, take}
+use Rattle.mxf_views.proofs.Common.{Option, Some, refl, Result, Ok, Err, sym, ap, subst, ◌∙◌, arith}
+use Rattle.mxf_views.proofs.Common.{inl, inr, append_assoc, length-append, slice_get, IsSomeAnd}
+use Rattle.mxf_views.proofs.Common.{take_at, take_all, NoteParts, heads_at, notes_in, packets_in}
+use Rattle.mxf_views.proofs.Common.{stop_in, Stop, reduced_union, reduced_with, AreApart}
 use Rattle.mxf_read.specs.declared.report.Report.{Report}
 use Rattle.mxf_read.specs.declared.report.AbsorbFault.{AbsorbFault}
 use Rattle.mxf_read.specs.declared.report.AbsorbFault.TheVariants.{OutOfMemory, ReadFault}
 use Rattle.mxf_read.specs.Absorbs.{Absorbs}
-use Rattle.mxf_read.proofs.Pieces.{alone, alone_first, alone_front, alone_in, first_begins, head_begins, heads_few}
+use Rattle.mxf_read.proofs.Pieces.{alone, alone_first, alone_front, alone_in, first_begins}
+use Rattle.mxf_read.proofs.Pieces.{head_begins, heads_few}
 
 -- ---- note after note
 

@@ -1,18 +1,13 @@
 -- What a piece tells after its last byte was read: the notes of its packets, and the head of the one that is cut.
-use Rattle.std.proofs.Common.{◌≡◌, ◌<◌, ℕ, List, [], ◌∷◌, ◌++◌, length, Option, None, Some, true, refl, sym, ap, subst}
-use Rattle.std.proofs.Common.{◌∙◌, arith, append-nil, length-append}
+use Rattle.mxf_views.proofs.Common.{◌≡◌, ◌<◌, ℕ, List, [], ◌∷◌, ◌++◌, length, Option, None, Some}
+use Rattle.mxf_views.proofs.Common.{true, refl, sym, ap, subst, ◌∙◌, arith, append-nil}
+use Rattle.mxf_views.proofs.Common.{length-append, nil_from_length, head_parts}
+use Rattle.mxf_views.proofs.Common.{BeginsWithKeyAndLength, end_after, notes_from, heads_at}
+use Rattle.mxf_views.proofs.Common.{packet_at, rest_in, Stop, Truncated, heads_at-cut, none_more}
+use Rattle.mxf_views.proofs.Common.{at_cut, stops}
 use Rattle.std.specs.Prelude.{is_some}
 use Rattle.std.proofs.lemmas.Bool.{ltb-true}
-use Rattle.std.proofs.lemmas.List.{nil_from_length}
-use Rattle.mxf_klv.specs.Parts.{head_parts}
-use Rattle.mxf_klv.specs.KeyAndLength.{BeginsWithKeyAndLength}
-use Rattle.mxf_klv.specs.Piece.{end_after, notes_from}
-use Rattle.mxf_klv.specs.PieceReading.{heads_at, packet_at, rest_in}
-use Rattle.mxf_klv.specs.declared.piece.Stop.{Stop}
-use Rattle.mxf_klv.specs.declared.piece.Stop.TheVariants.{Truncated}
-use Rattle.mxf_klv.proofs.CutHeads.{heads_at-cut}
-use Rattle.mxf_klv.proofs.MoreBytes.{more_head, none_more}
-use Rattle.mxf_klv.proofs.StopLaws.{at_cut, stops}
+use Rattle.mxf_klv.proofs.MoreBytes.{more_head}
 use Rattle.mxf_read.specs.Feeding.{Fed, Tells, begun_heads, waits_for_more}
 use Rattle.mxf_read.specs.declared.coming.ComingValue.{ComingValue}
 use Rattle.mxf_read.specs.declared.piece.Piece.{Piece}

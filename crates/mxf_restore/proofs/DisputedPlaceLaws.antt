@@ -1,10 +1,7 @@
 -- Disputed places of which each place stands once.
-use Rattle.std.proofs.Common.{◌≡◌, ◌∙◌, ◌&&◌, ◌==◌, ℕ, Bool, true, false, cond, not, filter, List, [], ◌∷◌, refl, sym}
-use Rattle.std.proofs.Common.{ap, eq-eqb, eqb-true}
-use Rattle.std.specs.List.{list_any}
-use Rattle.std.specs.Ordering.{nat_cmp}
-use Rattle.std.specs.BTreeMap.{is_at}
-use Rattle.mxf_klv.proofs.Tests.{same_bool}
+use Rattle.mxf_views.proofs.Common.{◌≡◌, ◌∙◌, ◌&&◌, ◌==◌, ℕ, Bool, true, false, cond, not, filter}
+use Rattle.mxf_views.proofs.Common.{List, [], ◌∷◌, refl, sym, ap, eq-eqb, eqb-true, list_any}
+use Rattle.mxf_views.proofs.Common.{nat_cmp, is_at, same_bool}
 use Rattle.std.specs.Cmp.{unsigned_ties}
 use Rattle.mxf_restore.specs.Plan.{first_by_place}
 use Rattle.mxf_restore.specs.declared.plan.DisputedPlace.{DisputedPlace}

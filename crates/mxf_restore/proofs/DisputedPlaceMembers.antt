@@ -1,15 +1,10 @@
 -- Disputed places, by the list and by what they are.
-use Rattle.std.proofs.Common.{◌≡◌, ◌↔◌, ◌∙◌, ◌&&◌, ◌==◌, ◌-◌, ◌+◌, ℕ, true, false, IsTrue, List, [], ◌∷◌, Option, Some}
-use Rattle.std.proofs.Common.{None, refl, sym, ap, subst, inl, inr, arith, filter_map, find, if◌then◌else◌, eq-eqb}
-use Rattle.std.proofs.Common.{eqb-true, option_and_then, Bool}
-use Rattle.std.specs.List.{cons_option}
-use Rattle.std.proofs.lemmas.Bool.{and_from, and_parts}
-use Rattle.std.proofs.lemmas.Option.{same_Some}
-use Rattle.mxf_klv.specs.Parts.{NoteParts}
-use Rattle.mxf_klv.specs.Rising.{In}
-use Rattle.mxf_klv.proofs.Lists.{In-filter_map, all-In, found-In, none_found}
-use Rattle.mxf_klv.proofs.Tests.{guarded}
-use Rattle.mxf_catalogue.specs.Content.{IsContent}
+use Rattle.mxf_views.proofs.Common.{◌≡◌, ◌↔◌, ◌∙◌, ◌&&◌, ◌==◌, ◌-◌, ◌+◌, ℕ, true, false, IsTrue}
+use Rattle.mxf_views.proofs.Common.{List, [], ◌∷◌, Option, Some, None, refl, sym, ap, subst, inl}
+use Rattle.mxf_views.proofs.Common.{inr, arith, filter_map, find, if◌then◌else◌, eq-eqb, eqb-true}
+use Rattle.mxf_views.proofs.Common.{option_and_then, Bool, cons_option, and_from, and_parts}
+use Rattle.mxf_views.proofs.Common.{same_Some, NoteParts, In, In-filter_map, all-In, found-In}
+use Rattle.mxf_views.proofs.Common.{none_found, guarded, IsContent}
 use Rattle.mxf_places.specs.AtHand.{AtHandParts}
 use Rattle.mxf_places.specs.Claims.{claims_of}
 use Rattle.mxf_places.specs.FirstClaims.{AreInOrder, GoesUpTo}

@@ -1,14 +1,11 @@
 -- How many notes are disputed, and where they lie.
-use Rattle.std.proofs.Common.{◌≡◌, ◌↔◌, ◌⊎◌, ◌≤◌, ◌∙◌, ℕ, List, [], ◌∷◌, None, Some, ap, arith}
-use Rattle.std.proofs.Common.{inl, inr, length, map, max, min, refl, subst, sym}
-use Rattle.std.proofs.lemmas.Bool.{cases_lt}
-use Rattle.mxf_klv.proofs.Lists.{In-filter, In-map}
-use Rattle.mxf_klv.specs.Note.{covered_end}
-use Rattle.mxf_klv.specs.Parts.{NoteParts}
-use Rattle.mxf_klv.specs.Rising.{In}
-use Rattle.mxf_catalogue.specs.Disputes.{DisputedParts, IsDisputed, disputed_notes, is_disputed}
-use Rattle.mxf_catalogue.proofs.DisputeLaws.{is_disputed-IsDisputed, notes-disputed_notes}
-use Rattle.mxf_restore.specs.Disputes.{AreDisputes, IsDisputedIn, disputes_in, disputes_of, greatest_end, least_start}
+use Rattle.mxf_views.proofs.Common.{◌≡◌, ◌↔◌, ◌⊎◌, ◌≤◌, ◌∙◌, ℕ, List, [], ◌∷◌, None, Some, ap}
+use Rattle.mxf_views.proofs.Common.{arith, inl, inr, length, map, max, min, refl, subst, sym}
+use Rattle.mxf_views.proofs.Common.{cases_lt, In-filter, In-map, covered_end, NoteParts, In}
+use Rattle.mxf_views.proofs.Common.{DisputedParts, IsDisputed, disputed_notes, is_disputed}
+use Rattle.mxf_views.proofs.Common.{is_disputed-IsDisputed, notes-disputed_notes}
+use Rattle.mxf_restore.specs.Disputes.{AreDisputes, IsDisputedIn, disputes_in, disputes_of}
+use Rattle.mxf_restore.specs.Disputes.{greatest_end, least_start}
 use Rattle.mxf_restore.specs.declared.disputes.Disputes.{Disputes}
 
 -- ---- members

@@ -1,21 +1,15 @@
 -- The front of what is looked for of a section.
-use Rattle.std.proofs.Common.{◌≡◌, ◌↔◌, ◌⊎◌, ◌∙◌, ◌<◌, ◌≤◌, ◌+◌, ◌==◌, ℕ, not, min, IsTrue}
-use Rattle.std.proofs.Common.{Option, None, Some, option_map, unwrap_or, List, [], ◌∷◌, arith, refl, sym, ap, subst}
-use Rattle.std.proofs.Common.{inl, inr}
+use Rattle.mxf_views.proofs.Common.{◌≡◌, ◌↔◌, ◌⊎◌, ◌∙◌, ◌<◌, ◌≤◌, ◌+◌, ◌==◌, ℕ, not, min, IsTrue}
+use Rattle.mxf_views.proofs.Common.{Option, None, Some, option_map, unwrap_or, List, [], ◌∷◌, arith}
+use Rattle.mxf_views.proofs.Common.{refl, sym, ap, subst, inl, inr, same_Some, NoteParts}
+use Rattle.mxf_views.proofs.Common.{greatest_end, In, not_equal, same_bool, IsContent, IsCover}
+use Rattle.mxf_views.proofs.Common.{LiesIn, covers_first}
 use Rattle.std.specs.List.{slice_get}
-use Rattle.std.proofs.lemmas.Option.{same_Some}
-use Rattle.mxf_klv.specs.Parts.{NoteParts}
-use Rattle.mxf_klv.specs.Note.{greatest_end}
-use Rattle.mxf_klv.specs.Rising.{In}
-use Rattle.mxf_klv.proofs.Tests.{not_equal, same_bool}
-use Rattle.mxf_catalogue.specs.Content.{IsContent}
-use Rattle.mxf_catalogue.specs.Covers.{IsCover}
-use Rattle.mxf_catalogue.specs.Runs.{LiesIn}
-use Rattle.mxf_catalogue.proofs.RunBounds.{covers_first}
 use Rattle.mxf_places.specs.AtHand.{AtHandParts, LiesBetween, has_offsets}
 use Rattle.mxf_places.specs.declared.at_hand.OffsetRange.{OffsetRange}
 use Rattle.mxf_places.proofs.AtHandLaws.{Rise, has_offsets-says, rise_above}
-use Rattle.mxf_restore.specs.Fronts.{IsFront, IsLookedFor, all_from, front_by, front_of, front_range, looked_for}
+use Rattle.mxf_restore.specs.Fronts.{IsFront, IsLookedFor, all_from, front_by, front_of}
+use Rattle.mxf_restore.specs.Fronts.{front_range, looked_for}
 use Rattle.mxf_restore.specs.Orders.{IsAsked, IsPart, IsStartOf}
 use Rattle.mxf_restore.specs.Plan.{asked_of, part_order, parts_of, start_of}
 use Rattle.mxf_restore.specs.declared.section.Section.{Section}

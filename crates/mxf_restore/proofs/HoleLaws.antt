@@ -1,18 +1,10 @@
 -- Holes are the maximal ranges of offsets that aren't held.
-use Rattle.std.proofs.Common.{◌≡◌, ◌↔◌, ◌⊎◌, ◌∙◌, ◌+◌, ◌-◌, ◌<◌, ◌≤◌, ℕ, true, false}
-use Rattle.std.proofs.Common.{List, [], ◌∷◌, None, Some, filter, is_some, map, if◌then◌else◌}
-use Rattle.std.proofs.Common.{refl, sym, ap, subst, inl, inr, arith}
-use Rattle.std.proofs.lemmas.Bool.{cases_lt}
-use Rattle.std.proofs.lemmas.Option.{same_Some}
-use Rattle.mxf_klv.specs.Parts.{NoteParts}
-use Rattle.mxf_klv.specs.Note.{covered_end}
-use Rattle.mxf_klv.specs.Rising.{In}
-use Rattle.mxf_klv.proofs.Lists.{In-append, In-filter, In-map}
-use Rattle.mxf_catalogue.specs.Content.{IsContent}
-use Rattle.mxf_catalogue.specs.Runs.{AreMaximal, IsWithin, LiesIn}
-use Rattle.mxf_catalogue.specs.declared.run.Run.{Run}
-use Rattle.mxf_catalogue.proofs.RunBounds.{covers_below_end, covers_first, has_byte, starts_above}
-use Rattle.mxf_views.specs.Gaps.{IsGap, gaps_of}
+use Rattle.mxf_views.proofs.Common.{◌≡◌, ◌↔◌, ◌⊎◌, ◌∙◌, ◌+◌, ◌-◌, ◌<◌, ◌≤◌, ℕ, true, false, List}
+use Rattle.mxf_views.proofs.Common.{[], ◌∷◌, None, Some, filter, is_some, map, if◌then◌else◌, refl}
+use Rattle.mxf_views.proofs.Common.{sym, ap, subst, inl, inr, arith, cases_lt, same_Some, NoteParts}
+use Rattle.mxf_views.proofs.Common.{covered_end, In, In-append, In-filter, In-map, IsContent}
+use Rattle.mxf_views.proofs.Common.{AreMaximal, IsWithin, LiesIn, Run, covers_below_end}
+use Rattle.mxf_views.proofs.Common.{covers_first, has_byte, starts_above, IsGap, gaps_of}
 use Rattle.mxf_views.proofs.GapsLaws.{gaps_are}
 use Rattle.mxf_places.specs.Held.{IsHeld, end_of_file, held_end, is_held}
 use Rattle.mxf_restore.specs.Sections.{IsHole, closed_hole, holes_of}

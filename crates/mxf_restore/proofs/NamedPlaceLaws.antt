@@ -1,28 +1,24 @@
 -- Places that packs name and that are missing: by claims, by a list, and by a table.
-use Rattle.std.proofs.Common.{◌≡◌, ◌≢◌, ◌↔◌, ◌∙◌, ◌==◌, ℕ, Bool, true, false, cond, IsTrue, Option, None, Some, arith}
-use Rattle.std.proofs.Common.{option_map, List, [], ◌∷◌, ◌++◌, filter_map, find, map, refl, sym, ap, subst, inl, inr}
-use Rattle.std.proofs.Common.{eqb-true, eq-eqb}
-use Rattle.std.specs.List.{AllByRecursion, cons_option}
+use Rattle.mxf_views.proofs.Common.{◌≡◌, ◌≢◌, ◌↔◌, ◌∙◌, ◌==◌, ℕ, Bool, true, false, cond, IsTrue}
+use Rattle.mxf_views.proofs.Common.{Option, None, Some, arith, option_map, List, [], ◌∷◌, ◌++◌}
+use Rattle.mxf_views.proofs.Common.{filter_map, find, map, refl, sym, ap, subst, inl, inr, eqb-true}
+use Rattle.mxf_views.proofs.Common.{eq-eqb, AllByRecursion, cons_option, lookup, is_at, nat_cmp}
+use Rattle.mxf_views.proofs.Common.{Less, false≢true, same_Some, NoteParts, In, IsRising}
+use Rattle.mxf_views.proofs.Common.{lt_from_less, at_equal, at_other}
 use Rattle.std.specs.List.Sorted.{IsStrictlySortedBy}
-use Rattle.std.specs.Map.{keys_of, lookup}
-use Rattle.std.specs.BTreeMap.{is_at}
+use Rattle.std.specs.Map.{keys_of}
 use Rattle.std.specs.Option.{option_and_then}
-use Rattle.std.specs.Ordering.{nat_cmp}
-use Rattle.std.specs.declared.cmp.Ordering.TheVariants.{Less}
-use Rattle.std.proofs.lemmas.Bool.{false≢true, ne_eqb}
+use Rattle.std.proofs.lemmas.Bool.{ne_eqb}
 use Rattle.std.proofs.lemmas.Map.Keys.{sorted_head, sorted_tail}
-use Rattle.std.proofs.lemmas.Option.{cond_some, option_and_then_some, same_Some}
-use Rattle.mxf_klv.specs.Parts.{NoteParts}
-use Rattle.mxf_klv.specs.Rising.{In, IsRising}
-use Rattle.mxf_klv.proofs.Tests.{lt_from_less, none_some}
-use Rattle.mxf_sets.proofs.TableLaws.{at_equal, at_other}
+use Rattle.std.proofs.lemmas.Option.{cond_some, option_and_then_some}
+use Rattle.mxf_klv.proofs.Tests.{none_some}
 use Rattle.mxf_places.specs.Claims.{claims_of, named_place}
 use Rattle.mxf_places.specs.declared.claim.Claim.{Claim}
 use Rattle.mxf_places.specs.declared.reason.Reason.{Reason}
 use Rattle.mxf_places.specs.declared.reason.Reason.TheVariants.{Header}
 use Rattle.mxf_restore.specs.Missing.{is_missing}
-use Rattle.mxf_restore.specs.NamedPlaces.{AreFirst, IsNamedPlace, NamesPlace, entry_place, is_header, named_place_of}
-use Rattle.mxf_restore.specs.NamedPlaces.{place_cmp, source_in}
+use Rattle.mxf_restore.specs.NamedPlaces.{AreFirst, IsNamedPlace, NamesPlace, entry_place}
+use Rattle.mxf_restore.specs.NamedPlaces.{is_header, named_place_of, place_cmp, source_in}
 use Rattle.mxf_restore.specs.declared.named.NamedPlace.{NamedPlace}
 use Rattle.mxf_restore.proofs.Options.{some_from}
 

@@ -1,6 +1,5 @@
 -- What a function makes of an option, and what it was made of.
-use Rattle.std.proofs.Common.{◌≡◌, Option, None, Some, option_map, refl}
-use Rattle.std.proofs.lemmas.Option.{same_Some}
+use Rattle.mxf_views.proofs.Common.{◌≡◌, Option, None, Some, option_map, refl, same_Some}
 
 -- Something is made of something.
 pub some_from : {A B : Type 0} (f : A → B) (d : Option A) (b : B) → option_map f d ≡ Some b

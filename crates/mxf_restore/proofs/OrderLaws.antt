@@ -1,6 +1,5 @@
 -- What is asked for of a section.
-use Rattle.std.proofs.Common.{◌≡◌, ◌∙◌, ℕ, max, Option, option_map, List, ap}
-use Rattle.mxf_klv.specs.Parts.{NoteParts}
+use Rattle.mxf_views.proofs.Common.{◌≡◌, ◌∙◌, ℕ, max, Option, option_map, List, ap, NoteParts}
 use Rattle.mxf_places.specs.AtHand.{AtHandParts, up_to_bound}
 use Rattle.mxf_places.specs.Claims.{claim_at}
 use Rattle.mxf_restore.specs.Plan.{asked, asked_of, end_by, needed_of, start_of}

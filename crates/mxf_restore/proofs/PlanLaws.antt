@@ -1,20 +1,18 @@
 -- Orders and disputed places in their order.
-use Rattle.std.proofs.Common.{◌≡◌, ◌∙◌, ℕ, Bool, true, false, Option, None, Some, [], ◌∷◌, get_or, refl, sym, ap}
-use Rattle.std.specs.Cmp.{IsTotalOrder}
-use Rattle.std.specs.Cmp.Lexicographic.{options_total}
-use Rattle.std.specs.FinMap.{IsAntisymmetric, nat_cmp-IsAntisymmetric}
-use Rattle.std.specs.declared.cmp.Ordering.TheVariants.{Equal, Less}
-use Rattle.std.proofs.lemmas.Cmp.{nat_cmp_total, on_total, then_total}
-use Rattle.mxf_klv.specs.NoteOrder.{ties}
-use Rattle.std.specs.Ordering.{bool_cmp, nat_cmp, ordering_reverse, ordering_then}
-use Rattle.std.specs.Option.{option_cmp}
+use Rattle.mxf_views.proofs.Common.{◌≡◌, ◌∙◌, ℕ, Bool, true, false, Option, None, Some, [], ◌∷◌}
+use Rattle.mxf_views.proofs.Common.{get_or, refl, sym, ap, IsTotalOrder, options_total}
+use Rattle.mxf_views.proofs.Common.{nat_cmp-IsAntisymmetric, Equal, Less, nat_cmp_total, on_total}
+use Rattle.mxf_views.proofs.Common.{then_total, ties, bool_cmp, nat_cmp, ordering_then, option_cmp}
+use Rattle.std.specs.FinMap.{IsAntisymmetric}
+use Rattle.std.specs.Ordering.{ordering_reverse}
 use Rattle.mxf_restore.specs.Plan.{disputed_place_cmp, order_cmp}
 use Rattle.mxf_places.specs.FirstClaims.{reason_rank}
 use Rattle.mxf_places.specs.declared.reason.Reason.{Reason}
-use Rattle.mxf_places.specs.declared.reason.Reason.TheVariants.{Header, Footer, Metadata, Index, Entry, Previous, Gap}
-use Rattle.mxf_places.specs.declared.reason.Reason.TheVariants as reasons
+use Rattle.mxf_places.specs.declared.reason.Reason.TheVariants.{Header, Footer, Metadata, Index}
+use Rattle.mxf_places.specs.declared.reason.Reason.TheVariants.{Entry, Previous, Gap}
 use Rattle.mxf_restore.specs.declared.plan.Order.{Order}
 use Rattle.mxf_restore.specs.declared.plan.DisputedPlace.{DisputedPlace}
+use Rattle.mxf_places.specs.declared.reason.Reason.TheVariants as reasons
 use Rattle.mxf_restore.specs.contracts.plan.OrderOrd.TheImpl as order_ord
 use Rattle.mxf_restore.specs.contracts.plan.DisputedPlaceOrd.TheImpl as disputed_place_ord
 use Rattle.mxf_places.specs.contracts.reason.ReasonOrd.TheImpl as reason_ord

@@ -1,26 +1,22 @@
 -- What a plan orders, and what it disputed places.
-use Rattle.std.proofs.Common.{◌≡◌, ◌↔◌, ◌⊎◌, ◌∙◌, ◌<◌, ◌==◌, ℕ, true, false, not, cond, List, [], ◌∷◌, Some}
-use Rattle.std.proofs.Common.{filter, filter_map, find, refl, sym, ap, inl, inr, eqb-true, eq-eqb}
-use Rattle.std.proofs.lemmas.Bool.{false≢true}
-use Rattle.std.proofs.lemmas.Option.{same_Some}
-use Rattle.mxf_klv.specs.Parts.{NoteParts}
-use Rattle.mxf_klv.specs.Rising.{In, IsRising, In-union, IsRising-union}
-use Rattle.mxf_klv.proofs.Lists.{In-filter, In-flat_map}
-use Rattle.mxf_klv.proofs.Tests.{not-true-false, not_true}
-use Rattle.mxf_catalogue.specs.Content.{IsContent}
-use Rattle.mxf_views.specs.Gaps.{IsGap}
-use Rattle.mxf_catalogue.specs.Runs.{LiesIn}
+use Rattle.mxf_views.proofs.Common.{◌≡◌, ◌↔◌, ◌⊎◌, ◌∙◌, ◌<◌, ◌==◌, ℕ, true, false, not, cond, List}
+use Rattle.mxf_views.proofs.Common.{[], ◌∷◌, Some, filter, filter_map, find, refl, sym, ap, inl}
+use Rattle.mxf_views.proofs.Common.{inr, eqb-true, eq-eqb, false≢true, same_Some, NoteParts, In}
+use Rattle.mxf_views.proofs.Common.{IsRising, In-union, IsRising-union, In-filter, In-flat_map}
+use Rattle.mxf_views.proofs.Common.{not-true-false, not_true, IsContent, IsGap, LiesIn}
 use Rattle.mxf_places.specs.AtHand.{AtHandParts, edge_of, has_offset}
 use Rattle.mxf_places.proofs.AtHandLaws.{has_offset-says}
 use Rattle.mxf_places.specs.Claims.{claims_of}
 use Rattle.mxf_restore.specs.Sections.{sections_of}
-use Rattle.mxf_restore.specs.Plan.{LiesInOrder, disputed_place_cmp, disputed_place_of, first_by_place, found_disputed_places, found_orders}
-use Rattle.mxf_restore.specs.Plan.{order_cmp, orders_of, plan_of}
+use Rattle.mxf_restore.specs.Plan.{LiesInOrder, disputed_place_cmp, disputed_place_of}
+use Rattle.mxf_restore.specs.Plan.{first_by_place, found_disputed_places, found_orders, order_cmp}
+use Rattle.mxf_restore.specs.Plan.{orders_of, plan_of}
 use Rattle.mxf_restore.specs.declared.section.Section.{Section}
 use Rattle.mxf_restore.specs.declared.plan.DisputedPlace.{DisputedPlace}
 use Rattle.mxf_restore.specs.declared.plan.Order.{Order}
 use Rattle.mxf_restore.proofs.OrderCover.{ordered_somewhere}
-use Rattle.mxf_restore.proofs.PlanLaws.{disputed_place_total, one_disputed_place, one_order, order_total}
+use Rattle.mxf_restore.proofs.PlanLaws.{disputed_place_total, one_disputed_place, one_order}
+use Rattle.mxf_restore.proofs.PlanLaws.{order_total}
 
 -- ---- orders
 

@@ -1,18 +1,10 @@
 -- Where the packet begins of which a section is the rest, by the function and by the relation.
-use Rattle.std.proofs.Common.{◌≡◌, ◌↔◌, ◌∙◌, ◌&&◌, ◌==◌, ◌≤◌, ℕ, Bool, true, false, not, cond, find, filter, IsTrue}
-use Rattle.std.proofs.Common.{List, [], ◌∷◌, None, Some, refl, sym, ap, subst, inl, inr, arith, eqb-true}
-use Rattle.std.proofs.Common.{eq-eqb}
-use Rattle.std.proofs.lemmas.Bool.{and_from, and_parts, cases_Bool}
-use Rattle.std.proofs.lemmas.Option.{same_Some}
-use Rattle.std.specs.Option.{option_map_or}
-use Rattle.std.specs.declared.cmp.Ordering.TheVariants.{Less}
-use Rattle.mxf_klv.specs.Parts.{NoteParts}
-use Rattle.mxf_klv.specs.Note.{covered_end, note_cmp}
-use Rattle.mxf_klv.specs.Rising.{In}
-use Rattle.mxf_klv.proofs.Lists.{In-filter, all-In, found-In, none_found}
-use Rattle.mxf_klv.proofs.Tests.{not-true-false}
-use Rattle.mxf_catalogue.specs.Content.{IsContent}
-use Rattle.mxf_catalogue.proofs.SpanLaws.{offset_le}
+use Rattle.mxf_views.proofs.Common.{◌≡◌, ◌↔◌, ◌∙◌, ◌&&◌, ◌==◌, ◌≤◌, ℕ, Bool, true, false, not, cond}
+use Rattle.mxf_views.proofs.Common.{find, filter, IsTrue, List, [], ◌∷◌, None, Some, refl, sym, ap}
+use Rattle.mxf_views.proofs.Common.{subst, inl, inr, arith, eqb-true, eq-eqb, and_from, and_parts}
+use Rattle.mxf_views.proofs.Common.{cases_Bool, same_Some, option_map_or, Less, NoteParts}
+use Rattle.mxf_views.proofs.Common.{covered_end, note_cmp, In, In-filter, all-In, found-In}
+use Rattle.mxf_views.proofs.Common.{none_found, not-true-false, IsContent, offset_le}
 use Rattle.mxf_restore.specs.Orders.{IsHeadTo, IsStartOf}
 use Rattle.mxf_restore.specs.Plan.{is_head_to, start_of}
 

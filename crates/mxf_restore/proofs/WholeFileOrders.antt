@@ -1,29 +1,15 @@
 -- Nothing is ordered of a whole file.
-use Rattle.std.proofs.Common.{◌≡◌, ◌∙◌, ◌⊎◌, ◌<◌, ◌≤◌, ◌+◌, ◌-◌, ℕ, true, false, cond, List, [], ◌∷◌, Option, Some, None}
-use Rattle.std.proofs.Common.{refl, sym, ap, subst, inl, inr, arith, is_some, IsSome}
-use Rattle.std.proofs.lemmas.Bool.{cases_lt}
-use Rattle.std.proofs.lemmas.Option.{same_Some}
-use Rattle.std.specs.List.{AllByRecursion}
-use Rattle.std.specs.Option.{option_map_or}
-use Rattle.mxf_klv.specs.Kind.{kind_of}
-use Rattle.mxf_klv.specs.Note.{covered_end, end_of, note_of}
-use Rattle.mxf_klv.specs.Packet.{size_of}
-use Rattle.mxf_klv.specs.Parts.{NoteParts, PacketParts}
-use Rattle.mxf_klv.specs.Piece.{end_after, notes_from}
-use Rattle.mxf_klv.specs.Rising.{In}
-use Rattle.mxf_sets.specs.RandomIndexPack.{RipParts}
-use Rattle.mxf_catalogue.specs.Content.{IsContent}
-use Rattle.mxf_catalogue.specs.Covers.{IsCover}
-use Rattle.mxf_catalogue.proofs.ClearLaws.{clear-laid, is_whole}
-use Rattle.mxf_catalogue.proofs.DisputeLaws.{In-clear_notes}
-use Rattle.mxf_catalogue.proofs.LaidNotes.{IsContent-laid}
-use Rattle.mxf_views.specs.Partitions.{PartitionParts}
-use Rattle.mxf_views.specs.RandomIndex.{RipAtParts, is_rip}
-use Rattle.mxf_views.specs.Reading.{one_by_one, partitions_read, rip_read}
+use Rattle.mxf_views.proofs.Common.{◌≡◌, ◌∙◌, ◌⊎◌, ◌<◌, ◌≤◌, ◌+◌, ◌-◌, ℕ, true, false, cond, List}
+use Rattle.mxf_views.proofs.Common.{[], ◌∷◌, Option, Some, None, refl, sym, ap, subst, inl, inr}
+use Rattle.mxf_views.proofs.Common.{arith, is_some, IsSome, cases_lt, same_Some, AllByRecursion}
+use Rattle.mxf_views.proofs.Common.{option_map_or, kind_of, covered_end, end_of, note_of, size_of}
+use Rattle.mxf_views.proofs.Common.{NoteParts, PacketParts, end_after, notes_from, In, RipParts}
+use Rattle.mxf_views.proofs.Common.{IsContent, IsCover, clear-laid, is_whole, In-clear_notes}
+use Rattle.mxf_views.proofs.Common.{IsContent-laid, PartitionParts, RipAtParts, is_rip, one_by_one}
+use Rattle.mxf_views.proofs.Common.{partitions_read, rip_read, EndsWithRandomIndex}
+use Rattle.mxf_views.proofs.Common.{IsRandomIndexPack, IsReadable, IsWellFormed, BeginsWithHeader}
+use Rattle.mxf_views.proofs.Common.{is_readable_as, Absent, One, end_up}
 use Rattle.mxf_views.specs.Records.{read_rip}
-use Rattle.mxf_views.specs.WellFormed.{EndsWithRandomIndex, IsRandomIndexPack, IsReadable, IsWellFormed}
-use Rattle.mxf_views.specs.WellFormed.{BeginsWithHeader, is_readable_as}
-use Rattle.mxf_views.specs.declared.random_index.RipView.TheVariants.{Absent, One}
 use Rattle.mxf_views.proofs.KindLaws.{rip_kind}
 use Rattle.mxf_views.proofs.LaidRandomIndex.{random_index-laid}
 use Rattle.mxf_places.specs.AtHand.{AtHandParts, LiesBetween}
@@ -41,7 +27,6 @@ use Rattle.mxf_restore.specs.declared.section.Section.{Section}
 use Rattle.mxf_restore.proofs.PartLaws.{plan_orders_say}
 use Rattle.mxf_restore.proofs.SectionCover.{are_sections}
 use Rattle.mxf_restore.specs.Plan.{plan_of}
-use Rattle.mxf_klv.proofs.SmallPackets.{end_up}
 
 -- ---- the random index pack at the end
 

@@ -1,20 +1,18 @@
 -- What the test of a batch says, and when it passes.
-use Rattle.byteorder.specs.Endian.{big_bytes}
+use Rattle.mxf_klv.proofs.Common.{AreBytes, ◌≡◌, ℕ, ◌+◌, ◌-◌, ◌*◌, ◌≤◌, ◌⊎◌, ◌++◌, inl, inr, true}
+use Rattle.mxf_klv.proofs.Common.{false, List, length, take, drop, refl, ap, ◌∙◌, sym, arith}
+use Rattle.mxf_klv.proofs.Common.{eq-eqb, eqb-true, or_cases, drop-drop, drop-take, take_rest}
+use Rattle.byteorder.specs.Endian.{big_bytes, big_number}
 use Rattle.byteorder.specs.Numbers.{big_from-take, big_from-lt}
-use Rattle.mxf_klv.specs.Bytes.{AreBytes}
 use Rattle.mxf_klv.proofs.RoundTrips.{AreBytes-take, AreBytes-drop}
 use Rattle.mxf_sets.proofs.Numbers.{number_in_front}
-use Rattle.std.proofs.Common.{◌≡◌, ℕ, ◌+◌, ◌-◌, ◌*◌, ◌≤◌, ◌⊎◌, ◌++◌, inl, inr, true, false, List, length, length-drop}
-use Rattle.std.proofs.Common.{take, drop, refl, ap, ◌∙◌, sym, arith, eq-eqb, eqb-true, le-leb, leb-true}
-use Rattle.byteorder.specs.Endian.{big_number}
+use Rattle.std.proofs.Common.{length-drop, le-leb, leb-true}
 use Rattle.std.specs.Prelude.{Result, is_ok}
 use Rattle.mxf_sets.specs.declared.batch.BatchFault.{BatchFault}
 use Rattle.mxf_sets.specs.Batch.{BatchParts, IsBatch, HasItemsOf, ReadsBatch, batch_parts}
 use Rattle.mxf_sets.proofs.BatchLaws.{length-batch_bytes, stated}
 use Rattle.mxf_sets.specs.Fields.{is_batch}
 use Rattle.mxf_klv.proofs.Tests.{either, all_three, three_parts}
-use Rattle.std.proofs.lemmas.Bool.{or_cases}
-use Rattle.std.proofs.lemmas.List.{drop-drop, drop-take, take_rest}
 
 -- the test, in words
 pub test_says : (size : ℕ) (v : List ℕ) → is_batch size v ≡ true

@@ -1,18 +1,13 @@
 -- The labels of a tag among the items of a batch.
-use Rattle.std.proofs.Common.{◌≡◌, ℕ, zero, suc, ◌+◌, ◌*◌, ◌<◌, ◌↔◌, List, [], ◌∷◌, true, length}
-use Rattle.std.proofs.Common.{take, drop, Option, None, Some, refl, sym, ap, subst, ◌∙◌, arith, inl, inr, eq-eqb}
-use Rattle.std.proofs.Common.{eqb-true, zero-mul}
-use Rattle.std.specs.Prelude.{MatchOption}
-use Rattle.std.specs.List.{AllByRecursion, list_all}
-use Rattle.std.specs.Str.{bytes_eq}
-use Rattle.std.proofs.lemmas.List.{drop-drop, length-drop, length-take}
+use Rattle.mxf_klv.proofs.Common.{◌≡◌, ℕ, zero, suc, ◌+◌, ◌*◌, ◌<◌, ◌↔◌, List, [], ◌∷◌, true}
+use Rattle.mxf_klv.proofs.Common.{length, take, drop, Option, None, Some, refl, sym, ap, subst, ◌∙◌}
+use Rattle.mxf_klv.proofs.Common.{arith, inl, inr, eq-eqb, eqb-true, zero-mul, MatchOption}
+use Rattle.mxf_klv.proofs.Common.{AllByRecursion, list_all, bytes_eq, drop-drop, length-drop}
+use Rattle.mxf_klv.proofs.Common.{length-take, In, bytes_eq-Decides, and_parts}
 use Rattle.byteorder.specs.Endian.{big_number}
-use Rattle.mxf_klv.specs.Rising.{In}
 use Rattle.mxf_sets.specs.Batch.{BatchParts, HasItemsOf, batch_items, item_in, sized_items}
 use Rattle.mxf_sets.specs.Primer.{IsOnlyLabel, label_at}
 use Rattle.mxf_sets.specs.PackReadings.{agreed, label_of, labels_among}
-use Rattle.std.proofs.lemmas.Slice.Eq.{bytes_eq-Decides}
-use Rattle.std.proofs.lemmas.Bool.{and_parts}
 
 -- ---- the items of a batch
 

@@ -1,10 +1,9 @@
 -- Numbers that stand in bytes, one after another.
-use Rattle.std.proofs.Common.{◌≡◌, ℕ, ◌+◌, ◌^◌, ◌<◌, ◌≤◌, List, ◌++◌, length, take, drop, sym, ap, ◌∙◌, arith}
-use Rattle.std.proofs.Common.{append_assoc, length-append}
-use Rattle.std.proofs.lemmas.List.{take_at, drop_at, take-append-drop, length-take}
+use Rattle.mxf_klv.proofs.Common.{◌≡◌, ℕ, ◌+◌, ◌^◌, ◌<◌, ◌≤◌, List, ◌++◌, length, take, drop, sym}
+use Rattle.mxf_klv.proofs.Common.{ap, ◌∙◌, arith, append_assoc, length-append, take_at, drop_at}
+use Rattle.mxf_klv.proofs.Common.{take-append-drop, length-take, AreBytes}
 use Rattle.byteorder.specs.Endian.{big_number, big_bytes}
 use Rattle.byteorder.specs.Numbers.{big_number-reads_back, length-bytes_high_first}
-use Rattle.mxf_klv.specs.Bytes.{AreBytes}
 use Rattle.mxf_klv.proofs.RoundTrips.{bytes_again}
 
 -- the number that bytes begin with, and the bytes after it

@@ -1,16 +1,13 @@
 -- The kinds of partition packs, by their parts and statuses.
-use Rattle.std.proofs.Common.{Bool, Err, List, Ok, Some, ap, cond, drop, false, is_some, length, nat_le, refl, sym}
-use Rattle.std.proofs.Common.{true, ℕ, ◌∙◌, ◌≡◌}
-use Rattle.std.specs.Result.{result_ok}
-use Rattle.mxf_klv.specs.declared.kinds.Kind.{Kind}
-use Rattle.mxf_klv.specs.declared.kinds.Status.{Status}
-use Rattle.mxf_klv.specs.declared.kinds.Kind.TheVariants as kinds
-use Rattle.mxf_sets.specs.declared.pack.PackFault.TheVariants as faults
+use Rattle.mxf_klv.proofs.Common.{Bool, Err, List, Ok, Some, ap, cond, drop, false, is_some, length}
+use Rattle.mxf_klv.proofs.Common.{nat_le, refl, sym, true, ℕ, ◌∙◌, ◌≡◌, result_ok, Kind, Status}
 use Rattle.mxf_sets.specs.Fields.{is_batch}
 use Rattle.mxf_sets.specs.PackReadings.{pack_at, pack_in, pack_under, part_and_status}
 use Rattle.mxf_sets.specs.PartitionPack.{IsPartitionKind, PartitionPackParts, pack_kind}
 use Rattle.mxf_sets.specs.declared.pack.part.PackPart.{PackPart}
 use Rattle.mxf_sets.specs.declared.pack.part.PackPart.TheVariants.{Body, Footer, Header}
+use Rattle.mxf_klv.specs.declared.kinds.Kind.TheVariants as kinds
+use Rattle.mxf_sets.specs.declared.pack.PackFault.TheVariants as faults
 
 pub pack_kind_tells : (part : PackPart) → (s : Status)
     → is_some (part_and_status (pack_kind part s)) ≡ true

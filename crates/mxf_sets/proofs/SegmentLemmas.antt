@@ -1,18 +1,17 @@
 -- What the items of a segment say of its entries.
-use Rattle.std.proofs.Common.{◌≡◌, ℕ, ◌+◌, ◌*◌, ◌%◌, ◌<◌, ◌≤◌, true, false, List, [], ◌∷◌, Some, length}
-use Rattle.std.proofs.Common.{drop, length-drop, refl, ap, ◌∙◌, arith}
+use Rattle.mxf_klv.proofs.Common.{◌≡◌, ℕ, ◌+◌, ◌*◌, ◌%◌, ◌<◌, ◌≤◌, true, false, List, [], ◌∷◌, Some}
+use Rattle.mxf_klv.proofs.Common.{length, drop, refl, ap, ◌∙◌, arith, ints, is_negative}
+use Rattle.mxf_klv.proofs.Common.{AllByRecursion}
+use Rattle.std.proofs.Common.{length-drop, ltb-false}
 use Rattle.std.specs.Prelude.{nat_lt, Ok}
-use Rattle.std.proofs.Common.{ltb-false}
 use Rattle.std.proofs.Math.Nat.{mul-mod_left}
-use Rattle.std.proofs.lemmas.Int.{ints}
-use Rattle.std.specs.Int.{is_negative}
-use Rattle.std.specs.List.{AllByRecursion}
 use Rattle.byteorder.specs.Endian.{big_number}
 use Rattle.mxf_sets.specs.declared.segment.numbers.SegmentNumbers.{SegmentNumbers}
 use Rattle.mxf_sets.specs.Items.{ItemParts, IsItem}
 use Rattle.mxf_sets.specs.Lookup.{value_of}
 use Rattle.mxf_sets.specs.Fields.{is_batch}
-use Rattle.mxf_sets.specs.Segment.{entries_in, entry_size, segment_numbers, segment_of, segment_parts, IsSegment}
+use Rattle.mxf_sets.specs.Segment.{entries_in, entry_size, segment_numbers, segment_of}
+use Rattle.mxf_sets.specs.Segment.{segment_parts, IsSegment}
 
 pub batch_items : (size : ℕ) (v : List ℕ) → is_batch size v ≡ true → length v ≡ 8 + big_number 4 v * size
 batch_items size v h = grind arith

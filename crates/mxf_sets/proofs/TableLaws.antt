@@ -1,14 +1,9 @@
 -- The labels of a tag agree on what a table of them tells, taken one after another.
-use Rattle.std.proofs.Common.{◌≡◌, ℕ, List, [], ◌∷◌, Option, Some, None, true, false, refl, sym, ap, subst, ◌∙◌, Bool}
-use Rattle.std.proofs.Common.{cond, drop, eqb-true}
+use Rattle.mxf_klv.proofs.Common.{◌≡◌, ℕ, List, [], ◌∷◌, Option, Some, None, true, false, refl, sym}
+use Rattle.mxf_klv.proofs.Common.{ap, subst, ◌∙◌, Bool, cond, drop, eqb-true, list_all, bytes_eq}
+use Rattle.mxf_klv.proofs.Common.{lookup, nat_cmp, is_eq, Less, Equal, Greater, is_at}
 use Rattle.std.specs.Prelude.{◌==◌, ◌&&◌, nat_lt, if◌then◌else◌, filter, map}
-use Rattle.std.specs.List.{list_all}
-use Rattle.std.specs.Str.{bytes_eq}
-use Rattle.std.specs.Map.{lookup}
-use Rattle.std.specs.Ordering.{nat_cmp, is_eq}
-use Rattle.std.specs.declared.cmp.Ordering.TheVariants.{Less, Equal, Greater}
 use Rattle.std.specs.Cmp.{nat_cmp_is}
-use Rattle.std.specs.BTreeMap.{is_at}
 use Rattle.byteorder.specs.Endian.{big_number}
 use Rattle.mxf_sets.specs.Batch.{BatchParts, batch_items}
 use Rattle.mxf_sets.specs.PackReadings.{agreed, label_of, labels_among}

@@ -1,9 +1,8 @@
 -- The units of a text, one after another.
-use Rattle.std.proofs.Common.{◌≡◌, ℕ, ◌≤◌, ◌≢◌, List, ◌∷◌, length, take, drop}
-use Rattle.std.proofs.Common.{arith, ne_eqb}
+use Rattle.mxf_klv.proofs.Common.{◌≡◌, ℕ, ◌≤◌, ◌≢◌, List, ◌∷◌, length, take, drop, arith, ne_eqb}
+use Rattle.mxf_klv.proofs.Common.{w16, from_be_bytes}
 use Rattle.std.specs.Prelude.{◌==◌, not}
 use Rattle.std.specs.List.{prefix_len}
-use Rattle.std.specs.Int.{w16, from_be_bytes}
 use Rattle.mxf_sets.specs.Text.{text_units}
 
 unit_first : (u : ℕ) (us : List ℕ) → u ≢ 0

@@ -1,21 +1,13 @@
 -- The offsets where no essence can lie.
-use Rattle.std.proofs.Common.{◌≡◌, ◌≢◌, ◌↔◌, ℕ, Bool, true, IsTrue, List, [], ap, filter, map, not, refl}
-use Rattle.mxf_klv.specs.declared.kinds.Kind.{Kind}
-use Rattle.mxf_klv.specs.declared.kinds.Kind.TheVariants as kinds
-use Rattle.mxf_klv.specs.Kind.{kind_of}
-use Rattle.mxf_klv.specs.Parts.{NoteParts}
-use Rattle.mxf_klv.specs.Rising.{In}
-use Rattle.mxf_klv.proofs.Lists.{In-filter, list_any-In}
-use Rattle.mxf_klv.proofs.Tests.{not-true-false, not_true}
-use Rattle.mxf_catalogue.specs.Covers.{union_of_runs}
-use Rattle.mxf_catalogue.specs.Disputes.{undisputed_notes}
-use Rattle.mxf_catalogue.specs.NoteLists.{covered_run}
-use Rattle.mxf_catalogue.proofs.ApartLaws.{covers_all}
-use Rattle.mxf_catalogue.proofs.DisputeLaws.{In-undisputed_notes}
+use Rattle.mxf_views.proofs.Common.{◌≡◌, ◌≢◌, ◌↔◌, ℕ, Bool, true, IsTrue, List, [], ap, filter, map}
+use Rattle.mxf_views.proofs.Common.{not, refl, Kind, kind_of, NoteParts, In, In-filter, list_any-In}
+use Rattle.mxf_views.proofs.Common.{not-true-false, not_true, union_of_runs, undisputed_notes}
+use Rattle.mxf_views.proofs.Common.{covered_run, covers_all, In-undisputed_notes}
 use Rattle.mxf_places.specs.Held.{covers}
 use Rattle.mxf_places.proofs.HeldLaws.{covers-says}
 use Rattle.mxf_units.specs.EssenceZones.{may_be_essence}
 use Rattle.mxf_units.specs.Units.{AreBesideEssence, IsBesideEssence, is_beside_essence}
+use Rattle.mxf_klv.specs.declared.kinds.Kind.TheVariants as kinds
 
 -- ---- what can't be essence
 

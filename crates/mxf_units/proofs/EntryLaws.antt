@@ -1,17 +1,13 @@
 -- The entry of a unit by the segments that list it, and what the unit says by it.
-use Rattle.std.proofs.Common.{◌≡◌, ◌∙◌, ◌+◌, ◌-◌, ◌^◌, ◌<◌, ℕ, suc, Bool, true, false, List, Option, None, Some, refl}
-use Rattle.std.proofs.Common.{ap, arith, filter_map, if◌then◌else◌, inl, inr, ltb-true, nat_le, nat_lt, option_and_then}
-use Rattle.std.proofs.Common.{option_map, subst, sym, unsigned_abs}
-use Rattle.std.proofs.lemmas.Bool.{false_from_ne_true, leb-false, leb-true, ltb-false}
+use Rattle.mxf_views.proofs.Common.{◌≡◌, ◌∙◌, ◌+◌, ◌-◌, ◌^◌, ◌<◌, ℕ, suc, Bool, true, false, List}
+use Rattle.mxf_views.proofs.Common.{Option, None, Some, refl, ap, arith, filter_map, if◌then◌else◌}
+use Rattle.mxf_views.proofs.Common.{inl, inr, ltb-true, nat_le, nat_lt, option_and_then, option_map}
+use Rattle.mxf_views.proofs.Common.{subst, sym, unsigned_abs, false_from_ne_true, leb-false}
+use Rattle.mxf_views.proofs.Common.{leb-true, ltb-false, NoteParts, In, In-filter_map, index_entry}
+use Rattle.mxf_views.proofs.Common.{IndexEntry, SegmentAtParts}
 use Rattle.std.proofs.lemmas.Int.{ints}
 use Rattle.std.specs.Int.{is_negative}
 use Rattle.std.specs.Prelude.{ℤ, pos, negsuc}
-use Rattle.mxf_klv.specs.Parts.{NoteParts}
-use Rattle.mxf_klv.specs.Rising.{In}
-use Rattle.mxf_klv.proofs.Lists.{In-filter_map}
-use Rattle.mxf_sets.specs.Offset.{index_entry}
-use Rattle.mxf_sets.specs.declared.segment.offset.IndexEntry.{IndexEntry}
-use Rattle.mxf_views.specs.Places.{SegmentAtParts}
 use Rattle.mxf_places.specs.AtHand.{KnownParts}
 use Rattle.mxf_units.specs.Entries.{IsEntryOf, IsKeyFrame, Lists}
 use Rattle.mxf_units.specs.Streams.{entry_of, segments_for}

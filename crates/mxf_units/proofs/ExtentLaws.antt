@@ -1,16 +1,11 @@
 -- Where the bytes of units lie, and of which units that is told.
-use Rattle.std.proofs.Common.{◌≡◌, ◌↔◌, ◌<◌, ◌≤◌, ℕ, Bool, true, false, List, Option, None, Some, Result}
-use Rattle.std.proofs.Common.{Ok, Err, IsSome, ap, arith, if◌then◌else◌, inl, inr, is_some, option_map, refl, subst}
-use Rattle.std.proofs.lemmas.Bool.{cases_lt}
-use Rattle.std.proofs.lemmas.Option.{same_Some}
-use Rattle.mxf_klv.specs.Parts.{NoteParts}
-use Rattle.mxf_klv.proofs.Tests.{guarded}
-use Rattle.mxf_views.specs.Partitions.{PartitionParts}
-use Rattle.mxf_views.specs.Places.{IsOnlyPlace, segments_of}
-use Rattle.mxf_views.specs.declared.index.place.StreamPlace.{StreamPlace}
+use Rattle.mxf_views.proofs.Common.{◌≡◌, ◌↔◌, ◌<◌, ◌≤◌, ℕ, Bool, true, false, List, Option, None}
+use Rattle.mxf_views.proofs.Common.{Some, Result, Ok, Err, IsSome, ap, arith, if◌then◌else◌, inl}
+use Rattle.mxf_views.proofs.Common.{inr, is_some, option_map, refl, subst, cases_lt, same_Some}
+use Rattle.mxf_views.proofs.Common.{NoteParts, guarded, PartitionParts, IsOnlyPlace, segments_of}
+use Rattle.mxf_views.proofs.Common.{StreamPlace}
 use Rattle.mxf_places.specs.AtHand.{KnownParts}
 use Rattle.mxf_units.specs.declared.standing.UnitStanding.{UnitStanding}
-use Rattle.mxf_units.specs.declared.standing.UnitStanding.TheVariants as standings
 use Rattle.mxf_units.specs.declared.essence_zone.EssenceZone.{EssenceZone}
 use Rattle.mxf_units.specs.declared.location.Location.{Location}
 use Rattle.mxf_units.specs.declared.unit.Extent.{Extent}
@@ -18,14 +13,15 @@ use Rattle.mxf_units.specs.EssenceZones.{first_packet, parts_of, zone_at, zone_b
 use Rattle.mxf_units.specs.Extents.{HasOffset, IsExtentEnd, IsExtentOf, IsTold}
 use Rattle.mxf_units.specs.Standings.{IsStandingIn, IsZone, LiesElsewhere}
 use Rattle.mxf_units.specs.Streams.{place_of, segments_for}
-use Rattle.mxf_units.specs.Units.{end_place, extent_by, extent_in, is_told, location_at, location_in, location_of}
-use Rattle.mxf_units.specs.Units.{standing_by, standing_in, unit_of}
+use Rattle.mxf_units.specs.Units.{end_place, extent_by, extent_in, is_told, location_at}
+use Rattle.mxf_units.specs.Units.{location_in, location_of, standing_by, standing_in, unit_of}
 use Rattle.mxf_units.proofs.HeldUnits.{location-untold}
 use Rattle.mxf_units.proofs.LimitLaws.{zone-by}
 use Rattle.mxf_units.proofs.EndPlaceLaws.{extent_end-told, in_zone}
 use Rattle.mxf_units.proofs.StandingPlaces.{IsPlacing, placing}
 use Rattle.mxf_units.proofs.StandingRanges.{standing-says}
 use Rattle.mxf_units.proofs.StandingZones.{zone-says}
+use Rattle.mxf_units.specs.declared.standing.UnitStanding.TheVariants as standings
 
 -- ---- of which units it is told
 

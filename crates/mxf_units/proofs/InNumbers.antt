@@ -1,8 +1,5 @@
 -- What the definitions of essence say of partitions by their numbers is what they say of the partitions.
-use Rattle.std.proofs.Common.{◌≡◌, List, map}
-use Rattle.std.proofs.lemmas.Simd.{map-map}
-use Rattle.mxf_klv.specs.Parts.{NoteParts}
-use Rattle.mxf_views.specs.Partitions.{PartitionParts, in_numbers}
+use Rattle.mxf_views.proofs.Common.{◌≡◌, List, map, map-map, NoteParts, PartitionParts, in_numbers}
 use Rattle.mxf_places.specs.Claims.{index_of, metadata_of}
 use Rattle.mxf_units.specs.EssenceZones.{first_packet, part_of, zone_of}
 

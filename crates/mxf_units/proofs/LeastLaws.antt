@@ -1,25 +1,18 @@
 -- The least of numbers above another.
-use Rattle.std.proofs.Common.{◌≡◌, ◌∙◌, ◌^◌, ◌<◌, ◌≤◌, ◌++◌, ◌==◌, ◌&&◌, ◌||◌, ℕ, zero, suc, Bool, true, false}
-use Rattle.std.proofs.Common.{Option, None, Some, List, [], ◌∷◌, refl, sym, ap, subst, inl, inr, arith, length}
-use Rattle.std.proofs.Common.{drop, get_or, nat_lt, nat_le, min, eq-eqb, eqb-true, ltb-true, lt-ltb, slice_get}
-use Rattle.std.proofs.Common.{if◌then◌else◌, ◌⊎◌}
-use Rattle.std.proofs.lemmas.Bool.{and_from, and_parts, cases_lt, le-leb, le-ltb, leb-true, ltb-false}
-use Rattle.std.proofs.lemmas.List.Elements.{filter_map-append}
-use Rattle.std.specs.List.{AllByRecursion, AllWithin, cons_option}
-use Rattle.std.specs.List.Sorted.{IsPartitionedBy}
+use Rattle.mxf_views.proofs.Common.{◌≡◌, ◌∙◌, ◌^◌, ◌<◌, ◌≤◌, ◌++◌, ◌==◌, ◌&&◌, ◌||◌, ℕ, zero, suc}
+use Rattle.mxf_views.proofs.Common.{Bool, true, false, Option, None, Some, List, [], ◌∷◌, refl, sym}
+use Rattle.mxf_views.proofs.Common.{ap, subst, inl, inr, arith, length, drop, get_or, nat_lt}
+use Rattle.mxf_views.proofs.Common.{nat_le, min, eq-eqb, eqb-true, ltb-true, lt-ltb, if◌then◌else◌}
+use Rattle.mxf_views.proofs.Common.{◌⊎◌, and_from, and_parts, cases_lt, le-leb, le-ltb, leb-true}
+use Rattle.mxf_views.proofs.Common.{ltb-false, filter_map-append, AllByRecursion, AllWithin}
+use Rattle.mxf_views.proofs.Common.{cons_option, IsPartitionedBy, nat_cmp, Less, nat_cmp_total}
+use Rattle.mxf_views.proofs.Common.{nat_cmp-IsAntisymmetric, In, In-union, IsRising, SameMembers}
+use Rattle.mxf_views.proofs.Common.{less_in, union, In-at, In-filter_map, all-In, all_from_In}
+use Rattle.mxf_views.proofs.Common.{either, lt_from_less, place_cmp, IsBelow, StreamPlace}
+use Rattle.std.proofs.Common.{slice_get}
 use Rattle.std.specs.Option.{option_and_then}
-use Rattle.std.specs.Ordering.{nat_cmp}
-use Rattle.std.specs.declared.cmp.Ordering.TheVariants.{Less}
-use Rattle.std.proofs.lemmas.Cmp.{nat_cmp_total}
-use Rattle.std.specs.FinMap.{nat_cmp-IsAntisymmetric}
-use Rattle.mxf_klv.specs.Rising.{In, In-union, IsRising, SameMembers, less_in, union}
-use Rattle.mxf_klv.proofs.Lists.{In-at, In-filter_map, all-In, all_from_In}
-use Rattle.mxf_klv.proofs.Tests.{either, lt_from_less}
 use Rattle.mxf_units.specs.Streams.{IsSmall, in_order, least_above, lesser, offset_in, offsets_in}
-use Rattle.mxf_views.specs.Places.{place_cmp}
-use Rattle.mxf_views.specs.Places.{IsBelow}
 use Rattle.mxf_views.proofs.PlaceLaws.{below_from, place_cmp-IsAntisymmetric, place_total}
-use Rattle.mxf_views.specs.declared.index.place.StreamPlace.{StreamPlace}
 
 -- What it is: none of the numbers lies above, or this one does and no lesser one.
 abbrev pub IsLeast : ℕ → List ℕ → Option ℕ → Type 0

@@ -1,14 +1,11 @@
 -- A unit has one standing.
-use Rattle.std.proofs.Common.{◌≡◌, ◌≢◌, ◌∙◌, ◌⊎◌, ◌==◌, ℕ, true, false, List, Option, None, Some, Result, Ok, Err}
-use Rattle.std.proofs.Common.{IsSome, refl, sym, ap, subst, inl, inr, is_some, eq-eqb, eqb-true}
-use Rattle.mxf_klv.specs.Parts.{NoteParts}
-use Rattle.mxf_views.specs.Partitions.{PartitionParts}
-use Rattle.mxf_views.specs.Places.{IsGiven, IsOnlyPlace, segments_of}
-use Rattle.mxf_views.specs.declared.index.place.StreamPlace.{StreamPlace}
+use Rattle.mxf_views.proofs.Common.{◌≡◌, ◌≢◌, ◌∙◌, ◌⊎◌, ◌==◌, ℕ, true, false, List, Option, None}
+use Rattle.mxf_views.proofs.Common.{Some, Result, Ok, Err, IsSome, refl, sym, ap, subst, inl, inr}
+use Rattle.mxf_views.proofs.Common.{is_some, eq-eqb, eqb-true, NoteParts, PartitionParts, IsGiven}
+use Rattle.mxf_views.proofs.Common.{IsOnlyPlace, segments_of, StreamPlace}
 use Rattle.mxf_views.proofs.PartitionSearch.{one_partition}
 use Rattle.mxf_places.specs.AtHand.{KnownParts}
 use Rattle.mxf_units.specs.declared.standing.UnitStanding.{UnitStanding}
-use Rattle.mxf_units.specs.declared.standing.UnitStanding.TheVariants as standings
 use Rattle.mxf_units.specs.declared.essence_zone.EssenceZone.{EssenceZone}
 use Rattle.mxf_units.specs.declared.location.Location.{Location}
 use Rattle.mxf_units.specs.EssenceZones.{zone_of}
@@ -16,6 +13,7 @@ use Rattle.mxf_units.specs.Standings.{IsLast, IsStanding, IsStandingAt, IsStandi
 use Rattle.mxf_units.specs.Streams.{segments_for}
 use Rattle.mxf_units.specs.Units.{end_place, extent_in, standing_in}
 use Rattle.mxf_units.proofs.StandingRanges.{standing-exact}
+use Rattle.mxf_units.specs.declared.standing.UnitStanding.TheVariants as standings
 
 -- ---- an offset of a stream has one zone
 

@@ -1,19 +1,13 @@
 -- Places and parts in their order.
-use Rattle.std.proofs.Common.{true, false, None, Some, List, [], refl, ap}
-use Rattle.std.specs.Cmp.{IsTotalOrder, bool_cmp_total}
-use Rattle.std.specs.Cmp.Lexicographic.{options_total}
-use Rattle.std.specs.FinMap.{IsAntisymmetric, nat_cmp-IsAntisymmetric}
-use Rattle.std.specs.declared.cmp.Ordering.{Ordering}
-use Rattle.std.proofs.lemmas.Cmp.{nat_cmp_total, on_total, then_total}
-use Rattle.std.specs.Ordering.{bool_cmp}
-use Rattle.std.specs.Option.{option_cmp}
-use Rattle.mxf_klv.specs.NoteOrder.{ties}
-use Rattle.mxf_klv.specs.Rising.{IsRising, IsRising-union}
+use Rattle.mxf_views.proofs.Common.{true, false, None, Some, List, [], refl, ap, IsTotalOrder}
+use Rattle.mxf_views.proofs.Common.{options_total, nat_cmp-IsAntisymmetric, Ordering, nat_cmp_total}
+use Rattle.mxf_views.proofs.Common.{on_total, then_total, bool_cmp, option_cmp, ties, IsRising}
+use Rattle.mxf_views.proofs.Common.{IsRising-union, place_cmp, StreamPlace}
+use Rattle.std.specs.Cmp.{bool_cmp_total}
+use Rattle.std.specs.FinMap.{IsAntisymmetric}
 use Rattle.mxf_units.specs.Streams.{in_order as places_in_order}
-use Rattle.mxf_views.specs.Places.{place_cmp}
 use Rattle.mxf_views.proofs.PlaceLaws.{place_cmp-IsAntisymmetric, place_total}
 use Rattle.mxf_units.specs.EssenceZones.{part_cmp, zone_cmp}
-use Rattle.mxf_views.specs.declared.index.place.StreamPlace.{StreamPlace}
 
 -- ---- each is one
 

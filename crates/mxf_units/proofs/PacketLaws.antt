@@ -1,16 +1,9 @@
 -- First packets of essence.
-use Rattle.std.proofs.Common.{◌≡◌, ◌≢◌, ◌∙◌, ◌==◌, ◌≤◌, ◌+◌, ℕ, Bool, List, ap}
-use Rattle.std.proofs.Common.{arith, find, Option, None, Some, eqb-true, if◌then◌else◌}
-use Rattle.std.proofs.Common.{option_and_then, sym}
-use Rattle.mxf_klv.specs.Parts.{NoteParts}
-use Rattle.mxf_klv.specs.Kind.{kind_of}
-use Rattle.mxf_klv.specs.Note.{IsNote, greatest_end}
-use Rattle.mxf_klv.specs.Rising.{In}
-use Rattle.mxf_klv.proofs.Lists.{all-In, find-none}
-use Rattle.mxf_catalogue.specs.Content.{IsCatalogue}
-use Rattle.mxf_catalogue.specs.Disputes.{undisputed_notes}
-use Rattle.mxf_catalogue.proofs.DisputeLaws.{In-undisputed_notes}
-use Rattle.mxf_views.specs.Partitions.{PartitionParts}
+use Rattle.mxf_views.proofs.Common.{◌≡◌, ◌≢◌, ◌∙◌, ◌==◌, ◌≤◌, ◌+◌, ℕ, Bool, List, ap, arith, find}
+use Rattle.mxf_views.proofs.Common.{Option, None, Some, eqb-true, if◌then◌else◌, option_and_then}
+use Rattle.mxf_views.proofs.Common.{sym, NoteParts, kind_of, IsNote, greatest_end, In, all-In}
+use Rattle.mxf_views.proofs.Common.{find-none, IsCatalogue, undisputed_notes, In-undisputed_notes}
+use Rattle.mxf_views.proofs.Common.{PartitionParts}
 use Rattle.mxf_places.specs.Claims.{over_fills}
 use Rattle.mxf_units.specs.EssenceZones.{behind_index, essence_at, first_packet, may_be_essence}
 use Rattle.mxf_places.proofs.StretchLaws.{over_none}

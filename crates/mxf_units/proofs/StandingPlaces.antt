@@ -1,18 +1,13 @@
 -- The places that segments give a unit, by the walk over them and by the set of those that are given.
-use Rattle.std.proofs.Common.{◌≡◌, ◌≢◌, ◌∙◌, ◌==◌, ℕ, List, Option, None}
-use Rattle.std.proofs.Common.{Some, Result, Ok, Err, sym, ap, inl, inr, filter_map, option_map}
-use Rattle.std.proofs.Common.{eq-eqb, eqb-true, subst}
-use Rattle.mxf_klv.specs.Parts.{NoteParts}
-use Rattle.mxf_klv.specs.Rising.{In}
-use Rattle.mxf_klv.proofs.Lists.{In-filter, In-filter_map}
-use Rattle.mxf_sets.specs.Offset.{stream_offset}
-use Rattle.mxf_views.specs.Places.{IsGiven, IsOnlyPlace, SegmentAtParts, segments_of}
+use Rattle.mxf_views.proofs.Common.{◌≡◌, ◌≢◌, ◌∙◌, ◌==◌, ℕ, List, Option, None, Some, Result, Ok}
+use Rattle.mxf_views.proofs.Common.{Err, sym, ap, inl, inr, filter_map, option_map, eq-eqb}
+use Rattle.mxf_views.proofs.Common.{eqb-true, subst, NoteParts, In, In-filter, In-filter_map}
+use Rattle.mxf_views.proofs.Common.{stream_offset, IsGiven, IsOnlyPlace, SegmentAtParts}
+use Rattle.mxf_views.proofs.Common.{segments_of, StreamPlace, in_stream, place_in}
 use Rattle.mxf_units.specs.declared.standing.UnitStanding.{UnitStanding}
-use Rattle.mxf_units.specs.declared.standing.UnitStanding.TheVariants as standings
-use Rattle.mxf_views.specs.declared.index.place.StreamPlace.{StreamPlace}
 use Rattle.mxf_units.specs.Streams.{place_of, segments_for}
 use Rattle.mxf_units.proofs.WalkLaws.{PlacesWalked, walk_places}
-use Rattle.mxf_views.specs.Places.{in_stream, place_in}
+use Rattle.mxf_units.specs.declared.standing.UnitStanding.TheVariants as standings
 
 module _ (notes : List NoteParts) (index_sid unit : ℕ) where
   abbrev pub given_places : List StreamPlace

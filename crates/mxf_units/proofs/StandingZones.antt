@@ -1,27 +1,22 @@
 -- The essence zone in which an offset is to be found, by the parts in their order and by the partitions.
-use Rattle.std.proofs.Common.{◌≡◌, ◌≢◌, ◌∙◌, ◌↔◌, ◌<◌, ◌≤◌, ◌==◌, ℕ, Bool, true, false, not, List, []}
-use Rattle.std.proofs.Common.{◌∷◌, Option, None, Some, Err, refl, sym, ap, subst, inl, inr, filter, map, arith}
-use Rattle.std.proofs.Common.{reverse, eq-eqb, eqb-true, nat_le, is_some, if◌then◌else◌}
-use Rattle.std.proofs.lemmas.Bool.{and_from, and_parts, cases_lt, le-leb, leb-true}
-use Rattle.std.proofs.lemmas.Cmp.{nat_cmp_total, tied_itself}
-use Rattle.std.specs.Option.{ok_or, option_cmp}
-use Rattle.std.specs.Ordering.{nat_cmp, ordering_then}
-use Rattle.std.specs.declared.cmp.Ordering.{Ordering}
-use Rattle.std.specs.declared.cmp.Ordering.TheVariants.{Less, Equal, Greater}
+use Rattle.mxf_views.proofs.Common.{◌≡◌, ◌≢◌, ◌∙◌, ◌↔◌, ◌<◌, ◌≤◌, ◌==◌, ℕ, Bool, true, false, not}
+use Rattle.mxf_views.proofs.Common.{List, [], ◌∷◌, Option, None, Some, Err, refl, sym, ap, subst}
+use Rattle.mxf_views.proofs.Common.{inl, inr, filter, map, arith, reverse, eq-eqb, eqb-true, nat_le}
+use Rattle.mxf_views.proofs.Common.{is_some, if◌then◌else◌, and_from, and_parts, cases_lt, le-leb}
+use Rattle.mxf_views.proofs.Common.{leb-true, nat_cmp_total, tied_itself, ok_or, option_cmp}
+use Rattle.mxf_views.proofs.Common.{nat_cmp, ordering_then, Ordering, Less, Equal, Greater}
+use Rattle.mxf_views.proofs.Common.{NoteParts, In, In-union, union, In-end, In-filter, In-map}
+use Rattle.mxf_views.proofs.Common.{all-In, all-filter, PartitionParts, partitions_of}
 use mathlib.Core.List.{reverse-cons}
-use Rattle.mxf_klv.specs.Parts.{NoteParts}
-use Rattle.mxf_klv.specs.Rising.{In, In-union, union}
-use Rattle.mxf_klv.proofs.Lists.{In-end, In-filter, In-map, all-In, all-filter}
-use Rattle.mxf_views.specs.Partitions.{PartitionParts, partitions_of}
 use Rattle.mxf_views.proofs.PartitionSearch.{one_partition}
-use Rattle.mxf_units.specs.declared.standing.UnitStanding.TheVariants as standings
 use Rattle.mxf_units.specs.declared.essence_zone.EssenceZone.{EssenceZone}
 use Rattle.mxf_units.specs.declared.essence_zone.part.StreamPart.{StreamPart}
-use Rattle.mxf_units.specs.EssenceZones.{IsFalling, begins_up_to, chosen, part_cmp, part_of, parts_of, zone_at, zone_cmp}
-use Rattle.mxf_units.specs.EssenceZones.{zone_of}
+use Rattle.mxf_units.specs.EssenceZones.{IsFalling, begins_up_to, chosen, part_cmp, part_of}
+use Rattle.mxf_units.specs.EssenceZones.{parts_of, zone_at, zone_cmp, zone_of}
 use Rattle.mxf_units.specs.Standings.{BeginsUpTo, IsLast, IsZone}
 use Rattle.mxf_units.proofs.OrderLaws.{one_part, part_total}
 use Rattle.mxf_units.proofs.PartLaws.{follows, parts-fall}
+use Rattle.mxf_units.specs.declared.standing.UnitStanding.TheVariants as standings
 
 -- ---- members
 

@@ -1,14 +1,12 @@
 -- The units of a file that is held whole.
-use Rattle.std.proofs.Common.{◌≡◌, ◌+◌, ◌<◌, ◌≤◌, ℕ, List, Some, IsSome, ap, arith}
-use Rattle.std.proofs.Common.{inl, inr, refl, subst, sym, unwrap_or}
-use Rattle.mxf_klv.specs.Parts.{NoteParts, PacketParts}
-use Rattle.mxf_klv.specs.Piece.{end_after, notes_from}
+use Rattle.mxf_views.proofs.Common.{◌≡◌, ◌+◌, ◌<◌, ◌≤◌, ℕ, List, Some, IsSome, ap, arith, inl, inr}
+use Rattle.mxf_views.proofs.Common.{refl, subst, sym, unwrap_or, NoteParts, PacketParts, end_after}
+use Rattle.mxf_views.proofs.Common.{notes_from}
 use Rattle.mxf_catalogue.proofs.ClearLaws.{no_dispute}
 use Rattle.mxf_places.specs.AtHand.{AtHandParts, KnownParts}
 use Rattle.mxf_places.specs.Held.{IsHeld}
 use Rattle.mxf_places.proofs.LaidPlaces.{held_all}
 use Rattle.mxf_units.specs.declared.essence_zone.EssenceZone.{EssenceZone}
-use Rattle.mxf_units.specs.declared.standing.UnitStanding.TheVariants as standings
 use Rattle.mxf_units.specs.declared.unit.Extent.{Extent}
 use Rattle.mxf_units.specs.Extents.{HasOffset, IsExtentEnd, IsExtentOf}
 use Rattle.mxf_units.specs.Standings.{IsStanding, IsStandingIn, LiesElsewhere}
@@ -17,6 +15,7 @@ use Rattle.mxf_units.specs.Units.{asked_end, end_place, extent_in, unit_of}
 use Rattle.mxf_units.proofs.EndPlaceLaws.{extent_end-is, offset_is}
 use Rattle.mxf_units.proofs.OneStanding.{one-standing}
 use Rattle.mxf_units.proofs.StandingLaws.{standings_by_cause}
+use Rattle.mxf_units.specs.declared.standing.UnitStanding.TheVariants as standings
 
 -- ---- an extent by its relation is the one that is computed
 

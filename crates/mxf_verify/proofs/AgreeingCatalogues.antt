@@ -1,19 +1,15 @@
 -- A saved catalogue beside a reference, and the join of both.
-use Rattle.std.proofs.Common.{◌≡◌, ◌↔◌, ◌+◌, ◌<◌, ◌≤◌, ◌∙◌, ℕ, false, IsTrue, List, [], ◌∷◌, cond, map}
-use Rattle.std.proofs.Common.{refl, sym, ap, subst, inl, inr, arith}
-use Rattle.std.proofs.lemmas.Bool.{false≢true}
-use Rattle.mxf_klv.specs.Note.{IsCovered, covered_end, end_of, head_note}
-use Rattle.mxf_klv.specs.Parts.{NoteParts}
-use Rattle.mxf_klv.specs.Rising.{In}
-use Rattle.mxf_klv.proofs.Lists.{In-map}
-use Rattle.mxf_catalogue.specs.Content.{AreReduced, IsCatalogue, has_note, reduced_union}
-use Rattle.mxf_catalogue.proofs.HeadLaws.{AreReduced-reduced_union, IsContent-reduced_union, has-reduced_union, one_reduced}
+use Rattle.mxf_views.proofs.Common.{◌≡◌, ◌↔◌, ◌+◌, ◌<◌, ◌≤◌, ◌∙◌, ℕ, false, IsTrue, List, [], ◌∷◌}
+use Rattle.mxf_views.proofs.Common.{cond, map, refl, sym, ap, subst, inl, inr, arith, false≢true}
+use Rattle.mxf_views.proofs.Common.{IsCovered, covered_end, end_of, head_note, NoteParts, In}
+use Rattle.mxf_views.proofs.Common.{In-map, AreReduced, IsCatalogue, has_note, reduced_union}
+use Rattle.mxf_views.proofs.Common.{AreReduced-reduced_union, IsContent-reduced_union}
+use Rattle.mxf_views.proofs.Common.{has-reduced_union, one_reduced}
 use Rattle.mxf_verify.specs.Comparing.{IsHeadOf, SharesHeldByte, is_head_of}
 use Rattle.mxf_verify.specs.Opposing.{is_had}
 use Rattle.mxf_readings.specs.Readings.{all_notes}
 use Rattle.mxf_verify.specs.Verifications.{IsVerification, VerificationParts}
-use Rattle.mxf_verify.specs.Verifying.{DiffersIn, IsByteOf, IsDiffering, IsHeldBy, Source}
-use Rattle.mxf_verify.specs.Verifying.{Saved}
+use Rattle.mxf_verify.specs.Verifying.{DiffersIn, IsByteOf, IsDiffering, IsHeldBy, Source, Saved}
 use Rattle.mxf_verify.specs.VerificationLaws.{HasNoEmptyHead}
 use Rattle.mxf_verify.proofs.ComparingLaws.{head-by_test, holds_first}
 use Rattle.mxf_verify.proofs.CandidateLaws.{covered_by_size, front_within}

@@ -1,12 +1,8 @@
 -- Agreement of bytes with what a note says of them, where they come in parts.
-use Rattle.std.proofs.Common.{◌≡◌, ◌-◌, ℕ, Bool, true, false, not, ◌&&◌, ◌||◌, List, ◌++◌, length, drop}
-use Rattle.std.proofs.Common.{ap, ◌∙◌, refl, arith}
+use Rattle.mxf_views.proofs.Common.{◌≡◌, ◌-◌, ℕ, Bool, true, false, not, ◌&&◌, ◌||◌, List, ◌++◌}
+use Rattle.mxf_views.proofs.Common.{length, drop, ap, ◌∙◌, refl, arith, NoteParts, length_bytes}
+use Rattle.mxf_views.proofs.Common.{IsNote, keeps_value, spelled_len, length_bytes-spelled}
 use Rattle.std.proofs.Math.ListN.{length-append, length-drop}
-use Rattle.mxf_klv.specs.Parts.{NoteParts}
-use Rattle.mxf_klv.specs.Ber.{length_bytes}
-use Rattle.mxf_klv.specs.Note.{IsNote, keeps_value}
-use Rattle.mxf_klv.proofs.LengthLemmas.{spelled_len}
-use Rattle.mxf_klv.proofs.RoundTrips.{length_bytes-spelled}
 use Rattle.mxf_verify.specs.Agreeing.{agrees, agrees_on, agrees_with}
 use Rattle.mxf_verify.specs.Verifying.{front_bytes, front_size}
 use Rattle.mxf_verify.proofs.ByteLaws.{agrees_append, drop_of_append}

@@ -1,12 +1,10 @@
 -- Candidates that further bytes don't reach.
-use Rattle.std.proofs.Common.{◌≡◌, ◌+◌, ◌-◌, ◌<◌, ◌≤◌, ◌&&◌, ◌||◌, not, ℕ, zero, suc, Bool, true, false, cond, List, [], ◌∷◌}
-use Rattle.std.proofs.Common.{◌++◌, length, take, drop, map, get_or, set, refl, sym, ap, ◌∙◌, arith}
-use Rattle.std.proofs.lemmas.Bool.{or_right}
-use Rattle.std.proofs.lemmas.List.{drop_all, get_or-map, length-map, length-set, take_all}
-use Rattle.std.specs.List.{AllWithin}
-use Rattle.std.specs.List.Sorted.{IsNonDecreasingBy}
-use Rattle.mxf_klv.specs.Parts.{NoteParts}
-use Rattle.mxf_klv.specs.Note.{covered_end, end_of, keeps_value}
+use Rattle.mxf_views.proofs.Common.{◌≡◌, ◌+◌, ◌-◌, ◌<◌, ◌≤◌, ◌&&◌, ◌||◌, not, ℕ, zero, suc, Bool}
+use Rattle.mxf_views.proofs.Common.{true, false, cond, List, [], ◌∷◌, ◌++◌, length, take, drop, map}
+use Rattle.mxf_views.proofs.Common.{get_or, set, refl, sym, ap, ◌∙◌, arith, or_right, drop_all}
+use Rattle.mxf_views.proofs.Common.{get_or-map, length-map, take_all, AllWithin, IsNonDecreasingBy}
+use Rattle.mxf_views.proofs.Common.{NoteParts, covered_end, end_of, keeps_value}
+use Rattle.std.proofs.lemmas.List.{length-set}
 use Rattle.mxf_verify.specs.Verifying.{front_bytes, front_size, held_size}
 use Rattle.mxf_verify.specs.Agreeing.{agrees, agrees_on, part_of}
 use Rattle.mxf_verify.specs.Candidates.{AreSettled, also, compared, notes_of, offset_of}

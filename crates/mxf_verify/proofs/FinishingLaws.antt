@@ -1,31 +1,27 @@
 -- What all sources together say, by what was seen of each.
-use Rattle.std.proofs.Common.{◌≡◌, ◌↔◌, ◌⊎◌, ◌+◌, ◌<◌, ◌≤◌, ◌∙◌, ℕ, List, [], ◌∷◌, ◌++◌, length, map, refl, sym, ap, subst}
-use Rattle.std.proofs.Common.{◌&&◌, ◌||◌, not, Bool, IsTrue, filter, inl, inr, arith, get_or, map-id, nat_le, take}
-use Rattle.std.proofs.lemmas.Bool.{and_from, and_parts, le-leb, leb-true, or_cases, or_left, or_right}
-use Rattle.std.proofs.lemmas.List.{take_more}
-use Rattle.std.proofs.lemmas.Simd.{map-map}
-use Rattle.std.specs.List.{flat_map, list_any}
-use Rattle.mxf_klv.specs.Note.{IsCovered, covered_end}
-use Rattle.mxf_klv.specs.Parts.{NoteParts}
-use Rattle.mxf_klv.specs.Rising.{In, SameMembers}
+use Rattle.mxf_views.proofs.Common.{◌≡◌, ◌↔◌, ◌⊎◌, ◌+◌, ◌<◌, ◌≤◌, ◌∙◌, ℕ, List, [], ◌∷◌, ◌++◌}
+use Rattle.mxf_views.proofs.Common.{length, map, refl, sym, ap, subst, ◌&&◌, ◌||◌, not, Bool}
+use Rattle.mxf_views.proofs.Common.{IsTrue, filter, inl, inr, arith, get_or, map-id, nat_le, take}
+use Rattle.mxf_views.proofs.Common.{and_from, and_parts, le-leb, leb-true, or_cases, or_left}
+use Rattle.mxf_views.proofs.Common.{or_right, take_more, map-map, list_any, IsCovered, covered_end}
+use Rattle.mxf_views.proofs.Common.{NoteParts, In, SameMembers, In-append, In-flat_map, list_any-In}
+use Rattle.mxf_views.proofs.Common.{not_true, not-true-false, same_bool, IsContent, union_of}
+use Rattle.mxf_views.proofs.Common.{AreMaximal, IsWithin, LiesIn, SameOffsets, run, Run}
+use Rattle.mxf_views.proofs.Common.{In-union_of, IsContent-union_of, LiesIn-with_run, with_run}
+use Rattle.mxf_views.proofs.Common.{Covers}
+use Rattle.std.specs.List.{flat_map}
 use denote.Bor.{Bor}
-use Rattle.mxf_klv.proofs.Lists.{In-append, In-flat_map, list_any-In}
-use Rattle.mxf_klv.proofs.Tests.{not_true, not-true-false, same_bool}
-use Rattle.mxf_catalogue.specs.Content.{IsContent, union_of}
-use Rattle.mxf_catalogue.specs.Runs.{AreMaximal, IsWithin, LiesIn, SameOffsets, run}
-use Rattle.mxf_catalogue.specs.declared.run.Run.{Run}
-use Rattle.mxf_catalogue.proofs.ContentLaws.{In-union_of, IsContent-union_of}
 use Rattle.mxf_readings.specs.Readings.{is_held}
 use Rattle.mxf_readings.proofs.SourceLaws.{held_says}
-use Rattle.mxf_verify.specs.Verifying.{IsAmong, IsByteOf, IsCut, IsDiffering, IsDifferingByte, IsHeldBy, IsUnknownByte}
-use Rattle.mxf_verify.specs.Verifying.{IsUnverifiedByte, IsVerified, IsVerifiedByte, Source, TouchesIn}
-use Rattle.mxf_verify.specs.Verifying.{Bytes, Saved}
+use Rattle.mxf_verify.specs.Verifying.{IsAmong, IsByteOf, IsCut, IsDiffering, IsDifferingByte}
+use Rattle.mxf_verify.specs.Verifying.{IsHeldBy, IsUnknownByte, IsUnverifiedByte, IsVerified}
+use Rattle.mxf_verify.specs.Verifying.{IsVerifiedByte, Source, TouchesIn, Bytes, Saved}
 use Rattle.mxf_verify.specs.ToldBytes.{is_met}
 use Rattle.mxf_verify.specs.Telling.{AreThose, notes_at}
-use Rattle.mxf_verify.specs.Verifications.{AreDiffering, AreRunsOf, IsCountOf, IsVerification, DifferingParts, VerificationParts, differing_in, parts_of}
+use Rattle.mxf_verify.specs.Verifications.{AreDiffering, AreRunsOf, IsCountOf, IsVerification}
+use Rattle.mxf_verify.specs.Verifications.{DifferingParts, VerificationParts, differing_in}
+use Rattle.mxf_verify.specs.Verifications.{parts_of}
 use Rattle.mxf_verify.specs.Seen.{IsHeaded, IsSeen, range_in}
-use Rattle.mxf_catalogue.specs.Covers.{LiesIn-with_run, with_run}
-use Rattle.mxf_catalogue.specs.NoteLists.{Covers}
 use Rattle.mxf_verify.specs.Finishing.{AreBytes, IsLeftOut, IsMet, IsToldBy, IsWithinOne}
 use Rattle.mxf_verify.specs.declared.finishing.ToldBytes.{ToldBytes}
 use Rattle.mxf_verify.specs.declared.finishing.Uncompared.{Uncompared}

@@ -1,16 +1,14 @@
 -- One changed byte is of one note.
-use Rattle.std.proofs.Common.{◌≡◌, ◌⊎◌, ◌+◌, ◌-◌, ◌<◌, ◌≤◌, ◌∙◌, ◌++◌, ℕ, true, false, not, IsTrue, List, drop, length, take, cond}
-use Rattle.std.proofs.Common.{inl, inr, refl, sym, ap, subst, arith}
-use Rattle.std.proofs.lemmas.Bool.{and_from, cases_lt, not_from_false}
-use Rattle.std.proofs.lemmas.List.{drop-drop, drop-take, take-append-drop, take-take, take_all}
+use Rattle.mxf_views.proofs.Common.{◌≡◌, ◌⊎◌, ◌+◌, ◌-◌, ◌<◌, ◌≤◌, ◌∙◌, ◌++◌, ℕ, true, false, not}
+use Rattle.mxf_views.proofs.Common.{IsTrue, List, drop, length, take, cond, inl, inr, refl, sym, ap}
+use Rattle.mxf_views.proofs.Common.{subst, arith, and_from, cases_lt, drop-drop, drop-take}
+use Rattle.mxf_views.proofs.Common.{take-append-drop, take-take, take_all, IsCovered, covered_end}
+use Rattle.mxf_views.proofs.Common.{keeps_value, NoteParts, In, IsCatalogue}
+use Rattle.std.proofs.lemmas.Bool.{not_from_false}
 use Rattle.sha2.specs.Sha256.{sha256}
-use Rattle.mxf_klv.specs.Note.{IsCovered, covered_end, keeps_value}
-use Rattle.mxf_klv.specs.Parts.{NoteParts}
-use Rattle.mxf_klv.specs.Rising.{In}
-use Rattle.mxf_catalogue.specs.Content.{IsCatalogue}
 use Rattle.mxf_verify.specs.VerificationLaws.{AreAllClear, AreOneByteApart}
-use Rattle.mxf_verify.specs.Verifying.{DiffersIn, IsAmong, IsSaidBy, front_size, held_in, held_size, is_digested}
-use Rattle.mxf_verify.specs.Verifying.{Bytes}
+use Rattle.mxf_verify.specs.Verifying.{DiffersIn, IsAmong, IsSaidBy, front_size, held_in, held_size}
+use Rattle.mxf_verify.specs.Verifying.{is_digested, Bytes}
 use Rattle.mxf_verify.proofs.CandidateLaws.{covered_by_size}
 use Rattle.mxf_verify.proofs.VerificationLaws.{clear_one, compared_so}
 

@@ -1,17 +1,12 @@
 -- The tests of contents and notes say what the relations say.
+use Rattle.mxf_views.proofs.Common.{◌≡◌, ◌∙◌, ap, sym, subst, inl, inr, and_from, and_parts}
+use Rattle.mxf_views.proofs.Common.{or_cases, or_left, or_right, NoteParts, head_note, In, has_note}
+use Rattle.mxf_views.proofs.Common.{is_same_note, same_note-Decides, list_any-In, not_true}
+use Rattle.mxf_views.proofs.Common.{not-true-false}
 use Rattle.std.specs.Prelude.{◌↔◌, not, ◌||◌, List, IsTrue, refl}
-use Rattle.std.proofs.Common.{◌≡◌, ◌∙◌, ap, sym, subst, inl, inr}
-use Rattle.std.proofs.lemmas.Bool.{and_from, and_parts, or_cases, or_left, or_right}
-use Rattle.mxf_klv.specs.Parts.{NoteParts}
-use Rattle.mxf_klv.specs.Note.{head_note}
-use Rattle.mxf_klv.specs.Rising.{In}
-use Rattle.mxf_catalogue.specs.Content.{has_note}
-use Rattle.mxf_catalogue.specs.Disputes.{is_same_note}
-use Rattle.mxf_klv.proofs.HeadOrder.{same_note-Decides}
-use Rattle.mxf_klv.proofs.Lists.{list_any-In}
-use Rattle.mxf_klv.proofs.Tests.{not_true, not-true-false}
 use Rattle.mxf_verify.specs.Comparing.{contradicts}
-use Rattle.mxf_verify.specs.Opposing.{IsContradicted, IsOpposed, is_contradicted, is_had, is_opposed}
+use Rattle.mxf_verify.specs.Opposing.{IsContradicted, IsOpposed, is_contradicted, is_had}
+use Rattle.mxf_verify.specs.Opposing.{is_opposed}
 use Rattle.mxf_verify.proofs.ComparingLaws.{contradicts-by_test}
 
 pub had-by_test : (n : NoteParts) (notes : List NoteParts) → IsTrue (is_had n notes) ↔ has_note notes n

@@ -1,19 +1,14 @@
 -- Sets of offsets that ranges make, and what a cover lacks.
-use Rattle.std.proofs.Common.{◌≡◌, ◌↔◌, ◌⊎◌, ◌<◌, ◌≤◌, ◌+◌, ◌-◌, ℕ, List, [], ◌∷◌, ◌++◌, refl, sym, subst, inl, inr}
-use Rattle.std.proofs.Common.{arith, get_or, length, nat_le, nat_lt, take, ◌&&◌}
-use Rattle.std.specs.List.{AllByRecursion}
-use Rattle.std.specs.List.Sorted.{IsPermutation}
-use Rattle.std.proofs.lemmas.Bool.{and_from, and_parts, cases_lt, le-leb, leb-true, lt-ltb, ltb-true}
-use Rattle.std.proofs.lemmas.List.{take_more}
-use Rattle.mxf_klv.specs.Note.{greatest_end}
-use Rattle.mxf_klv.specs.Rising.{In}
-use Rattle.mxf_klv.proofs.Lists.{In-append, all-In, all_append, all_from_In, list_any-In, some_above}
+use Rattle.mxf_views.proofs.Common.{◌≡◌, ◌↔◌, ◌⊎◌, ◌<◌, ◌≤◌, ◌+◌, ◌-◌, ℕ, List, [], ◌∷◌, ◌++◌, refl}
+use Rattle.mxf_views.proofs.Common.{sym, subst, inl, inr, arith, get_or, length, nat_le, nat_lt}
+use Rattle.mxf_views.proofs.Common.{take, ◌&&◌, AllByRecursion, IsPermutation, and_from, and_parts}
+use Rattle.mxf_views.proofs.Common.{cases_lt, le-leb, leb-true, take_more, greatest_end, In}
+use Rattle.mxf_views.proofs.Common.{In-append, all-In, all_append, all_from_In, list_any-In}
+use Rattle.mxf_views.proofs.Common.{some_above, IsCover, LiesIn-with_run, gaps_of_runs, with_run}
+use Rattle.mxf_views.proofs.Common.{IsWithin, LiesIn, SameOffsets, run, Run, gaps_by_definition}
+use Rattle.mxf_views.proofs.Common.{has_byte}
+use Rattle.std.proofs.lemmas.Bool.{lt-ltb, ltb-true}
 use Rattle.mxf_units.proofs.NextPlaceLaws.{permuted}
-use Rattle.mxf_catalogue.specs.Covers.{IsCover, LiesIn-with_run, gaps_of_runs, with_run}
-use Rattle.mxf_catalogue.specs.Runs.{IsWithin, LiesIn, SameOffsets, run}
-use Rattle.mxf_catalogue.specs.declared.run.Run.{Run}
-use Rattle.mxf_catalogue.proofs.CoverLaws.{gaps_by_definition}
-use Rattle.mxf_catalogue.proofs.RunBounds.{has_byte}
 use Rattle.mxf_verify.proofs.KnownLaws.{or_not}
 
 -- ---- another order

@@ -1,17 +1,15 @@
 -- Reads of a source, one after another.
-use Rattle.std.proofs.Common.{◌≡◌, ℕ, List, [], ◌∷◌, ◌++◌, Option, true, false, IsTrue, ◌+◌, ◌<◌, ◌≤◌, get_or, length, ap, arith, ◌∙◌, subst, sym, append_assoc, inl, inr}
+use Rattle.mxf_views.proofs.Common.{◌≡◌, ℕ, List, [], ◌∷◌, ◌++◌, Option, true, false, IsTrue, ◌+◌}
+use Rattle.mxf_views.proofs.Common.{◌<◌, ◌≤◌, get_or, length, ap, arith, ◌∙◌, subst, sym}
+use Rattle.mxf_views.proofs.Common.{append_assoc, inl, inr, NoteParts, covered_end, AllWithin}
+use Rattle.mxf_views.proofs.Common.{cases_lt, true≢false, get_or_default, get_or-map, length-map}
 use denote.Bor.{Bor}
-use Rattle.mxf_klv.specs.Parts.{NoteParts}
 use Rattle.mxf_verify.specs.Verifying.{is_digested}
 use Rattle.mxf_verify.specs.Taking.{HasTaken}
 use Rattle.mxf_verify.proofs.TakingLaws.{as_many, note_agreeing, told_over}
 use Rattle.mxf_verify.proofs.CandidateLaws.{covered_by_size}
-use Rattle.mxf_klv.specs.Note.{covered_end}
 use Rattle.mxf_verify.specs.Candidates.{notes_of}
 use Rattle.mxf_verify.specs.declared.candidate.Candidate.{Candidate}
-use Rattle.std.specs.List.{AllWithin}
-use Rattle.std.proofs.lemmas.Bool.{cases_lt, true≢false}
-use Rattle.std.proofs.lemmas.List.{get_or_default, get_or-map, length-map}
 use Rattle.mxf_verify.specs.declared.comparison.Comparison.{Comparison}
 use Rattle.mxf_verify.specs.SourceReads.{AreApart, Digests, HasRead, IsLike, Reads, TakesUpTo}
 use Rattle.mxf_verify.specs.declared.reading.Reading.{Reading}

@@ -1,20 +1,15 @@
 -- The notes of a reference that are compared with bytes.
-use Rattle.std.proofs.Common.{◌≡◌, ◌≢◌, ◌↔◌, ◌+◌, ◌<◌, ◌≤◌, ℕ, Less, get_or, ◌&&◌, not, zero, suc, Bool, true, false, IsTrue, List, [], ◌∷◌, cond, length, map, refl, sym, ap, ◌∙◌, subst, arith, inl, inr}
-use Rattle.std.proofs.lemmas.Bool.{and_from, and_parts, cases_lt, false≢true}
-use Rattle.std.proofs.lemmas.Cmp.{tied_itself}
-use Rattle.std.specs.List.{AllByRecursion, AllWithin}
-use Rattle.std.specs.List.Sorted.{IsNonDecreasingBy}
+use Rattle.mxf_views.proofs.Common.{◌≡◌, ◌≢◌, ◌↔◌, ◌+◌, ◌<◌, ◌≤◌, ℕ, get_or, ◌&&◌, not, zero, suc}
+use Rattle.mxf_views.proofs.Common.{Bool, true, false, IsTrue, List, [], ◌∷◌, cond, length, map}
+use Rattle.mxf_views.proofs.Common.{refl, sym, ap, ◌∙◌, subst, arith, inl, inr, and_from, and_parts}
+use Rattle.mxf_views.proofs.Common.{cases_lt, false≢true, tied_itself, AllByRecursion, AllWithin}
+use Rattle.mxf_views.proofs.Common.{IsNonDecreasingBy, NoteParts, IsNote, covered_end, end_of}
+use Rattle.mxf_views.proofs.Common.{keeps_value, note_cmp, note_total, In, IsRising, all-In}
+use Rattle.mxf_views.proofs.Common.{all_from_In, In-at, In-filter, In-map, same_bool, IsDisputed}
+use Rattle.mxf_views.proofs.Common.{SharesByte, is_disputed, rising-filter, is_disputed-IsDisputed}
+use Rattle.mxf_views.proofs.Common.{offset_le}
+use Rattle.std.proofs.Common.{Less}
 use denote.Bor.{Bor}
-use Rattle.mxf_klv.specs.Parts.{NoteParts}
-use Rattle.mxf_klv.specs.Note.{IsNote, covered_end, end_of, keeps_value, note_cmp}
-use Rattle.mxf_klv.specs.NoteOrder.{note_total}
-use Rattle.mxf_klv.specs.Rising.{In, IsRising}
-use Rattle.mxf_klv.proofs.Lists.{all-In, all_from_In, In-at, In-filter, In-map}
-use Rattle.mxf_klv.proofs.Tests.{same_bool}
-use Rattle.mxf_catalogue.specs.Disputes.{IsDisputed, SharesByte, is_disputed}
-use Rattle.mxf_catalogue.specs.ReducedLaws.{rising-filter}
-use Rattle.mxf_catalogue.proofs.DisputeLaws.{is_disputed-IsDisputed}
-use Rattle.mxf_catalogue.proofs.SpanLaws.{offset_le}
 use Rattle.mxf_readings.specs.Readings.{is_held}
 use Rattle.mxf_verify.specs.References.{AreCandidates, is_crowded}
 use Rattle.mxf_verify.specs.Candidates.{offset_of}

@@ -1,22 +1,19 @@
 -- What a renewed content has, and what is dropped.
+use Rattle.mxf_views.proofs.Common.{sym, ◌∙◌, ap, subst, inl, inr, and_from, and_parts, NoteParts}
+use Rattle.mxf_views.proofs.Common.{head_note, In, AreReduced, IsContent, IsLocated, has_note}
+use Rattle.mxf_views.proofs.Common.{reduced_union, In-filter, filter_all, filter_none, not_true}
+use Rattle.mxf_views.proofs.Common.{not-true-false, IsContent-filter, AreReduced-reduced_union}
+use Rattle.mxf_views.proofs.Common.{In-located, IsContent-reduced_union, has-reduced_union}
+use Rattle.mxf_views.proofs.Common.{one_reduced, reduced_union-none, same_note}
 use Rattle.std.specs.Prelude.{◌≡◌, ◌↔◌, ◌⊎◌, not, ◌&&◌, List, [], refl}
-use Rattle.std.proofs.Common.{sym, ◌∙◌, ap, subst, inl, inr}
-use Rattle.std.proofs.lemmas.Bool.{and_from, and_parts}
-use Rattle.mxf_klv.specs.Parts.{NoteParts}
-use Rattle.mxf_klv.specs.Note.{head_note}
-use Rattle.mxf_klv.specs.Rising.{In}
-use Rattle.mxf_catalogue.specs.Content.{AreReduced, IsContent, IsLocated, has_note, reduced_union}
 use Rattle.mxf_catalogue.specs.Reduced.{IsKnown}
-use Rattle.mxf_klv.proofs.Lists.{In-filter, filter_all, filter_none}
-use Rattle.mxf_klv.proofs.Tests.{not_true, not-true-false}
-use Rattle.mxf_catalogue.proofs.DisputeLaws.{IsContent-filter}
-use Rattle.mxf_catalogue.proofs.HeadLaws.{AreReduced-part, AreReduced-reduced_union, In-located, IsContent-reduced_union}
-use Rattle.mxf_catalogue.proofs.HeadLaws.{has-reduced_union, one_reduced, reduced_union-none, same_note}
+use Rattle.mxf_catalogue.proofs.HeadLaws.{AreReduced-part}
 use Rattle.mxf_verify.specs.Comparing.{SharesHeldByte}
 use Rattle.mxf_verify.specs.Opposing.{IsContradicted, is_contradicted, is_had, is_opposed}
 use Rattle.mxf_verify.specs.Renewing.{IsDropped, IsKept, added_of, dropped_of, kept_of, renewed_of}
 use Rattle.mxf_verify.proofs.KnownLaws.{or_not}
-use Rattle.mxf_verify.proofs.OpposingLaws.{contradicted-by_test, had-by_test, has_head, opposed-by_test}
+use Rattle.mxf_verify.proofs.OpposingLaws.{contradicted-by_test, had-by_test, has_head}
+use Rattle.mxf_verify.proofs.OpposingLaws.{opposed-by_test}
 
 -- ---- what is had and what is contradicted
 

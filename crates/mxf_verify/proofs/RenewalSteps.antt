@@ -1,8 +1,6 @@
 -- The notes of an earlier content, one by one.
+use Rattle.mxf_views.proofs.Common.{false_from_ne_true, NoteParts, has_note}
 use Rattle.std.specs.Prelude.{◌≡◌, Bool, true, false, not, ◌&&◌, List, [], ◌∷◌, cond, refl}
-use Rattle.std.proofs.lemmas.Bool.{false_from_ne_true}
-use Rattle.mxf_klv.specs.Parts.{NoteParts}
-use Rattle.mxf_catalogue.specs.Content.{has_note}
 use Rattle.mxf_verify.specs.Opposing.{IsOpposed, is_contradicted, is_had, is_opposed}
 use Rattle.mxf_verify.specs.Renewing.{added_of, dropped_of}
 use Rattle.mxf_verify.proofs.OpposingLaws.{had-by_test, opposed-by_test}

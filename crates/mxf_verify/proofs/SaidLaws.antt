@@ -1,16 +1,14 @@
 -- What candidates say of their notes after a source was read.
-use Rattle.std.proofs.Common.{◌≡◌, ◌↔◌, ◌+◌, ◌&&◌, ◌||◌, not, ℕ, true, false, IsTrue, List}
-use Rattle.std.proofs.Common.{length, take, drop, cond, refl, sym, ap, ◌∙◌, subst, arith}
-use Rattle.std.proofs.lemmas.Bool.{and_from, and_parts, false≢true}
-use Rattle.std.proofs.lemmas.List.{length-drop, take_all}
-use Rattle.std.proofs.lemmas.Slice.Eq.{bytes_eq-Decides}
-use Rattle.std.specs.Str.{bytes_eq}
+use Rattle.mxf_views.proofs.Common.{◌≡◌, ◌↔◌, ◌+◌, ◌&&◌, ◌||◌, not, ℕ, true, false, IsTrue, List}
+use Rattle.mxf_views.proofs.Common.{length, take, drop, cond, refl, sym, ap, ◌∙◌, subst, arith}
+use Rattle.mxf_views.proofs.Common.{and_from, and_parts, false≢true, length-drop, take_all}
+use Rattle.mxf_views.proofs.Common.{bytes_eq-Decides, bytes_eq, NoteParts, IsNote, keeps}
+use Rattle.mxf_views.proofs.Common.{keeps_value}
 use Rattle.sha2.specs.Sha256.{sha256}
-use Rattle.mxf_klv.specs.Parts.{NoteParts}
-use Rattle.mxf_klv.specs.Note.{IsNote, keeps, keeps_value}
 use Rattle.mxf_verify.specs.Agreeing.{agrees, agrees_with}
 use Rattle.mxf_verify.specs.Taking.{has_digest}
-use Rattle.mxf_verify.specs.Verifying.{IsSaidBy, IsValueOf, front_bytes, front_size, held_size, is_digested}
+use Rattle.mxf_verify.specs.Verifying.{IsSaidBy, IsValueOf, front_bytes, front_size, held_size}
+use Rattle.mxf_verify.specs.Verifying.{is_digested}
 use Rattle.mxf_verify.proofs.AgreementLaws.{front_length}
 use Rattle.mxf_verify.proofs.CandidateLaws.{front_within}
 use Rattle.mxf_verify.proofs.ByteLaws.{agrees_whole}

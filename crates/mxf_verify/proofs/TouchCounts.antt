@@ -1,29 +1,19 @@
 -- How many notes of a content hold a byte of a note, by where notes begin and end.
+use Rattle.mxf_views.proofs.Common.{AllByRecursion, AllWithin, IsNonDecreasing, sym, ◌∙◌, ap, subst}
+use Rattle.mxf_views.proofs.Common.{inl, inr, arith, get_or, and_from, and_parts, le-ltb, le-leb}
+use Rattle.mxf_views.proofs.Common.{lt-leb, false_from_ne_true, nat_tests, tied_itself}
+use Rattle.mxf_views.proofs.Common.{sum_by-IsPermutation, Less, get_or-map, length-map, NoteParts}
+use Rattle.mxf_views.proofs.Common.{head_parts, IsNote, covered_end, head_note, note_cmp}
+use Rattle.mxf_views.proofs.Common.{note_total, In, IsContent, has_note, is_same_note, tally}
+use Rattle.mxf_views.proofs.Common.{count_by-cons, count-none, same_note-Decides, all-In, not_true}
+use Rattle.mxf_views.proofs.Common.{not-true-false, same_bool, own_head, offsets_rise}
 use Rattle.std.specs.Prelude.{◌≡◌, ◌≢◌, ◌↔◌, ◌+◌, ◌-◌, ◌<◌, ◌≤◌, ℕ, Bool, true, false, not, ◌&&◌}
-use Rattle.std.specs.Prelude.{nat_lt, nat_le, List, [], ◌∷◌, length, map, cond, count_by, IsTrue, refl}
-use Rattle.std.specs.List.{AllByRecursion, AllWithin}
-use Rattle.std.specs.List.Sorted.{IsNonDecreasing}
-use Rattle.std.proofs.Common.{sym, ◌∙◌, ap, subst, inl, inr, arith, get_or}
-use Rattle.std.proofs.lemmas.Bool.{and_from, and_parts, ltb-true, lt-ltb, le-ltb, le-leb, lt-leb, false_from_ne_true}
-use Rattle.std.proofs.lemmas.Bool.Decides.{nat_tests}
-use Rattle.std.proofs.lemmas.Cmp.{tied_itself}
-use Rattle.std.proofs.lemmas.List.Sorted.{sum_by-IsPermutation}
-use Rattle.std.specs.declared.cmp.Ordering.TheVariants.{Less}
-use Rattle.std.proofs.lemmas.List.{get_or-map, length-map}
+use Rattle.std.specs.Prelude.{nat_lt, nat_le, List, [], ◌∷◌, length, map, cond, count_by, IsTrue}
+use Rattle.std.specs.Prelude.{refl}
+use Rattle.std.proofs.lemmas.Bool.{ltb-true, lt-ltb}
 use mir.Val.{bool_byte}
-use Rattle.mxf_klv.specs.Parts.{NoteParts, head_parts}
-use Rattle.mxf_klv.specs.Note.{IsNote, covered_end, head_note, note_cmp}
-use Rattle.mxf_klv.specs.NoteOrder.{note_total}
-use Rattle.mxf_klv.specs.Rising.{In}
-use Rattle.mxf_catalogue.specs.Content.{IsContent, has_note}
-use Rattle.mxf_catalogue.specs.Disputes.{is_same_note}
-use Rattle.mxf_klv.proofs.Counts.{tally, count_by-cons, count-none}
-use Rattle.mxf_klv.proofs.HeadOrder.{same_note-Decides}
-use Rattle.mxf_klv.proofs.Lists.{all-In}
-use Rattle.mxf_klv.proofs.Tests.{not_true, not-true-false, same_bool}
-use Rattle.mxf_catalogue.proofs.HeadWords.{own_head}
-use Rattle.mxf_catalogue.proofs.Ranges.{offsets_rise}
-use Rattle.mxf_readings.proofs.CountLaws.{count-alike, count-both, count-front, count-some, count_mapped, some-count}
+use Rattle.mxf_readings.proofs.CountLaws.{count-alike, count-both, count-front, count-some}
+use Rattle.mxf_readings.proofs.CountLaws.{count_mapped, some-count}
 use Rattle.mxf_verify.specs.Comparing.{Contradicts, SharesHeldByte, is_held_byte_shared}
 use Rattle.mxf_verify.specs.Opposing.{AreBounds, IsOpposed}
 use Rattle.mxf_verify.proofs.ComparingLaws.{holds_first, share-by_test}

@@ -1,28 +1,20 @@
 -- Of a reference beside sources there is one verification, and what that says.
-use Rattle.std.proofs.Common.{◌≡◌, ◌↔◌, ◌⊎◌, ◌+◌, ◌∙◌, ℕ, ◌&&◌, ◌||◌, not, List, []}
-use Rattle.std.proofs.Common.{◌∷◌, ◌++◌, length, map, refl, sym, ap, subst, inl, inr, arith}
-use Rattle.mxf_klv.specs.Note.{IsCovered, IsInSpan, IsNote}
-use Rattle.mxf_klv.specs.Parts.{NoteParts}
-use Rattle.mxf_klv.specs.Rising.{In, SameMembers}
-use Rattle.mxf_klv.proofs.Lists.{all-In, In-append, In-map}
-use Rattle.mxf_klv.proofs.Tests.{same_bool}
-use Rattle.mxf_catalogue.specs.Content.{IsCatalogue}
-use Rattle.mxf_catalogue.specs.Disputes.{SharesByte}
-use Rattle.mxf_catalogue.specs.Runs.{LiesIn}
-use Rattle.mxf_catalogue.specs.declared.run.Run.{Run}
-use Rattle.mxf_catalogue.proofs.ClearLaws.{clear_same}
-use Rattle.mxf_catalogue.proofs.ContentLaws.{same_content}
-use Rattle.mxf_catalogue.proofs.RunBounds.{covers_below_end}
-use Rattle.mxf_catalogue.proofs.RunLaws.{same_runs}
+use Rattle.mxf_views.proofs.Common.{◌≡◌, ◌↔◌, ◌⊎◌, ◌+◌, ◌∙◌, ℕ, ◌&&◌, ◌||◌, not, List, [], ◌∷◌}
+use Rattle.mxf_views.proofs.Common.{◌++◌, length, map, refl, sym, ap, subst, inl, inr, arith}
+use Rattle.mxf_views.proofs.Common.{IsCovered, IsInSpan, IsNote, NoteParts, In, SameMembers, all-In}
+use Rattle.mxf_views.proofs.Common.{In-append, In-map, same_bool, IsCatalogue, SharesByte, LiesIn}
+use Rattle.mxf_views.proofs.Common.{Run, clear_same, same_content, covers_below_end, same_runs}
 use Rattle.mxf_verify.specs.Comparing.{SharesHeldByte}
 use Rattle.mxf_verify.specs.Taking.{has_digest}
 use Rattle.mxf_verify.specs.Agreeing.{agrees_with}
 use Rattle.mxf_verify.specs.Telling.{AreThose}
-use Rattle.mxf_verify.specs.Verifications.{AreDiffering, AreRunsOf, DifferingParts, IsCountOf, IsVerification, VerificationParts, differing_in}
+use Rattle.mxf_verify.specs.Verifications.{AreDiffering, AreRunsOf, DifferingParts, IsCountOf}
+use Rattle.mxf_verify.specs.Verifications.{IsVerification, VerificationParts, differing_in}
 use Rattle.mxf_verify.specs.VerificationLaws.{AreAllClear, SaysSame}
-use Rattle.mxf_verify.specs.Verifying.{DiffersIn, IsAmong, IsByteOf, IsCompared, IsCut, IsDiffering, IsDifferingByte, IsHeldBy, IsSaidBy}
-use Rattle.mxf_verify.specs.Verifying.{IsSameIn, IsUnknownByte, IsUnverifiedByte, IsVerified, IsVerifiedByte, Source, TouchesIn, held_in, held_size, is_digested}
-use Rattle.mxf_verify.specs.Verifying.{Bytes}
+use Rattle.mxf_verify.specs.Verifying.{DiffersIn, IsAmong, IsByteOf, IsCompared, IsCut, IsDiffering}
+use Rattle.mxf_verify.specs.Verifying.{IsDifferingByte, IsHeldBy, IsSaidBy, IsSameIn, IsUnknownByte}
+use Rattle.mxf_verify.specs.Verifying.{IsUnverifiedByte, IsVerified, IsVerifiedByte, Source}
+use Rattle.mxf_verify.specs.Verifying.{TouchesIn, held_in, held_size, is_digested, Bytes}
 use Rattle.mxf_verify.proofs.KnownLaws.{or_not}
 use Rattle.mxf_verify.proofs.RangeLaws.{lies_or_not}
 use Rattle.mxf_verify.proofs.SaidLaws.{said_told}

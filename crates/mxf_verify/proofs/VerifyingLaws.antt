@@ -1,11 +1,9 @@
 -- What was seen of the parts of a run that were passed.
-use Rattle.std.proofs.Common.{◌≡◌, ◌+◌, ◌-◌, ◌∙◌, ℕ, List, [], ◌∷◌, ◌++◌, Option, Some, length, take, min, refl, sym, ap, subst, arith}
-use Rattle.std.specs.Prelude.{IfSome, IsSome, None, slice_get, unwrap_or}
-use Rattle.std.specs.List.{AllByRecursion}
-use Rattle.std.proofs.lemmas.List.{append-nil, take_at}
-use Rattle.mxf_klv.specs.Note.{greatest_end}
-use Rattle.mxf_klv.specs.Parts.{NoteParts}
-use Rattle.mxf_klv.proofs.Lists.{all_append}
+use Rattle.mxf_views.proofs.Common.{◌≡◌, ◌+◌, ◌-◌, ◌∙◌, ℕ, List, [], ◌∷◌, ◌++◌, Option, Some}
+use Rattle.mxf_views.proofs.Common.{length, take, min, refl, sym, ap, subst, arith, slice_get}
+use Rattle.mxf_views.proofs.Common.{AllByRecursion, take_at, greatest_end, NoteParts, all_append}
+use Rattle.std.specs.Prelude.{IfSome, IsSome, None, unwrap_or}
+use Rattle.std.proofs.lemmas.List.{append-nil}
 use Rattle.mxf_read.specs.Gathering.{HasFault, IsGatherFault, IsGood, piece_limit}
 use Rattle.mxf_read.specs.declared.gathering.part.Part.{Part}
 use Rattle.mxf_read.specs.declared.gathering.fault.PartFault.{PartFault}
@@ -13,8 +11,7 @@ use Rattle.mxf_read.proofs.GatheringLaws.{IsPassed, passed_none, passed_one, tol
 use Rattle.mxf_verify.specs.Seen.{IsSeen, SeesNext}
 use Rattle.mxf_verify.specs.Sources.{AreSourcesOf, IsSourceOf, source_at}
 use Rattle.mxf_verify.specs.Telling.{TellsOf}
-use Rattle.mxf_verify.specs.Verifying.{Source}
-use Rattle.mxf_verify.specs.Verifying.{Bytes}
+use Rattle.mxf_verify.specs.Verifying.{Source, Bytes}
 use Rattle.mxf_verify.specs.declared.seen.Seen.{Seen}
 use Rattle.mxf_verify.specs.declared.told.Told.{Told}
 

@@ -1,27 +1,19 @@
 -- All packets of a file beside the bytes of one source.
-use Rattle.std.proofs.Common.{◌≡◌, ◌≢◌, ◌↔◌, ◌+◌, ◌<◌, ◌≤◌, ◌∙◌, ℕ, true, List, [], ◌∷◌}
-use Rattle.std.proofs.Common.{length, refl, sym, ap, subst, inl, inr, arith, cond}
-use Rattle.std.proofs.lemmas.Bool.{cases_lt}
-use Rattle.mxf_klv.specs.Bytes.{AreBytes}
-use Rattle.mxf_klv.specs.Note.{IsCovered, IsNote, covered_end, end_of, greatest_end}
-use Rattle.mxf_klv.specs.Parts.{NoteParts}
-use Rattle.mxf_klv.specs.PieceReading.{notes_in, stop_in}
-use Rattle.mxf_klv.specs.Rising.{In}
-use Rattle.mxf_klv.specs.declared.piece.Stop.TheVariants.{End}
-use Rattle.mxf_klv.proofs.Lists.{all-In, Contains-from_In}
-use Rattle.mxf_catalogue.specs.Disputes.{AreApart, IsClear, clear_notes}
-use Rattle.mxf_catalogue.specs.Runs.{AreMaximal, LiesIn}
-use Rattle.mxf_catalogue.specs.declared.run.Run.{Run}
-use Rattle.mxf_catalogue.proofs.ContentLaws.{same_content}
-use Rattle.mxf_catalogue.proofs.DisputeLaws.{In-clear_notes, IsContent-clear_notes}
-use Rattle.mxf_catalogue.proofs.SpanLaws.{AreApart-clear_notes}
+use Rattle.mxf_views.proofs.Common.{◌≡◌, ◌≢◌, ◌↔◌, ◌+◌, ◌<◌, ◌≤◌, ◌∙◌, ℕ, true, List, [], ◌∷◌}
+use Rattle.mxf_views.proofs.Common.{length, refl, sym, ap, subst, inl, inr, arith, cond, cases_lt}
+use Rattle.mxf_views.proofs.Common.{AreBytes, IsCovered, IsNote, covered_end, end_of, greatest_end}
+use Rattle.mxf_views.proofs.Common.{NoteParts, notes_in, stop_in, In, End, all-In, Contains-from_In}
+use Rattle.mxf_views.proofs.Common.{AreApart, IsClear, clear_notes, AreMaximal, LiesIn, Run}
+use Rattle.mxf_views.proofs.Common.{same_content, In-clear_notes, IsContent-clear_notes}
+use Rattle.mxf_views.proofs.Common.{AreApart-clear_notes}
 use Rattle.mxf_verify.specs.VerificationLaws.{IsWholeReference, SaysWhole}
 use Rattle.mxf_verify.specs.Verifications.{AreRunsOf, IsCountOf, IsVerification, VerificationParts}
-use Rattle.mxf_verify.specs.Verifying.{DiffersIn, IsByteOf, IsDiffering, IsHeldBy, IsSameIn, IsVerified, Source}
-use Rattle.mxf_verify.specs.Verifying.{Bytes}
+use Rattle.mxf_verify.specs.Verifying.{DiffersIn, IsByteOf, IsDiffering, IsHeldBy, IsSameIn}
+use Rattle.mxf_verify.specs.Verifying.{IsVerified, Source, Bytes}
 use Rattle.mxf_verify.proofs.ComparingLaws.{holds_first}
 use Rattle.mxf_verify.proofs.VerificationLaws.{clear_one, held_so}
-use Rattle.mxf_verify.proofs.WholePackets.{AreNotesLaid, laid_end, laid_end_each, laid_end_within, read_all, read_said}
+use Rattle.mxf_verify.proofs.WholePackets.{AreNotesLaid, laid_end, laid_end_each, laid_end_within}
+use Rattle.mxf_verify.proofs.WholePackets.{read_all, read_said}
 
 -- a clear note covers what it spans
 whole_covers : (reference : List NoteParts) (n : NoteParts) → IsClear n reference → covered_end n ≡ end_of n

@@ -1,23 +1,21 @@
 -- The packets of bytes, and the notes of a reference that says what they are.
-use Rattle.std.proofs.Common.{◌≡◌, ◌+◌, ◌-◌, ◌<◌, ◌≤◌, ◌∙◌, ℕ, true, ◌&&◌, List, [], ◌∷◌, ◌++◌}
-use Rattle.std.proofs.Common.{Some, length, take, drop, cond, refl, sym, ap, subst, inl, inr, arith, append_assoc}
-use Rattle.std.proofs.lemmas.Bool.{cases_lt}
+use Rattle.mxf_views.proofs.Common.{◌≡◌, ◌+◌, ◌-◌, ◌<◌, ◌≤◌, ◌∙◌, ℕ, true, ◌&&◌, List, [], ◌∷◌}
+use Rattle.mxf_views.proofs.Common.{◌++◌, Some, length, take, drop, cond, refl, sym, ap, subst, inl}
+use Rattle.mxf_views.proofs.Common.{inr, arith, append_assoc, cases_lt, drop_all, drop-drop}
+use Rattle.mxf_views.proofs.Common.{drop_at, length-take, take-append-drop, take_at}
+use Rattle.mxf_views.proofs.Common.{IsSpelledLength, length_bytes, AreBytes, IsCovered, IsNote}
+use Rattle.mxf_views.proofs.Common.{end_of, greatest_end, keeps, keeps_value, note_of}
+use Rattle.mxf_views.proofs.Common.{IsSpelledPacket, size_of, NoteParts, PacketParts, packet_parts}
+use Rattle.mxf_views.proofs.Common.{AreLaid, end_after, notes_from, head_at, heads_at, notes_in}
+use Rattle.mxf_views.proofs.Common.{packet_at, packets_in, rest_in, stop_in, stop_of, In, End}
+use Rattle.mxf_views.proofs.Common.{spelled_len, ends_at, goes_on, length-spelled, none_at_end}
+use Rattle.mxf_views.proofs.Common.{packet_at-given, some_piece, length_bytes-spelled}
+use Rattle.mxf_views.proofs.Common.{spelled-length_bytes}
 use Rattle.std.proofs.Math.ListN.{length-append, length-drop}
-use Rattle.std.proofs.lemmas.List.{append-nil, drop_all, drop-drop, drop_at, length-take, take-append-drop, take_at}
+use Rattle.std.proofs.lemmas.List.{append-nil}
 use Rattle.sha2.specs.Sha256.{sha256}
-use Rattle.mxf_klv.specs.Ber.{IsSpelledLength, length_bytes}
-use Rattle.mxf_klv.specs.Bytes.{AreBytes}
-use Rattle.mxf_klv.specs.Note.{IsCovered, IsNote, end_of, greatest_end, keeps, keeps_value, note_of}
-use Rattle.mxf_klv.specs.Packet.{IsSpelledPacket, size_of}
-use Rattle.mxf_klv.specs.Parts.{NoteParts, PacketParts, packet_parts}
-use Rattle.mxf_klv.specs.Piece.{AreLaid, end_after, notes_from}
-use Rattle.mxf_klv.specs.PieceReading.{head_at, heads_at, notes_in, packet_at, packets_in, rest_in, stop_in, stop_of}
-use Rattle.mxf_klv.specs.Rising.{In}
-use Rattle.mxf_klv.specs.declared.piece.Stop.TheVariants.{End}
-use Rattle.mxf_klv.proofs.LengthLemmas.{spelled_len}
-use Rattle.mxf_klv.proofs.PieceLaws.{ends_at, goes_on, length-spelled, none_at_end, packet_at-given, some_piece}
 use Rattle.mxf_klv.proofs.StopLaws.{one_stop_in}
-use Rattle.mxf_klv.proofs.RoundTrips.{AreBytes-drop, AreBytes-take, length_bytes-spelled, spelled-length_bytes}
+use Rattle.mxf_klv.proofs.RoundTrips.{AreBytes-drop, AreBytes-take}
 use Rattle.mxf_verify.specs.Verifying.{IsAmong, IsSaidBy, IsValueOf, front_size, held_in, held_size}
 
 -- ---- what a note says of bytes is a packet

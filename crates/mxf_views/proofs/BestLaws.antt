@@ -1,10 +1,10 @@
 -- The preferred copy of those seen so far.
-use Rattle.mxf_views.proofs.Common.{◌≡◌, ◌<◌, ◌⊎◌, true, false, List, [], ◌∷◌, ◌++◌, Option, Some, None, refl, cond}
-use Rattle.mxf_views.proofs.Common.{append_assoc, append-nil, subst, ◌∙◌, sym, inl, inr, arith, ℕ, ◌↔◌, ◌&&◌, is_some}
-use Rattle.mxf_views.proofs.Common.{In, CopyInfo, best_of, preferred_of, rank, better, is_candidate, is_above, IsBest}
-use Rattle.mxf_views.proofs.Common.{IsPreferred}
-use Rattle.mxf_views.specs.Copies.{IsNotAbove, IsCandidate}
-use Rattle.mxf_klv.proofs.Lists.{In-end}
+use Rattle.mxf_views.proofs.Common.{◌≡◌, ◌<◌, ◌⊎◌, true, false, List, [], ◌∷◌, ◌++◌, Option, Some}
+use Rattle.mxf_views.proofs.Common.{None, refl, cond, append_assoc, append-nil, subst, ◌∙◌, sym}
+use Rattle.mxf_views.proofs.Common.{inl, inr, arith, ℕ, ◌↔◌, ◌&&◌, is_some, In, CopyInfo, best_of}
+use Rattle.mxf_views.proofs.Common.{preferred_of, rank, better, is_candidate, IsBest, IsPreferred}
+use Rattle.mxf_views.proofs.Common.{In-end}
+use Rattle.mxf_views.specs.Copies.{is_above, IsNotAbove, IsCandidate}
 
 candidate_says : (c : CopyInfo) (o : Option ℕ) → c.start ≡ o → is_some o ≡ true → c.prefaces ≡ 1 → IsCandidate c
 candidate_says c None e h one = absurd cc

@@ -1,117 +1,249 @@
 -- The names that most proofs cite, passed on from one place. Declares nothing.
-pub use Rattle.std.proofs.Common.{Bool, Equal, Err, Global, Greater, IfSome, Less, List, None, Ok, Option, Ordering}
-pub use Rattle.std.proofs.Common.{Result, Some, Vec, [], ap, append-nil, append_assoc, arith, cond, count_by, drop}
-pub use Rattle.std.proofs.Common.{eq-eqb, eqb-true, false, filter, filter_map, find, get_or, if◌then◌else◌, inl, inr}
-pub use Rattle.std.proofs.Common.{insert, is_ok, is_some, le-leb, le-ltb, leb-true, length, lt-ltb, ltb-false, ltb-true}
-pub use Rattle.std.proofs.Common.{map, max, min, nat_cmp, nat_le, nat_lt, ne_eqb, not, option_and_then, option_map}
-pub use Rattle.std.proofs.Common.{refl, rules, set, subst, suc, sym, take, true, vec_capacity, vec_len, zero, ℕ, ◌&&◌}
-pub use Rattle.std.proofs.Common.{◌++◌, ◌+◌, ◌-◌, ◌<◌, ◌==◌, ◌^◌, ◌||◌, ◌↔◌, ◌∙◌, ◌∷◌, ◌≡◌, ◌≢◌, ◌≤◌, ◌⊎◌}
-pub use Rattle.mxf_catalogue.proofs.ApartLaws.{apart_rises, later_differs, picked_none, picked_one, picked_several}
-pub use Rattle.mxf_catalogue.proofs.ClearLaws.{IsNew, clear-laid, clear_after, clear_same}
+pub use Rattle.mxf_catalogue.proofs.ApartLaws.{covers_all, later_differs, picked_none, picked_one}
+pub use Rattle.mxf_catalogue.proofs.ApartLaws.{picked_several}
+pub use Rattle.mxf_catalogue.proofs.ClearLaws.{IsNew, after, apart, clear-laid, clear_after}
+pub use Rattle.mxf_catalogue.proofs.ClearLaws.{clear_same, is_whole}
 pub use Rattle.mxf_catalogue.proofs.ContentLaws.{In-union_of, IsContent-union_of, same_content}
-pub use Rattle.mxf_catalogue.proofs.DisputeLaws.{In-clear_notes, IsContent-clear_notes, IsContent-filter, clear-alone}
+pub use Rattle.mxf_catalogue.proofs.CoverLaws.{IsCover-with_run, gaps_by_definition, same_covers}
+pub use Rattle.mxf_catalogue.proofs.DisputeLaws.{In-clear_notes, In-undisputed_notes}
+pub use Rattle.mxf_catalogue.proofs.DisputeLaws.{IsContent-clear_notes, IsContent-filter}
+pub use Rattle.mxf_catalogue.proofs.DisputeLaws.{SharesByte-same_offset, clear-alone}
 pub use Rattle.mxf_catalogue.proofs.DisputeLaws.{clear_at-found, is_disputed-IsDisputed}
-pub use Rattle.mxf_catalogue.proofs.HeadLaws.{In-reduced_with, IsContent-reduced_with}
-pub use Rattle.mxf_catalogue.proofs.RunBounds.{covers_first, has_byte}
+pub use Rattle.mxf_catalogue.proofs.DisputeLaws.{notes-disputed_notes, undisputed_at-found}
+pub use Rattle.mxf_catalogue.proofs.FileLaws.{written_file}
+pub use Rattle.mxf_catalogue.proofs.HeadLaws.{AreReduced-reduced_union, In-located}
+pub use Rattle.mxf_catalogue.proofs.HeadLaws.{IsContent-reduced_union, IsContent-reduced_with}
+pub use Rattle.mxf_catalogue.proofs.HeadLaws.{has-reduced_union, one_reduced, reduced_union-none}
+pub use Rattle.mxf_catalogue.proofs.HeadLaws.{reduced_with-present, same_note}
+pub use Rattle.mxf_catalogue.proofs.HeadWords.{own_head}
+pub use Rattle.mxf_catalogue.proofs.HistoryLaws.{In-content}
+pub use Rattle.mxf_catalogue.proofs.LaidNotes.{IsContent-laid}
+pub use Rattle.mxf_catalogue.proofs.Places.{search_says}
+pub use Rattle.mxf_catalogue.proofs.Ranges.{offsets_rise}
+pub use Rattle.mxf_catalogue.proofs.RunBounds.{covers_below_end, covers_first, has_byte}
+pub use Rattle.mxf_catalogue.proofs.RunBounds.{starts_above}
+pub use Rattle.mxf_catalogue.proofs.RunLaws.{AreMaximal-lower, same_runs}
 pub use Rattle.mxf_catalogue.proofs.SpanLaws.{AreApart-clear_notes, AreApart-filter, AreApart-lower}
-pub use Rattle.mxf_catalogue.specs.CatalogueFile.{file_bytes}
-pub use Rattle.mxf_catalogue.specs.Content.{AreReduced, IsCatalogue, IsContent, IsLocated, has_note, reduced_union}
-pub use Rattle.mxf_catalogue.specs.Content.{reduced_with, union_of}
-pub use Rattle.mxf_catalogue.specs.Disputes.{AreApart, IsClear, SharesByte, clear_notes, is_disputed, lies_in}
-pub use Rattle.mxf_catalogue.specs.NoteLists.{Covers}
-pub use Rattle.mxf_catalogue.specs.Runs.{AreMaximal, LiesIn}
+pub use Rattle.mxf_catalogue.proofs.SpanLaws.{less_by_offset, offset_le}
+pub use Rattle.mxf_catalogue.specs.CatalogueFile.{IsFileOf, file_bytes}
+pub use Rattle.mxf_catalogue.specs.Content.{AreReduced, IsCatalogue, IsContent, IsLocated, has_note}
+pub use Rattle.mxf_catalogue.specs.Content.{reduced_union, reduced_with, union_of}
+pub use Rattle.mxf_catalogue.specs.Covers.{IsCover, IsRun, LiesIn-with_run, gaps_of_runs}
+pub use Rattle.mxf_catalogue.specs.Covers.{is_between, union_of_runs, union_of_runs-IsUnion}
+pub use Rattle.mxf_catalogue.specs.Covers.{with_run}
+pub use Rattle.mxf_catalogue.specs.Disputes.{AreApart, DisputedParts, IsClear, IsDisputed}
+pub use Rattle.mxf_catalogue.specs.Disputes.{SharesByte, clear_notes, disputed_notes, is_disputed}
+pub use Rattle.mxf_catalogue.specs.Disputes.{is_same_note, lies_in, undisputed_notes}
+pub use Rattle.mxf_catalogue.specs.History.{Absorb, Add, Cut, Hands, History, New, Read, content}
+pub use Rattle.mxf_catalogue.specs.NoteLists.{Covers, covered_run, run_of}
+pub use Rattle.mxf_catalogue.specs.ReducedLaws.{rising-filter}
+pub use Rattle.mxf_catalogue.specs.Runs.{AreMaximal, IsWithin, LiesIn, SameOffsets, run}
+pub use Rattle.mxf_catalogue.specs.declared.cover.Cover.{Cover}
 pub use Rattle.mxf_catalogue.specs.declared.run.Run.{Run}
-pub use Rattle.mxf_klv.proofs.Counts.{count-none, count_by-cons, range-all, range-le, tally}
+pub use Rattle.mxf_klv.proofs.Counts.{count-none, count_by-cons, range-all, range-full, range-le}
+pub use Rattle.mxf_klv.proofs.Counts.{range-none, range-same, range-split, tally}
+pub use Rattle.mxf_klv.proofs.CutHeads.{heads_at-cut}
+pub use Rattle.mxf_klv.proofs.HeadOrder.{same_note-Decides}
+pub use Rattle.mxf_klv.proofs.KeyAndLengthLaws.{head-size, head-width}
+pub use Rattle.mxf_klv.proofs.LengthLemmas.{spelled_len}
 pub use Rattle.mxf_klv.proofs.ListSteps.{next_changed}
-pub use Rattle.mxf_klv.proofs.Lists.{Contains-from_In, In-append, In-at, In-filter, In-filter_map, In-list_all, In-map}
-pub use Rattle.mxf_klv.proofs.Lists.{all-In, all_from_In, filter_all, filter_none, find-none, find-only, found-In}
-pub use Rattle.mxf_klv.proofs.Lists.{length-filter_le, length-filter_map, list_all-In, list_any-In, none_found}
+pub use Rattle.mxf_klv.proofs.Lists.{Contains-from_In, In-append, In-at, In-end, In-filter}
+pub use Rattle.mxf_klv.proofs.Lists.{In-filter_map, In-flat_map, In-from_Contains, In-list_all}
+pub use Rattle.mxf_klv.proofs.Lists.{In-map, all-In, all-filter, all_append, all_from_In, all_push}
+pub use Rattle.mxf_klv.proofs.Lists.{filter_alike, filter_all, filter_none, find-none, find-only}
+pub use Rattle.mxf_klv.proofs.Lists.{found-In, length-filter_le, length-filter_map, list_all-In}
+pub use Rattle.mxf_klv.proofs.Lists.{list_any-In, none_found, some_above}
+pub use Rattle.mxf_klv.proofs.MoreBytes.{IsHeadNow, none_more, notes_from-append, seam}
 pub use Rattle.mxf_klv.proofs.NoteFilters.{all-right, tally_fits}
-pub use Rattle.mxf_klv.proofs.RisingBy.{from_lower, never_falls, one_by_key, rises-filter, rises-filter_map, rises-map}
-pub use Rattle.mxf_klv.proofs.Tests.{none_some, not-true-false, same_bool}
+pub use Rattle.mxf_klv.proofs.PieceLaws.{ends_at, goes_on, head_at-head, length-spelled}
+pub use Rattle.mxf_klv.proofs.PieceLaws.{none_at_end, packet_at-given, packets_in-none}
+pub use Rattle.mxf_klv.proofs.PieceLaws.{packets_in-some, rest_in-none, some_piece}
+pub use Rattle.mxf_klv.proofs.RisingBy.{IsRisingBy, by_itself, from_lower, never_falls, one_by_key}
+pub use Rattle.mxf_klv.proofs.RisingBy.{rises-filter, rises-map, same_by_members}
+pub use Rattle.mxf_klv.proofs.RoundTrips.{length_bytes-spelled, spelled-length_bytes}
+pub use Rattle.mxf_klv.proofs.SmallPackets.{end_up}
+pub use Rattle.mxf_klv.proofs.StopLaws.{at_cut, stops}
+pub use Rattle.mxf_klv.proofs.Tests.{either, equals_itself, guarded, lt_from_less, none_if}
+pub use Rattle.mxf_klv.proofs.Tests.{not-true-false, not_equal, not_true, same_bool, some_is}
+pub use Rattle.mxf_klv.proofs.Tests.{three_parts}
+pub use Rattle.mxf_klv.specs.Ber.{IsSpelledLength, length_bytes}
+pub use Rattle.mxf_klv.specs.Bytes.{AreBytes}
+pub use Rattle.mxf_klv.specs.KeyAndLength.{BeginsWithKeyAndLength, HasNoKeyAndLength}
 pub use Rattle.mxf_klv.specs.Kind.{kind_of}
-pub use Rattle.mxf_klv.specs.Note.{IsNote, covered_end, end_of, greatest_end, head_note, keeps, keeps_value, note_of}
-pub use Rattle.mxf_klv.specs.NoteOrder.{note_total}
-pub use Rattle.mxf_klv.specs.Packet.{IsPacket, size_of}
-pub use Rattle.mxf_klv.specs.Parts.{NoteParts, PacketParts}
-pub use Rattle.mxf_klv.specs.Piece.{end_after, notes_from}
-pub use Rattle.mxf_klv.specs.Rising.{In, In-union, IsRising, IsRising-union, IsRising-with_one, less_in}
-pub use Rattle.mxf_klv.specs.Rising.{same_from_members, union, with_one}
+pub use Rattle.mxf_klv.specs.Label.{begins_as_label, label_start}
+pub use Rattle.mxf_klv.specs.Note.{IsCovered, IsInSpan, IsNote, covered_end, end_of, greatest_end}
+pub use Rattle.mxf_klv.specs.Note.{head_note, keeps, keeps_value, note_cmp, note_of}
+pub use Rattle.mxf_klv.specs.NoteOrder.{note_cmp-IsAntisymmetric, note_total, ties}
+pub use Rattle.mxf_klv.specs.Packet.{IsPacket, IsSpelledPacket, size_of}
+pub use Rattle.mxf_klv.specs.Parts.{CanSpell, LengthParts, NoteParts, PacketParts, head_parts}
+pub use Rattle.mxf_klv.specs.Parts.{packet_parts}
+pub use Rattle.mxf_klv.specs.Piece.{AreLaid, BeginsWithCut, end_after, notes_from}
+pub use Rattle.mxf_klv.specs.PieceReading.{IsHeadOf, IsNoHead, IsOpen, notes_in, packet_at, stop_in}
+unfoldable pub use Rattle.mxf_klv.specs.PieceReading.{head_at, heads_at, packets_in, rest_in}
+unfoldable pub use Rattle.mxf_klv.specs.PieceReading.{stop_of}
+pub use Rattle.mxf_klv.specs.Rising.{In, In-union, IsPlaceOf, IsRising, IsRising-union, SameMembers}
+pub use Rattle.mxf_klv.specs.Rising.{less_in, same_from_members, union, with_one}
+pub use Rattle.mxf_klv.specs.Written.{Puts, Writes}
 pub use Rattle.mxf_klv.specs.declared.kinds.Kind.{Kind}
+pub use Rattle.mxf_klv.specs.declared.kinds.Kind.TheVariants.{Essence}
 pub use Rattle.mxf_klv.specs.declared.kinds.Status.{Status}
 pub use Rattle.mxf_klv.specs.declared.kinds.Status.TheVariants.{OpenIncomplete}
+pub use Rattle.mxf_klv.specs.declared.piece.Stop.{Stop}
+pub use Rattle.mxf_klv.specs.declared.piece.Stop.TheVariants.{BadLength, End, NoStart, NotUl}
+pub use Rattle.mxf_klv.specs.declared.piece.Stop.TheVariants.{TooFar, Truncated}
 pub use Rattle.mxf_sets.proofs.PackKinds.{kind_says, kind_tells}
+pub use Rattle.mxf_sets.proofs.TableLaws.{at_equal, at_other}
 pub use Rattle.mxf_sets.specs.Batch.{BatchParts}
-unfoldable pub use Rattle.mxf_sets.specs.Items.{items_of, left_of}
+pub use Rattle.mxf_sets.specs.Identification.{identification_at}
+pub use Rattle.mxf_sets.specs.Items.{ItemParts}
+pub use Rattle.mxf_sets.specs.Offset.{covers_constant, covers_entry, entry_offset, index_entry}
 pub use Rattle.mxf_sets.specs.Offset.{stream_offset}
 pub use Rattle.mxf_sets.specs.PackReadings.{pack_at, part_and_status, primer_at, rip_at}
-pub use Rattle.mxf_sets.specs.PartitionPack.{IsPartitionKind, PartitionPackParts, pack_kind}
+pub use Rattle.mxf_sets.specs.Package.{package_at}
+pub use Rattle.mxf_sets.specs.PartitionPack.{IsPartitionKind, PartitionPackParts}
 pub use Rattle.mxf_sets.specs.RandomIndexPack.{RipParts}
 pub use Rattle.mxf_sets.specs.Readable.{read_as}
-pub use Rattle.mxf_sets.specs.Segment.{SegmentParts, segment_at}
+pub use Rattle.mxf_sets.specs.Segment.{SegmentParts, entry_count, is_constant, segment_at}
 pub use Rattle.mxf_sets.specs.declared.pack.part.PackPart.{PackPart}
-pub use Rattle.mxf_sets.specs.declared.pack.part.PackPart.TheVariants.{Body, Footer, Header}
+pub use Rattle.mxf_sets.specs.declared.pack.part.PackPart.TheVariants.{Body}
 pub use Rattle.mxf_sets.specs.declared.pack.random_index.RipEntry.{RipEntry}
+pub use Rattle.mxf_sets.specs.declared.segment.numbers.SegmentNumbers.{SegmentNumbers}
+pub use Rattle.mxf_sets.specs.declared.segment.offset.IndexEntry.{IndexEntry}
 pub use Rattle.mxf_views.specs.Changes.{IsUnmet, SameOutside}
-pub use Rattle.mxf_views.specs.Copies.{AreSoMany, CopiesRise, CountsZone, IsBest, IsCopy, IsFilled, IsPrefaceIn}
-pub use Rattle.mxf_views.specs.Copies.{IsPreferred, IsPrimerOf, IsSetKind, IsStart, IsStartFound, best_of, better}
-pub use Rattle.mxf_views.specs.Copies.{copies_among, copy_from, covered_of, has_metadata, is_above, is_candidate}
-pub use Rattle.mxf_views.specs.Copies.{is_fill, is_filled, is_primer, is_set, is_start, preface, prefaces_of}
-pub use Rattle.mxf_views.specs.Copies.{preferred_of, rank, sets_found, sets_from, start_of, zone_of}
-unfoldable pub use Rattle.mxf_views.specs.Copies.{copies_of, copy_of, is_fill_note, is_preface_note, is_readable_primer}
-unfoldable pub use Rattle.mxf_views.specs.Copies.{is_set_note, sets_of}
-pub use Rattle.mxf_views.specs.Gaps.{AreGaps, gaps_from, gaps_of}
-pub use Rattle.mxf_views.specs.Kept.{HasRoom, IsHull, IsStartBelow, KeptParts, MeetAt, StartsRise, copies_followed}
-pub use Rattle.mxf_views.specs.Kept.{copy_by, followed, has_some_metadata, is_kept, is_outside, kept_among, kept_at}
-pub use Rattle.mxf_views.specs.Kept.{kept_in, kept_of, kept_partition, kept_random_index_pack, kept_segment}
-pub use Rattle.mxf_views.specs.Kept.{kept_unreadable_pack, lies_between, notes_at, nothing_kept, or_itself, outside}
-pub use Rattle.mxf_views.specs.Kept.{reaches_from, reaches_of, renewed, states_metadata, with_found, with_keyed}
-pub use Rattle.mxf_views.specs.Rises.{RiseBy}
+pub use Rattle.mxf_views.specs.Copies.{AreSoMany, CopiesRise, CountsZone, IsBest, IsCopy, IsFilled}
+pub use Rattle.mxf_views.specs.Copies.{IsPrefaceIn, IsPreferred, IsPrimerOf, IsSetKind, IsStart}
+pub use Rattle.mxf_views.specs.Copies.{IsStartFound, best_of, better, copies_among, copy_from}
+pub use Rattle.mxf_views.specs.Copies.{covered_of, has_metadata, identification, is_candidate}
+pub use Rattle.mxf_views.specs.Copies.{is_fill, is_filled, is_primer, is_set, is_start}
+pub use Rattle.mxf_views.specs.Copies.{material_package, preface, prefaces_of, preferred_of, rank}
+pub use Rattle.mxf_views.specs.Copies.{raw_set, sets_found, sets_from, source_package, storage}
+unfoldable pub use Rattle.mxf_views.specs.Copies.{copies_of, copy_of, is_fill_note, is_preface_note}
+unfoldable pub use Rattle.mxf_views.specs.Copies.{is_readable_primer, is_set_note, zone_of}
+pub use Rattle.mxf_views.specs.Gaps.{AreGaps, IsGap, gaps_from, gaps_of}
+pub use Rattle.mxf_views.specs.Headline.{IsTheRun}
+pub use Rattle.mxf_views.specs.Kept.{HasRoom, IsHull, IsStartBelow, KeptParts, MeetAt, StartsRise}
+pub use Rattle.mxf_views.specs.Kept.{copies_followed, copy_by, followed, has_some_metadata, is_kept}
+pub use Rattle.mxf_views.specs.Kept.{is_outside, kept_among, kept_at, kept_in, kept_of}
+pub use Rattle.mxf_views.specs.Kept.{kept_partition, kept_random_index_pack, kept_segment}
+pub use Rattle.mxf_views.specs.Kept.{kept_unreadable_pack, lies_between, nothing_kept, offset_if}
+pub use Rattle.mxf_views.specs.Kept.{or_itself, outside, reaches_from, reaches_of, renewed}
+pub use Rattle.mxf_views.specs.Kept.{states_metadata, with_found, with_keyed}
 unfoldable pub use Rattle.mxf_views.specs.Kept.{can_bring_start}
-pub use Rattle.mxf_views.specs.KeptAbove.{EndsBy, IsOfNone, IsStarting, IsUnionAt, clear_from, counted_above}
-pub use Rattle.mxf_views.specs.Labels.{is_in_copy, is_in_zone, primer_there}
+pub use Rattle.mxf_views.specs.KeptAbove.{EndsBy, IsOfNone, IsStarting, IsUnionAt, clear_from}
+pub use Rattle.mxf_views.specs.KeptAbove.{counted_above}
+pub use Rattle.mxf_views.specs.Labels.{is_in_copy, primer_of, primer_there}
 unfoldable pub use Rattle.mxf_views.specs.Labels.{primer_for}
-pub use Rattle.mxf_views.specs.Partitions.{AreInOrder, HangTogether, IsGreatestBelow, IsLink, PartitionParts, StandsAt}
-pub use Rattle.mxf_views.specs.Partitions.{chain_of, is_footer, is_greatest, is_header, is_linked, link_at, link_of}
-pub use Rattle.mxf_views.specs.Partitions.{pack_of, partitions_among, stands_above, stands_at, stands_between}
-unfoldable pub use Rattle.mxf_views.specs.Partitions.{is_no_unreadable_pack, partition_at, partitions_of}
-pub use Rattle.mxf_views.specs.Places.{SegmentAtParts, SegmentsRise, is_segment, place_cmp, places_with, place_by}
-pub use Rattle.mxf_views.specs.Places.{place_of, segments_among}
+pub use Rattle.mxf_views.specs.Partitions.{AreInOrder, HangTogether, IsGreatestBelow, IsLink}
+pub use Rattle.mxf_views.specs.Partitions.{PartitionParts, StandsAt, chain_of, in_numbers}
+pub use Rattle.mxf_views.specs.Partitions.{is_footer, is_greatest, is_header, is_linked, link_at}
+pub use Rattle.mxf_views.specs.Partitions.{link_by, link_of, pack_of, partitions_among, previous_of}
+pub use Rattle.mxf_views.specs.Partitions.{stands_at, stands_between}
+unfoldable pub use Rattle.mxf_views.specs.Partitions.{is_no_unreadable_pack, partition_at}
+unfoldable pub use Rattle.mxf_views.specs.Partitions.{partitions_of}
+pub use Rattle.mxf_views.specs.Places.{IsBelow, IsGiven, IsOnlyPlace, SegmentAtParts, greatest_unit}
+pub use Rattle.mxf_views.specs.Places.{in_stream, is_segment, place_by, place_cmp, place_in}
+pub use Rattle.mxf_views.specs.Places.{places_with, segments_among, without_entries}
 unfoldable pub use Rattle.mxf_views.specs.Places.{given_by, placed_segment, segments_of}
-pub use Rattle.mxf_views.specs.RandomIndex.{is_rip, rip_in, standing_by, standing_of}
+pub use Rattle.mxf_views.specs.RandomIndex.{RipAtParts, is_rip, rip_in, standing_of}
 unfoldable pub use Rattle.mxf_views.specs.RandomIndex.{is_rip_note, rips_of}
 pub use Rattle.mxf_views.specs.RandomIndexView.{rip_view_among, rip_view_by, rip_view_of}
-pub use Rattle.mxf_views.specs.Reading.{CopyRead, after_fills, copies_alone, copies_read, copy_read, link_read_at}
-pub use Rattle.mxf_views.specs.Reading.{links_read, partition_read, partitions_read, place_by_segment, segments_read}
-pub use Rattle.mxf_views.specs.Reading.{taken, whole_copy}
-pub use Rattle.mxf_views.specs.Readings.{IsReadAs, IsReadable}
+pub use Rattle.mxf_views.specs.Reading.{CopyRead, copies_alone, copies_read, copy_read}
+pub use Rattle.mxf_views.specs.Reading.{link_read_at, links_read, one_by_one, partition_read}
+pub use Rattle.mxf_views.specs.Reading.{partitions_read, place_by_segment, rip_read, segments_read}
+pub use Rattle.mxf_views.specs.Reading.{taken}
+pub use Rattle.mxf_views.specs.Readings.{IsReadAs}
 pub use Rattle.mxf_views.specs.Records.{value_as}
-unfoldable pub use Rattle.mxf_views.specs.Records.{read_pack, read_rip, read_segment}
+unfoldable pub use Rattle.mxf_views.specs.Records.{read_pack}
+pub use Rattle.mxf_views.specs.Rises.{RiseBy}
 pub use Rattle.mxf_views.specs.Spans.{is_in_one, is_in_span, sizes}
-pub use Rattle.mxf_views.specs.Sums.{AreInRange, AreMarks, SumsParts}
-pub use Rattle.mxf_views.specs.WellFormed.{Agree, EndsWithFooter, EndsWithRandomIndex, HasMetadata, IsFill}
-pub use Rattle.mxf_views.specs.WellFormed.{IsFooterPack, IsHeaderPack, IsPartitionPack, IsPrimerPack, IsRandomIndexPack}
-pub use Rattle.mxf_views.specs.WellFormed.{IsWellFormed, entry_of, is_readable_as, total_of}
+pub use Rattle.mxf_views.specs.Sums.{AreInRange, SumsParts}
+pub use Rattle.mxf_views.specs.WellFormed.{Agree, BeginsWithHeader, EndsWithFooter}
+pub use Rattle.mxf_views.specs.WellFormed.{EndsWithRandomIndex, HasMetadata, IsFill, IsFooterPack}
+pub use Rattle.mxf_views.specs.WellFormed.{IsHeaderPack, IsPartitionPack, IsPrimerPack}
+pub use Rattle.mxf_views.specs.WellFormed.{IsRandomIndexPack, IsReadable, IsWellFormed}
+pub use Rattle.mxf_views.specs.WellFormed.{is_readable_as, total_of}
 pub use Rattle.mxf_views.specs.WholeFile.{HasCopiesOf, HasIndexOf, HasPartitionsOf}
 pub use Rattle.mxf_views.specs.declared.chain.Chain.TheVariants.{Broken, Whole}
 pub use Rattle.mxf_views.specs.declared.chain.Link.{Link}
 pub use Rattle.mxf_views.specs.declared.chain.Link.TheVariants.{First, Held, Missing, Skips, Wrong}
 pub use Rattle.mxf_views.specs.declared.copy.CopyInfo.{CopyInfo}
-pub use Rattle.mxf_views.specs.declared.index.place.StreamPlace.{StreamPlace}
-pub use Rattle.mxf_views.specs.declared.index.place.Place.{Place}
 pub use Rattle.mxf_views.specs.declared.index.place.Place.TheVariants.{Ambiguous, At, NotIndexed}
-pub use Rattle.mxf_views.specs.declared.kept.sums.Mark.{Mark}
-pub use Rattle.mxf_views.specs.declared.random_index.RipView.TheVariants.{Absent, One}
-pub use Rattle.std.proofs.lemmas.Bool.{and_cases, and_from, and_parts, cases_lt, cases_order, false_from_ne_true}
-pub use Rattle.std.proofs.lemmas.Bool.{lt-leb}
-pub use Rattle.std.proofs.lemmas.Cmp.{nat_cmp_total, tied_itself}
+pub use Rattle.mxf_views.specs.declared.index.place.StreamPlace.{StreamPlace}
+pub use Rattle.mxf_views.specs.declared.random_index.RipView.{RipView}
+pub use Rattle.mxf_views.specs.declared.random_index.RipView.TheVariants.{Absent, One, Several}
+pub use Rattle.mxf_views.specs.declared.random_index.RipView.TheVariants.{Unreadable}
+pub use Rattle.mxf_views.specs.declared.random_index.Standing.{Standing}
+pub use Rattle.std.proofs.Common.{Bool, Err, Global, IfErr, IfOk, IfSome, IsSome, IsTrue, List}
+pub use Rattle.std.proofs.Common.{MatchOption, None, Ok, Option, Result, Some, Vec, [], ap}
+pub use Rattle.std.proofs.Common.{append-nil, append_assoc, arith, cond, count_by, drop, eq-eqb}
+pub use Rattle.std.proofs.Common.{eqb-true, false, filter, filter_map, find, flat_map, get_or}
+pub use Rattle.std.proofs.Common.{if◌then◌else◌, inl, inr, insert, is_ok, is_some, length}
+pub use Rattle.std.proofs.Common.{length-append, lt-ltb, ltb-true, map, map-id, max, min, nat_le}
+pub use Rattle.std.proofs.Common.{nat_lt, ne_eqb, negsuc, not, of_z, option_and_then, option_map}
+pub use Rattle.std.proofs.Common.{pos, refl, reverse, rules, set, subst, suc, sym, take, to_z, true}
+pub use Rattle.std.proofs.Common.{unsigned_abs, unwrap_or, vec_capacity, vec_len, w64, zero, ℕ, ℤ}
+pub use Rattle.std.proofs.Common.{◌%◌, ◌&&◌, ◌*◌, ◌++◌, ◌+◌, ◌-◌, ◌/◌, ◌<◌, ◌==◌, ◌^◌, ◌||◌, ◌↔◌}
+pub use Rattle.std.proofs.Common.{◌∙◌, ◌∷◌, ◌≡◌, ◌≢◌, ◌≤◌, ◌⊎◌}
+pub use Rattle.std.proofs.KnownBytes.{Appends-nil, Consumes-nil, Consumes-trans}
+pub use Rattle.std.proofs.Math.Nat.{mul-le-mul_left}
+pub use Rattle.std.proofs.Math.Seq.{drop-cons, take-append-add, take-append_seam}
+pub use Rattle.std.proofs.lemmas.Bool.{and_cases, and_from, and_left, and_parts, cases_Bool}
+pub use Rattle.std.proofs.lemmas.Bool.{cases_lt, cases_order, cond-false, eqb-false}
+pub use Rattle.std.proofs.lemmas.Bool.{false_from_ne_true, false≢true, le-leb, le-ltb, leb-false}
+pub use Rattle.std.proofs.lemmas.Bool.{leb-true, lt-leb, ltb-false, not-false, not-true, or_cases}
+pub use Rattle.std.proofs.lemmas.Bool.{or_left, or_parts, or_right, true≢false}
+pub use Rattle.std.proofs.lemmas.Bool.Decides.{leb_tells, nat_tests}
+pub use Rattle.std.proofs.lemmas.Cmp.{nat_cmp_total, on_total, then_total, tied_itself}
 pub use Rattle.std.proofs.lemmas.Fn.{filter_same}
-pub use Rattle.std.proofs.lemmas.List.{length-map}
-pub use Rattle.std.proofs.lemmas.List.Elements.{filter-append}
-pub use Rattle.std.proofs.lemmas.List.Sums.{count_by-le-length, length-filter, sum_by-append, sum_by-cons}
+pub use Rattle.std.proofs.lemmas.Iterator.{YieldsList-from_map, YieldsList-from_map_by}
+pub use Rattle.std.proofs.lemmas.Iterator.{YieldsList-from_slice, items_from_collect}
+pub use Rattle.std.proofs.lemmas.Iterator.Adapters.{items_from_extend}
+pub use Rattle.std.proofs.lemmas.Iterator.Consumers.{YieldsList-at, YieldsList-from_copied}
+pub use Rattle.std.proofs.lemmas.Iterator.Consumers.{YieldsList-from_filter}
+pub use Rattle.std.proofs.lemmas.Iterator.Consumers.{YieldsList-from_filter_map}
+pub use Rattle.std.proofs.lemmas.Iterator.Consumers.{YieldsList-from_first, YieldsList-from_scan}
+pub use Rattle.std.proofs.lemmas.Iterator.Consumers.{map_from_collect}
+pub use Rattle.std.proofs.lemmas.List.{at_drop_all, at_drop_more, drop-append-le, drop-drop}
+pub use Rattle.std.proofs.lemmas.List.{drop-map, drop-take, drop_all, drop_at, get_or-drop}
+pub use Rattle.std.proofs.lemmas.List.{get_or-map, get_or-reverse, get_or-take, get_or_default}
+pub use Rattle.std.proofs.lemmas.List.{length-drop, length-map, length-reverse, length-take}
+pub use Rattle.std.proofs.lemmas.List.{map-append, nil_from_length, take-append-drop}
+pub use Rattle.std.proofs.lemmas.List.{take-append-le, take-map, take-take, take_all, take_at}
+pub use Rattle.std.proofs.lemmas.List.{take_more, take_rest}
+pub use Rattle.std.proofs.lemmas.List.Elements.{filter-append, filter_map-append}
+pub use Rattle.std.proofs.lemmas.List.FromFn.{length-map-range_with_len}
+pub use Rattle.std.proofs.lemmas.List.Sorted.{Contains-permutation, IsNonDecreasingBy-from_sort}
+pub use Rattle.std.proofs.lemmas.List.Sorted.{IsNonDecreasingBy-from_sort_by_key}
+pub use Rattle.std.proofs.lemmas.List.Sorted.{IsPartitionPoint-from_clause, IsPartitionedBy-leb}
+pub use Rattle.std.proofs.lemmas.List.Sorted.{IsPermutation-sym, answers_always}
+pub use Rattle.std.proofs.lemmas.List.Sorted.{sum_by-IsPermutation}
+pub use Rattle.std.proofs.lemmas.List.Sums.{count_by-le-length, length-filter, sum_by-append}
+pub use Rattle.std.proofs.lemmas.List.Sums.{sum_by-cons}
+pub use Rattle.std.proofs.lemmas.Option.{IfSome_then, get_or_from_slice_get, same_Some}
+pub use Rattle.std.proofs.lemmas.Option.{slice_get-get_or, slice_get-map, slice_get_read}
+pub use Rattle.std.proofs.lemmas.Option.{slice_get_within}
+pub use Rattle.std.proofs.lemmas.Result.{IfOk-weaker, err_from_is_err_and, on_ok_weaker}
+pub use Rattle.std.proofs.lemmas.Simd.{map-map}
+pub use Rattle.std.proofs.lemmas.Slice.Eq.{bytes_eq-Decides}
+pub use Rattle.std.specs.BTreeMap.{BTreeMap, get, is_at}
 pub use Rattle.std.specs.Bool.{then_some}
-pub use Rattle.std.specs.FinSet.{nat_cmp-IsAntisymmetric}
-pub use Rattle.std.specs.List.{AllByRecursion, AllWithin, cons_option, list_all, list_any, range_with_len}
-pub use Rattle.std.specs.List.Sorted.{IsNonDecreasing, IsNonDecreasingBy}
-pub use Rattle.std.specs.Option.{option_map_or}
-pub use Rattle.std.specs.Result.{result_ok}
+pub use Rattle.std.specs.Cmp.{IsTotalOrder}
+pub use Rattle.std.specs.Cmp.Lexicographic.{options_total}
+pub use Rattle.std.specs.FinMap.{nat_cmp-IsAntisymmetric}
+pub use Rattle.std.specs.FinSet.{IsAntisymmetric}
+pub use Rattle.std.specs.Io.KnownBytes.{Consumes, IsAtEnd}
+pub use Rattle.std.specs.List.{AllByRecursion, AllWithin, cons_option, list_all, list_any}
+pub use Rattle.std.specs.List.{range_with_len}
+pub use Rattle.std.specs.List.Sorted.{IsNonDecreasing, IsNonDecreasingBy, IsPartitionedBy}
+pub use Rattle.std.specs.List.Sorted.{IsPermutation}
+pub use Rattle.std.specs.Map.{lookup}
+pub use Rattle.std.specs.Option.{ForSome, ok_or, option_cmp, option_copied, option_map_or}
+pub use Rattle.std.specs.Option.{option_or, option_to_list}
+pub use Rattle.std.specs.Ordering.{bool_cmp, is_eq, is_le, is_lt, nat_cmp, on, ordering_then}
+pub use Rattle.std.specs.Ordering.{then_cmp}
+pub use Rattle.std.specs.Prelude.{IfNone, IsSomeAnd, slice_get, slice_set}
+pub use Rattle.std.specs.Result.{OnOk, result_ok}
+pub use Rattle.std.specs.Str.{bytes_eq}
+pub use Rattle.std.specs.Vec.Iter.{into_iter_items}
+pub use Rattle.std.specs.declared.cmp.Ordering.{Ordering}
+pub use Rattle.std.specs.declared.cmp.Ordering.TheVariants.{Equal, Greater, Less}

@@ -1,17 +1,22 @@
 -- The copies of the header metadata once a note was added: those elsewhere are counted anew where they may have
 -- changed.
-use Rattle.mxf_views.proofs.Common.{◌+◌, count_by, count_by-cons, tally, copies_among, kept_partition, option_map}
-use Rattle.mxf_views.proofs.Common.{SharesByte, kept_at, outside, ◌≡◌, ℕ, length, ◌-◌, ◌<◌, ◌≤◌, ◌⊎◌, Bool, true, false}
-use Rattle.mxf_views.proofs.Common.{cond, List, [], ◌∷◌, Option, Some, None, refl, sym, ap, subst, ◌∙◌, inl, inr, arith}
-use Rattle.mxf_views.proofs.Common.{eqb-true, ◌||◌, ◌==◌, nat_lt, find, filter, map, if◌then◌else◌, cons_option}
-use Rattle.mxf_views.proofs.Common.{filter_map, option_and_then, ltb-true, ltb-false, and_parts, NoteParts, kind_of}
-use Rattle.mxf_views.proofs.Common.{end_of, In, IsContent, reduced_with, IsClear, clear_notes, In-clear_notes, CopyInfo}
-use Rattle.mxf_views.proofs.Common.{CopiesRise, copies_of, copy_of, has_metadata, is_fill, is_fill_note, is_primer}
-use Rattle.mxf_views.proofs.Common.{is_readable_primer, start_of, IsHull, copies_followed, copy_by, has_some_metadata}
-use Rattle.mxf_views.proofs.Common.{states_metadata, is_outside, renewed, PartitionParts, partition_at, partitions_of}
-use Rattle.mxf_views.proofs.Common.{found-In, and_cases, IsContent-reduced_with, can_bring_start, or_itself, with_found}
-use Rattle.mxf_views.proofs.Common.{rises-map, rises-filter, IsNew, clear_after, IsUnmet, SameOutside}
-use Rattle.mxf_views.specs.Partitions.{in_numbers}
+use Rattle.mxf_views.proofs.Common.{◌+◌, count_by, count_by-cons, tally, copies_among}
+use Rattle.mxf_views.proofs.Common.{kept_partition, option_map, SharesByte, kept_at, outside, ◌≡◌}
+use Rattle.mxf_views.proofs.Common.{ℕ, length, ◌-◌, ◌<◌, ◌≤◌, ◌⊎◌, Bool, true, false, cond, List}
+use Rattle.mxf_views.proofs.Common.{[], ◌∷◌, Option, Some, None, refl, sym, ap, subst, ◌∙◌, inl}
+use Rattle.mxf_views.proofs.Common.{inr, arith, eqb-true, ◌||◌, ◌==◌, nat_lt, find, filter, map}
+use Rattle.mxf_views.proofs.Common.{if◌then◌else◌, cons_option, filter_map, option_and_then}
+use Rattle.mxf_views.proofs.Common.{ltb-true, and_parts, NoteParts, kind_of, end_of, In, IsContent}
+use Rattle.mxf_views.proofs.Common.{reduced_with, IsClear, clear_notes, In-clear_notes, CopyInfo}
+use Rattle.mxf_views.proofs.Common.{CopiesRise, copies_of, copy_of, has_metadata, is_fill}
+use Rattle.mxf_views.proofs.Common.{is_fill_note, is_primer, is_readable_primer, IsHull}
+use Rattle.mxf_views.proofs.Common.{copies_followed, copy_by, has_some_metadata, states_metadata}
+use Rattle.mxf_views.proofs.Common.{is_outside, renewed, PartitionParts, partition_at}
+use Rattle.mxf_views.proofs.Common.{partitions_of, found-In, and_cases, IsContent-reduced_with}
+use Rattle.mxf_views.proofs.Common.{can_bring_start, or_itself, with_found, rises-map, rises-filter}
+use Rattle.mxf_views.proofs.Common.{IsNew, clear_after, IsUnmet, SameOutside, in_numbers}
+use Rattle.std.proofs.Common.{ltb-false}
+use Rattle.mxf_views.specs.Copies.{start_of}
 use Rattle.mxf_views.proofs.KeptItems.{kept_there, renewed_follow}
 use Rattle.mxf_views.proofs.PartitionLaws.{offset-partition_at, readable_from}
 use Rattle.mxf_views.specs.Kept.{may_change}

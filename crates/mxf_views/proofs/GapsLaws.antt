@@ -1,13 +1,12 @@
 -- The gaps of a content are its maximal ranges of offsets that no note covers.
-use Rattle.mxf_views.proofs.Common.{◌≡◌, ℕ, ◌+◌, ◌-◌, ◌^◌, ◌<◌, ◌≤◌, ◌⊎◌, true, false, List, [], ◌∷◌, refl, ap, subst}
-use Rattle.mxf_views.proofs.Common.{length, inl, inr, arith, ◌↔◌, max, cond, nat_lt, ltb-true, ltb-false, NoteParts}
-use Rattle.mxf_views.proofs.Common.{IsNote, end_of, greatest_end, In, less_in, IsCatalogue, IsContent, Run, gaps_of}
-use Rattle.mxf_views.proofs.Common.{LiesIn, AreMaximal, all-In, covered_end, note_total, gaps_from, AreGaps}
-use Rattle.mxf_views.proofs.Common.{covers_first, has_byte, cases_lt}
-use Rattle.mxf_klv.specs.Note.{IsCovered}
-use Rattle.mxf_catalogue.proofs.SpanLaws.{offset_le}
-use Rattle.mxf_catalogue.specs.Runs.{IsWithin}
-use Rattle.mxf_catalogue.proofs.RunLaws.{AreMaximal-lower}
+use Rattle.mxf_views.proofs.Common.{◌≡◌, ℕ, ◌+◌, ◌-◌, ◌^◌, ◌<◌, ◌≤◌, ◌⊎◌, true, false, List, []}
+use Rattle.mxf_views.proofs.Common.{◌∷◌, refl, ap, subst, length, inl, inr, arith, ◌↔◌, max, cond}
+use Rattle.mxf_views.proofs.Common.{nat_lt, ltb-true, NoteParts, IsNote, end_of, greatest_end, In}
+use Rattle.mxf_views.proofs.Common.{less_in, IsCatalogue, IsContent, Run, gaps_of, LiesIn}
+use Rattle.mxf_views.proofs.Common.{AreMaximal, all-In, covered_end, note_total, gaps_from, AreGaps}
+use Rattle.mxf_views.proofs.Common.{covers_first, has_byte, cases_lt, IsCovered, offset_le}
+use Rattle.mxf_views.proofs.Common.{IsWithin, AreMaximal-lower}
+use Rattle.std.proofs.Common.{ltb-false}
 use Rattle.mxf_catalogue.proofs.RunBounds.{length_maximal}
 
 maximal_from : (notes : List NoteParts) (reached top : ℕ) → AreMaximal reached (gaps_from reached top notes)

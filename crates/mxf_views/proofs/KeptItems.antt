@@ -1,18 +1,22 @@
 -- What is kept of the clear notes: lists that rise by a key of each element, which is the offset of its note; and what
 -- adding a note changes of them.
-use Rattle.mxf_views.proofs.Common.{◌≡◌, ◌≢◌, ℕ, ◌≤◌, ◌⊎◌, true, List, Option, Some, None, refl, sym, ap}
-use Rattle.mxf_views.proofs.Common.{subst, ◌∙◌, inl, inr, arith, eqb-true, eq-eqb, ◌↔◌, ◌==◌, find}
-use Rattle.mxf_views.proofs.Common.{option_and_then, NoteParts, end_of, In, IsContent, reduced_with, IsClear, clear_notes}
-use Rattle.mxf_views.proofs.Common.{In-clear_notes, clear-alone, AreApart-clear_notes, IsHull, In-filter, In-filter_map}
-use Rattle.mxf_views.proofs.Common.{found-In, none_found, find-none, find-only, IsContent-reduced_with, clear_at-found}
-use Rattle.mxf_views.proofs.Common.{IsNew, clear_after, apart_rises, rises-filter, rises-filter_map, is_outside}
-use Rattle.mxf_views.proofs.Common.{followed, kept_among, kept_at, outside, with_found, with_keyed}
-use Rattle.mxf_views.proofs.Common.{Bool, false, [], ◌∷◌, cond, cons_option, filter, filter_map, is_kept, is_some, notes_at}
+use Rattle.mxf_views.proofs.Common.{◌≡◌, ◌≢◌, ℕ, ◌≤◌, ◌⊎◌, true, List, Option, Some, None, refl}
+use Rattle.mxf_views.proofs.Common.{sym, ap, subst, ◌∙◌, inl, inr, arith, eqb-true, eq-eqb, ◌↔◌}
+use Rattle.mxf_views.proofs.Common.{◌==◌, find, option_and_then, NoteParts, end_of, In, IsContent}
+use Rattle.mxf_views.proofs.Common.{reduced_with, IsClear, clear_notes, In-clear_notes, clear-alone}
+use Rattle.mxf_views.proofs.Common.{AreApart-clear_notes, IsHull, In-filter, In-filter_map}
+use Rattle.mxf_views.proofs.Common.{found-In, none_found, find-none, find-only}
+use Rattle.mxf_views.proofs.Common.{IsContent-reduced_with, clear_at-found, IsNew, clear_after}
+use Rattle.mxf_views.proofs.Common.{rises-filter, is_outside, followed, kept_among, kept_at}
+use Rattle.mxf_views.proofs.Common.{outside, with_found, with_keyed, Bool, false, [], ◌∷◌, cond}
+use Rattle.mxf_views.proofs.Common.{cons_option, filter, filter_map, is_kept, is_some, offset_if}
+use Rattle.mxf_views.proofs.Common.{In-map, SharesByte, map, option_map, rises-map, IsRisingBy}
+use Rattle.mxf_views.proofs.Common.{same_by_members}
+use Rattle.mxf_catalogue.proofs.ApartLaws.{apart_rises}
+use Rattle.mxf_klv.proofs.RisingBy.{rises-filter_map}
+use Rattle.mxf_views.specs.Kept.{notes_at}
 use Rattle.mxf_catalogue.proofs.ClearLaws.{In-with_new}
-use Rattle.mxf_views.specs.Kept.{offset_if}
 use Rattle.std.proofs.lemmas.List.{map-id}
-use Rattle.mxf_views.proofs.Common.{In-map, SharesByte, map, option_map, rises-map}
-use Rattle.mxf_klv.proofs.RisingBy.{IsRisingBy, same_by_members}
 use Rattle.mxf_views.proofs.ClearChanges.{outside_iff, outside_says}
 use Rattle.mxf_views.proofs.KeyedLists.{In-with_keyed, rises-with_keyed}
 

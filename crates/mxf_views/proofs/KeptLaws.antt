@@ -1,17 +1,18 @@
 -- What is kept of a content, and what an addition makes of it.
-use Rattle.mxf_views.proofs.Common.{◌≡◌, ℕ, Bool, List, [], ◌∷◌, Option, None, Some, refl, sym, ap, subst, ◌∙◌, true, false}
-use Rattle.mxf_views.proofs.Common.{NoteParts, clear_notes, CopyInfo, copies_of, KeptParts, copies_followed, followed}
-use Rattle.mxf_views.proofs.Common.{kept_among, kept_at, kept_partition, kept_random_index_pack, kept_segment}
-use Rattle.mxf_views.proofs.Common.{kept_unreadable_pack, notes_at, reaches_of, partition_at, partitions_of, not}
-use Rattle.mxf_views.proofs.Common.{placed_segment, segments_of, kept_of, can_bring_start, nothing_kept, map}
-use Rattle.mxf_views.proofs.Common.{cons_option, find, ◌==◌, filter_map, In, inl, inr, IsContent, IsNonDecreasingBy, RiseBy}
-use Rattle.mxf_views.proofs.Common.{PartitionParts, SegmentAtParts, option_map, outside, never_falls}
-use Rattle.mxf_views.proofs.Common.{is_no_unreadable_pack, is_outside, is_rip_note, rises-filter, cond, filter}
-use Rattle.mxf_views.proofs.Common.{is_kept, is_some, partitions_among, segments_among}
+use Rattle.mxf_views.proofs.Common.{◌≡◌, ℕ, Bool, List, [], ◌∷◌, Option, None, Some, refl, sym, ap}
+use Rattle.mxf_views.proofs.Common.{subst, ◌∙◌, true, false, NoteParts, clear_notes, CopyInfo}
+use Rattle.mxf_views.proofs.Common.{copies_of, KeptParts, copies_followed, followed, kept_among}
+use Rattle.mxf_views.proofs.Common.{kept_at, kept_partition, kept_random_index_pack, kept_segment}
+use Rattle.mxf_views.proofs.Common.{kept_unreadable_pack, reaches_of, partition_at, partitions_of}
+use Rattle.mxf_views.proofs.Common.{not, placed_segment, segments_of, kept_of, can_bring_start}
+use Rattle.mxf_views.proofs.Common.{nothing_kept, map, cons_option, find, ◌==◌, filter_map, In, inl}
+use Rattle.mxf_views.proofs.Common.{inr, IsContent, IsNonDecreasingBy, RiseBy, PartitionParts}
+use Rattle.mxf_views.proofs.Common.{SegmentAtParts, option_map, outside, never_falls}
+use Rattle.mxf_views.proofs.Common.{is_no_unreadable_pack, is_outside, is_rip_note, rises-filter}
+use Rattle.mxf_views.proofs.Common.{cond, filter, is_kept, is_some, partitions_among}
+use Rattle.mxf_views.proofs.Common.{segments_among, offset_if, in_numbers, without_entries}
+use Rattle.mxf_views.specs.Kept.{notes_at, HasArrived}
 use Rattle.mxf_views.specs.declared.kept.arrival.Arrival.{Arrival}
-use Rattle.mxf_views.specs.Kept.{HasArrived, offset_if}
-use Rattle.mxf_views.specs.Partitions.{in_numbers}
-use Rattle.mxf_views.specs.Places.{without_entries}
 use Rattle.mxf_views.proofs.CopyUpdates.{copies_follow}
 use Rattle.mxf_views.proofs.KeptItems.{kept_follow, kept_found, kept_if, kept_rise, notes_kept}
 use Rattle.mxf_views.proofs.KeyedLists.{rise_by}

@@ -1,17 +1,18 @@
 -- The links of partitions that rise, each of which names the one before it: they are those of a reading from the front.
-use Rattle.mxf_views.proofs.Common.{◌≡◌, ℕ, ◌+◌, ◌<◌, ◌≤◌, Bool, true, false, cond, not, ◌||◌, ◌==◌, nat_lt, List, []}
-use Rattle.mxf_views.proofs.Common.{◌∷◌, ◌++◌, ◌⊎◌, find, count_by, Option, None, Some, is_some, refl, AllByRecursion}
-use Rattle.mxf_views.proofs.Common.{list_all, option_map, sym, ◌∙◌, ap, subst, inl, inr, arith, eq-eqb, ltb-true}
-use Rattle.mxf_views.proofs.Common.{and_from, false_from_ne_true, sum_by-append, In, First, Held, PartitionParts}
-use Rattle.mxf_views.proofs.Common.{is_footer, is_greatest, is_header, is_linked, link_at, link_of, stands_above}
-use Rattle.mxf_views.proofs.Common.{count_by-cons, tally, list_any-In, In-list_all, all-In, all_from_In}
-use Rattle.mxf_views.proofs.Common.{IsGreatestBelow, link_read_at, links_read, count-none}
-use Rattle.std.proofs.lemmas.Bool.{or_right}
+use Rattle.mxf_views.proofs.Common.{◌≡◌, ℕ, ◌+◌, ◌<◌, ◌≤◌, Bool, true, false, cond, not, ◌||◌, ◌==◌}
+use Rattle.mxf_views.proofs.Common.{nat_lt, List, [], ◌∷◌, ◌++◌, ◌⊎◌, find, count_by, Option, None}
+use Rattle.mxf_views.proofs.Common.{Some, is_some, refl, AllByRecursion, list_all, option_map, sym}
+use Rattle.mxf_views.proofs.Common.{◌∙◌, ap, subst, inl, inr, arith, eq-eqb, ltb-true, and_from}
+use Rattle.mxf_views.proofs.Common.{false_from_ne_true, sum_by-append, In, First, Held}
+use Rattle.mxf_views.proofs.Common.{PartitionParts, is_footer, is_greatest, is_header, is_linked}
+use Rattle.mxf_views.proofs.Common.{link_at, link_of, count_by-cons, tally, list_any-In}
+use Rattle.mxf_views.proofs.Common.{In-list_all, all-In, all_from_In, IsGreatestBelow, link_read_at}
+use Rattle.mxf_views.proofs.Common.{links_read, count-none, or_right, all_push}
+use Rattle.mxf_views.specs.Partitions.{stands_above}
 use Rattle.mxf_views.specs.Reading.{ends_with_footer, link_read}
 use Rattle.mxf_views.specs.WellFormed.{NameTheOneBefore}
 use Rattle.mxf_views.proofs.PartitionLaws.{link_iff}
 use Rattle.mxf_views.proofs.RisingPartitions.{IsRisingFrom, at_or_above}
-use Rattle.mxf_klv.proofs.Lists.{all_push}
 
 offset-same : (p q : PartitionParts) → p ≡ q → p.offset ≡ q.offset
 offset-same p q e = ap (λ (x : PartitionParts). x.offset) e

@@ -1,12 +1,15 @@
 -- The partitions, and how each names the one before it.
-use Rattle.mxf_views.proofs.Common.{◌≡◌, ℕ, ◌<◌, Bool, true, false, List, Some, None, refl, sym, ap, subst, ◌∙◌, inl}
-use Rattle.mxf_views.proofs.Common.{inr, arith, eqb-true, eq-eqb, ◌↔◌, ◌==◌, find, not, if◌then◌else◌, option_map}
-use Rattle.mxf_views.proofs.Common.{NoteParts, end_of, kind_of, In, pack_at, PartitionPackParts, IsContent, clear_notes}
-use Rattle.mxf_views.proofs.Common.{In-clear_notes, First, Held, PartitionParts, AreInOrder, pack_of, partition_at}
-use Rattle.mxf_views.proofs.Common.{partitions_of, link_of, link_at, list_any-In, found-In, find-only, In-filter_map}
-use Rattle.mxf_views.proofs.Common.{Link, Skips, Missing, Wrong, StandsAt, IsGreatestBelow, IsLink, stands_at}
-use Rattle.mxf_views.proofs.Common.{stands_between, one_by_key, none_some, part_and_status}
-use Rattle.mxf_views.specs.Partitions.{IsReadablePack, IsPartition, IsLinkAt, previous_of}
+use Rattle.mxf_views.proofs.Common.{◌≡◌, ℕ, ◌<◌, Bool, true, false, List, Some, None, refl, sym, ap}
+use Rattle.mxf_views.proofs.Common.{subst, ◌∙◌, inl, inr, arith, eqb-true, eq-eqb, ◌↔◌, ◌==◌, find}
+use Rattle.mxf_views.proofs.Common.{not, if◌then◌else◌, option_map, NoteParts, end_of, kind_of, In}
+use Rattle.mxf_views.proofs.Common.{pack_at, PartitionPackParts, IsContent, clear_notes}
+use Rattle.mxf_views.proofs.Common.{In-clear_notes, First, Held, PartitionParts, AreInOrder}
+use Rattle.mxf_views.proofs.Common.{pack_of, partition_at, partitions_of, link_of, link_at}
+use Rattle.mxf_views.proofs.Common.{list_any-In, found-In, find-only, In-filter_map, Link, Skips}
+use Rattle.mxf_views.proofs.Common.{Missing, Wrong, StandsAt, IsGreatestBelow, IsLink, stands_at}
+use Rattle.mxf_views.proofs.Common.{stands_between, one_by_key, part_and_status, previous_of}
+use Rattle.mxf_klv.proofs.Tests.{none_some}
+use Rattle.mxf_views.specs.Partitions.{IsReadablePack, IsPartition, IsLinkAt}
 use Rattle.mxf_views.proofs.KeptItems.{kept_rise}
 use Rattle.mxf_views.proofs.ReadingLaws.{reads}
 use Rattle.mxf_views.proofs.KeyedLists.{rise_by}

@@ -1,18 +1,19 @@
 -- Places in essence streams, those that segments give, and the place of a unit by them.
-use Rattle.mxf_views.proofs.Common.{◌≡◌, ℕ, ◌⊎◌, true, false, cond, List, [], ◌∷◌, Some, None, refl, sym, ap, subst}
-use Rattle.mxf_views.proofs.Common.{◌∙◌, inl, inr, eqb-true, eq-eqb, ◌↔◌, ◌==◌, option_map}
-use Rattle.mxf_views.proofs.Common.{filter_map, nat_cmp, nat_cmp-IsAntisymmetric, Ordering, Less, Equal, Greater}
-use Rattle.mxf_views.proofs.Common.{nat_cmp_total, tied_itself, In, IsRising, with_one, In-union, IsRising-union}
-use Rattle.mxf_views.proofs.Common.{less_in, same_from_members, stream_offset, StreamPlace, Place, NotIndexed, At, Ambiguous}
-use Rattle.mxf_views.proofs.Common.{SegmentAtParts, place_cmp, place_by, place_of, In-filter_map, IsRising-with_one}
-use Rattle.mxf_views.proofs.Common.{given_by, places_with}
-use Rattle.std.specs.Ordering.{ordering_then}
-use Rattle.std.specs.Cmp.{IsTotalOrder, nat_cmp_is}
-use Rattle.std.specs.FinSet.{IsAntisymmetric}
-use Rattle.std.proofs.lemmas.Cmp.{on_total, then_total}
-use Rattle.mxf_views.specs.Places.{AreTwoLeast, IsBelow, IsGiven, IsOnlyPlace, IsPlace, in_stream, place_in}
-use Rattle.mxf_klv.proofs.Tests.{lt_from_less}
-use Rattle.mxf_klv.specs.NoteOrder.{ties}
+use Rattle.mxf_views.proofs.Common.{◌≡◌, ℕ, ◌⊎◌, true, false, cond, List, [], ◌∷◌, Some, None, refl}
+use Rattle.mxf_views.proofs.Common.{sym, ap, subst, ◌∙◌, inl, inr, eqb-true, eq-eqb, ◌↔◌, ◌==◌}
+use Rattle.mxf_views.proofs.Common.{option_map, filter_map, nat_cmp_total, tied_itself, In}
+use Rattle.mxf_views.proofs.Common.{IsRising, with_one, In-union, IsRising-union, less_in}
+use Rattle.mxf_views.proofs.Common.{same_from_members, stream_offset, StreamPlace, NotIndexed, At}
+use Rattle.mxf_views.proofs.Common.{Ambiguous, SegmentAtParts, place_cmp, place_by, In-filter_map}
+use Rattle.mxf_views.proofs.Common.{given_by, places_with, ordering_then, IsTotalOrder}
+use Rattle.mxf_views.proofs.Common.{IsAntisymmetric, on_total, then_total, IsBelow, IsGiven}
+use Rattle.mxf_views.proofs.Common.{IsOnlyPlace, in_stream, place_in, lt_from_less, ties}
+use Rattle.std.proofs.Common.{nat_cmp, Ordering, Less, Equal, Greater}
+use Rattle.std.specs.FinSet.{nat_cmp-IsAntisymmetric}
+use Rattle.mxf_views.specs.declared.index.place.Place.{Place}
+use Rattle.mxf_views.specs.Places.{place_of, AreTwoLeast, IsPlace}
+use Rattle.mxf_klv.specs.Rising.{IsRising-with_one}
+use Rattle.std.specs.Cmp.{nat_cmp_is}
 
 pub place_total : IsTotalOrder place_cmp
 place_total = then_total (on_total (λ p. p.body_sid) nat_cmp_total) (on_total (λ p. p.offset) nat_cmp_total)

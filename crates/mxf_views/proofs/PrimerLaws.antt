@@ -1,12 +1,14 @@
 -- The primer pack of a set.
-use Rattle.mxf_views.proofs.Common.{◌≡◌, ℕ, ◌<◌, ◌≤◌, Bool, true, false, cond, List, [], ◌∷◌, Option, Some, None, refl}
-use Rattle.mxf_views.proofs.Common.{sym, ap, subst, ◌∙◌, inl, inr, arith, eqb-true, eq-eqb, ◌↔◌, ◌==◌, find}
-use Rattle.mxf_views.proofs.Common.{option_and_then, NoteParts, In, primer_at, read_as, IsContent, IsClear, clear_notes}
-use Rattle.mxf_views.proofs.Common.{In-clear_notes, CopyInfo, CopiesRise, IsCopy, IsStart, copies_of, is_in_copy}
-use Rattle.mxf_views.proofs.Common.{primer_there, find-only, found-In, none_found, all-In, BatchParts, IsPrimerOf}
-use Rattle.mxf_views.proofs.Common.{IsStartFound, is_in_zone, primer_for}
+use Rattle.mxf_views.proofs.Common.{◌≡◌, ℕ, ◌<◌, ◌≤◌, Bool, true, false, cond, List, [], ◌∷◌}
+use Rattle.mxf_views.proofs.Common.{Option, Some, None, refl, sym, ap, subst, ◌∙◌, inl, inr, arith}
+use Rattle.mxf_views.proofs.Common.{eqb-true, eq-eqb, ◌↔◌, ◌==◌, find, option_and_then, NoteParts}
+use Rattle.mxf_views.proofs.Common.{In, primer_at, read_as, IsContent, IsClear, clear_notes}
+use Rattle.mxf_views.proofs.Common.{In-clear_notes, CopyInfo, CopiesRise, IsCopy, IsStart}
+use Rattle.mxf_views.proofs.Common.{copies_of, is_in_copy, primer_there, find-only, found-In}
+use Rattle.mxf_views.proofs.Common.{none_found, all-In, BatchParts, IsPrimerOf, IsStartFound}
+use Rattle.mxf_views.proofs.Common.{primer_for, primer_of}
+use Rattle.mxf_views.specs.Labels.{is_in_zone, IsFirstWith, IsInZoneOf, IsPrimerFor}
 use Rattle.mxf_views.proofs.KeptItems.{one_note}
-use Rattle.mxf_views.specs.Labels.{IsFirstWith, IsInZoneOf, IsPrimerFor, primer_of}
 use Rattle.mxf_views.proofs.CopyLaws.{copies_are, copies_rise, one_named}
 use Rattle.mxf_views.proofs.ReadingLaws.{reads}
 

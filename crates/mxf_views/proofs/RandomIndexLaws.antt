@@ -1,17 +1,17 @@
 -- The random index pack, and how its entries stand to the partitions.
-use Rattle.mxf_views.proofs.Common.{◌≡◌, ℕ, Bool, true, false, cond, List, [], ◌∷◌, Some, None, refl, sym, ap, subst}
-use Rattle.mxf_views.proofs.Common.{◌∙◌, inl, inr, eqb-true, eq-eqb, ◌↔◌, ◌==◌, find, NoteParts, kind_of, In, RipEntry}
-use Rattle.mxf_views.proofs.Common.{rip_at, IsContent, AreApart, clear_notes, In-clear_notes, AreApart-clear_notes}
-use Rattle.mxf_views.proofs.Common.{AreApart-filter, AreInOrder, PartitionParts, partitions_of, is_rip, is_rip_note}
-use Rattle.mxf_views.proofs.Common.{rip_in, rips_of, standing_of, rip_view_among, rip_view_by, rip_view_of, One}
-use Rattle.mxf_views.proofs.Common.{In-filter, found-In, none_found, find-none, find-only, false_from_ne_true}
-use Rattle.mxf_views.proofs.Common.{standing_by, Absent, later_differs, picked_none, picked_one, picked_several}
-use Rattle.mxf_views.specs.RandomIndex.{IsClearRip, IsOnlyRip, IsStanding, RipAtParts}
+use Rattle.mxf_views.proofs.Common.{◌≡◌, ℕ, Bool, true, false, cond, List, [], ◌∷◌, Some, None}
+use Rattle.mxf_views.proofs.Common.{refl, sym, ap, subst, ◌∙◌, inl, inr, eqb-true, eq-eqb, ◌↔◌}
+use Rattle.mxf_views.proofs.Common.{◌==◌, find, NoteParts, kind_of, In, RipEntry, rip_at, IsContent}
+use Rattle.mxf_views.proofs.Common.{AreApart, clear_notes, In-clear_notes, AreApart-clear_notes}
+use Rattle.mxf_views.proofs.Common.{AreApart-filter, AreInOrder, PartitionParts, partitions_of}
+use Rattle.mxf_views.proofs.Common.{is_rip, is_rip_note, rip_in, rips_of, standing_of}
+use Rattle.mxf_views.proofs.Common.{rip_view_among, rip_view_by, rip_view_of, One, In-filter}
+use Rattle.mxf_views.proofs.Common.{found-In, none_found, find-none, find-only, false_from_ne_true}
+use Rattle.mxf_views.proofs.Common.{Absent, later_differs, picked_none, picked_one, picked_several}
+use Rattle.mxf_views.proofs.Common.{RipAtParts, Standing, RipView, Several, Unreadable}
+use Rattle.mxf_views.specs.RandomIndex.{standing_by, IsClearRip, IsOnlyRip, IsStanding}
 use Rattle.mxf_views.specs.RandomIndexView.{IsRipView}
-use Rattle.mxf_views.specs.declared.random_index.Standing.{Standing}
 use Rattle.mxf_views.specs.declared.random_index.Standing.TheVariants.{Held, Differs, Missing}
-use Rattle.mxf_views.specs.declared.random_index.RipView.{RipView}
-use Rattle.mxf_views.specs.declared.random_index.RipView.TheVariants.{Several, Unreadable}
 use Rattle.mxf_views.proofs.KindLaws.{rip_kind}
 use Rattle.mxf_views.proofs.PartitionLaws.{one_there, partitions_rise}
 use Rattle.mxf_views.proofs.ReadingLaws.{reads}

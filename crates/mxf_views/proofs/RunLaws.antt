@@ -1,18 +1,15 @@
 -- A content of exactly what was handed is what the run holds.
-use Rattle.mxf_views.proofs.Common.{◌≡◌, ◌↔◌, List, filter, sym, subst, ap, PacketParts, NoteParts, notes_from, In}
-use Rattle.mxf_views.proofs.Common.{IsContent, is_disputed, same_content, IsWellFormed, In-filter, file_bytes}
-use Rattle.mxf_views.proofs.Common.{IsLocated, is_disputed-IsDisputed}
-use Rattle.mxf_catalogue.specs.CatalogueFile.{IsFileOf}
-use Rattle.mxf_catalogue.specs.History.{content}
-use Rattle.mxf_catalogue.proofs.DisputeLaws.{notes-disputed_notes}
-use Rattle.mxf_catalogue.proofs.HistoryLaws.{In-content, IsContent-content}
-use Rattle.mxf_views.specs.Headline.{IsDisputedAmong, IsNoteOf, IsReadFromFront, IsTheRun}
+use Rattle.mxf_views.proofs.Common.{◌≡◌, ◌↔◌, List, filter, sym, subst, ap, PacketParts, NoteParts}
+use Rattle.mxf_views.proofs.Common.{notes_from, In, IsContent, is_disputed, same_content}
+use Rattle.mxf_views.proofs.Common.{IsWellFormed, In-filter, file_bytes, IsLocated}
+use Rattle.mxf_views.proofs.Common.{is_disputed-IsDisputed, IsFileOf, content, notes-disputed_notes}
+use Rattle.mxf_views.proofs.Common.{In-content, IsTheRun, is_whole, IsContent-laid}
+use Rattle.mxf_catalogue.proofs.HistoryLaws.{IsContent-content}
+use Rattle.mxf_views.specs.Headline.{IsDisputedAmong, IsNoteOf, IsReadFromFront}
 use Rattle.mxf_views.proofs.LaidCopies.{copies-laid}
 use Rattle.mxf_views.proofs.LaidIndex.{index-laid}
 use Rattle.mxf_views.proofs.LaidPartitions.{partitions-laid}
 use Rattle.mxf_views.proofs.LaidRandomIndex.{random_index-laid}
-use Rattle.mxf_catalogue.proofs.ClearLaws.{is_whole}
-use Rattle.mxf_catalogue.proofs.LaidNotes.{IsContent-laid}
 
 -- All that was handed is located where it is the notes of a file: these are of packets that were read whole.
 located-laid : (l : List PacketParts) (n : NoteParts) → IsLocated (IsNoteOf l) n ↔ In n (notes_from 0 l)

@@ -1,15 +1,13 @@
 -- The gaps of notes are those of the cover of what they cover, and what lies between its end and the greatest end.
-use Rattle.mxf_views.proofs.Common.{◌≡◌, ℕ, ◌+◌, ◌-◌, ◌<◌, ◌≤◌, ◌++◌, true, false, List, [], ◌∷◌, ap, arith, inl, inr}
-use Rattle.mxf_views.proofs.Common.{refl, ◌↔◌, cond, nat_lt, ltb-true, ltb-false, end_of, NoteParts, In, IsContent}
-use Rattle.mxf_views.proofs.Common.{AreMaximal, LiesIn, Run, gaps_of, In-append, covered_end, Covers, AreGaps, has_byte}
-use Rattle.mxf_catalogue.specs.Covers.{IsBetween, IsCover, gaps_of_runs}
-use Rattle.mxf_catalogue.specs.Runs.{run}
-use Rattle.mxf_catalogue.proofs.CoverLaws.{gaps_by_definition}
-use Rattle.mxf_catalogue.proofs.RunLaws.{same_runs}
-use Rattle.mxf_views.specs.Gaps.{IsGap}
+use Rattle.mxf_views.proofs.Common.{◌≡◌, ℕ, ◌+◌, ◌-◌, ◌<◌, ◌≤◌, ◌++◌, true, false, List, [], ◌∷◌}
+use Rattle.mxf_views.proofs.Common.{ap, arith, inl, inr, refl, ◌↔◌, cond, nat_lt, ltb-true, end_of}
+use Rattle.mxf_views.proofs.Common.{NoteParts, In, IsContent, AreMaximal, LiesIn, Run, gaps_of}
+use Rattle.mxf_views.proofs.Common.{In-append, covered_end, Covers, AreGaps, has_byte, IsCover}
+use Rattle.mxf_views.proofs.Common.{gaps_of_runs, run, gaps_by_definition, same_runs, IsGap}
+use Rattle.mxf_views.proofs.Common.{some_above, covers_below_end}
+use Rattle.std.proofs.Common.{ltb-false}
+use Rattle.mxf_catalogue.specs.Covers.{IsBetween}
 use Rattle.mxf_views.proofs.GapsLaws.{gaps_are}
-use Rattle.mxf_klv.proofs.Lists.{some_above}
-use Rattle.mxf_catalogue.proofs.RunBounds.{covers_below_end}
 
 -- A run that begins above the ends of maximal ones goes on with them.
 maximal_push : (low : ℕ) (runs : List Run) (r : Run) → AreMaximal low runs → low ≤ r.start → r.start < r.end

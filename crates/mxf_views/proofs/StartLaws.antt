@@ -1,18 +1,21 @@
 -- Where the header metadata of a partition begin.
-use Rattle.mxf_views.proofs.Common.{◌≡◌, ℕ, ◌+◌, ◌-◌, ◌<◌, ◌≤◌, true, List, Some, None, refl, sym, ap, subst, ◌∙◌}
-use Rattle.mxf_views.proofs.Common.{arith, eqb-true, eq-eqb, le-leb, leb-true, ◌↔◌, ◌==◌, nat_le, find, is_some}
-use Rattle.mxf_views.proofs.Common.{count_by, option_map, list_all, range_with_len, and_from, and_parts, NoteParts}
-use Rattle.mxf_views.proofs.Common.{end_of, kind_of, In, primer_at, read_as, IsContent, IsClear, SharesByte}
-use Rattle.mxf_views.proofs.Common.{clear_notes, In-clear_notes, IsStart, covered_of, is_fill_note, is_filled}
-use Rattle.mxf_views.proofs.Common.{is_primer, is_readable_primer, is_start, start_of, zone_of, is_in_one, lies_in}
-use Rattle.mxf_views.proofs.Common.{AreApart-clear_notes, In-list_all, In-filter, list_any-In, found-In, none_found}
-use Rattle.mxf_views.proofs.Common.{inl, inr, BatchParts, IsFilled, IsPrimerOf, is_in_span, range-all, list_all-In}
-use Rattle.mxf_views.proofs.Common.{cases_order, clear_same}
+use Rattle.mxf_views.proofs.Common.{◌≡◌, ℕ, ◌+◌, ◌-◌, ◌<◌, ◌≤◌, true, List, Some, None, refl, sym}
+use Rattle.mxf_views.proofs.Common.{ap, subst, ◌∙◌, arith, eqb-true, eq-eqb, ◌↔◌, ◌==◌, nat_le}
+use Rattle.mxf_views.proofs.Common.{find, is_some, count_by, option_map, list_all, range_with_len}
+use Rattle.mxf_views.proofs.Common.{and_from, and_parts, NoteParts, end_of, kind_of, In, primer_at}
+use Rattle.mxf_views.proofs.Common.{read_as, IsContent, IsClear, SharesByte, clear_notes}
+use Rattle.mxf_views.proofs.Common.{In-clear_notes, IsStart, covered_of, is_fill_note, is_filled}
+use Rattle.mxf_views.proofs.Common.{is_primer, is_readable_primer, is_start, zone_of, is_in_one}
+use Rattle.mxf_views.proofs.Common.{lies_in, AreApart-clear_notes, In-list_all, In-filter}
+use Rattle.mxf_views.proofs.Common.{list_any-In, found-In, none_found, inl, inr, BatchParts}
+use Rattle.mxf_views.proofs.Common.{IsFilled, IsPrimerOf, is_in_span, range-all, list_all-In}
+use Rattle.mxf_views.proofs.Common.{cases_order, clear_same, range-full, three_parts}
+use Rattle.std.proofs.Common.{le-leb, leb-true}
+use Rattle.mxf_views.specs.Copies.{start_of}
 use Rattle.mxf_views.proofs.KindLaws.{fill_kind, primer_kind}
 use Rattle.mxf_views.proofs.ReadingLaws.{is_some_readable}
 use Rattle.mxf_views.proofs.SpanCounts.{in_span, in_span-says, zone-count}
-use Rattle.mxf_klv.proofs.Counts.{range-full}
-use Rattle.mxf_klv.proofs.Tests.{all_three, three_parts}
+use Rattle.mxf_klv.proofs.Tests.{all_three}
 use Rattle.mxf_klv.specs.declared.kinds.Kind.TheVariants as kinds
 
 pub fill_note : (n : NoteParts) → (is_fill_note n ≡ true) ↔ (kind_of n.key ≡ kinds.Fill)

@@ -1,6 +1,5 @@
-use Rattle.std.proofs.Common.{◌≡◌, ◌∙◌, [], List, ap, arith, map, subst, sym}
-use Rattle.std.proofs.lemmas.List.{drop_all}
-use Rattle.mxf_klv.specs.Parts.{NoteParts}
+use Rattle.mxf_klv.proofs.Common.{◌≡◌, ◌∙◌, [], List, ap, arith, map, subst, sym, drop_all}
+use Rattle.mxf_klv.proofs.Common.{NoteParts}
 use Rattle.mxf_catalogue.specs.declared.run.Run.{Run}
 use Rattle.mxf_catalogue.specs.Covers.{union_of_runs}
 use Rattle.mxf_catalogue.specs.NoteLists.{Covers, covered_run}

@@ -1,7 +1,4 @@
-use Rattle.std.proofs.Common.{subst, sym}
-use Rattle.std.proofs.lemmas.Bool.{true≢false}
-use Rattle.std.specs.Option.{IfNone}
-use Rattle.mxf_klv.specs.Note.{IsNote}
+use Rattle.mxf_klv.proofs.Common.{subst, sym, true≢false, IfNone, IsNote}
 use Rattle.mxf_klv.proofs.Lists.{all-In}
 use Rattle.mxf_find.specs.Agreeing.{moved_to}
 use Rattle.mxf_find.proofs.agreeing.holds_moved.Goals as goal

@@ -1,6 +1,5 @@
-use Rattle.std.proofs.Common.{◌≡◌, ◌∙◌, length, subst, sym, true}
-use Rattle.mxf_klv.specs.Note.{CanNote}
-use Rattle.mxf_klv.specs.Parts.{NoteParts, note_parts}
+use Rattle.mxf_klv.proofs.Common.{◌≡◌, ◌∙◌, length, subst, sym, true, CanNote, NoteParts}
+use Rattle.mxf_klv.proofs.Common.{note_parts}
 use Rattle.mxf_find.proofs.MovedLaws.{can_keep, no_note}
 use Rattle.mxf_find.proofs.agreeing.moved.Goals as goal
 

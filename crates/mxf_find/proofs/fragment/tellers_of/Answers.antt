@@ -1,6 +1,4 @@
-use Rattle.std.proofs.Common.{◌∙◌, List, ap, inl, inr, refl, subst, sym}
-use Rattle.mxf_klv.specs.Parts.{NoteParts}
-use Rattle.mxf_klv.specs.Rising.{In}
+use Rattle.mxf_klv.proofs.Common.{◌∙◌, List, ap, inl, inr, refl, subst, sym, NoteParts, In}
 use Rattle.mxf_find.specs.Telling.{tells_in}
 use Rattle.mxf_find.specs.Votes.{teller_in}
 use Rattle.mxf_find.proofs.CountLaws.{next_mapped}

@@ -1,7 +1,5 @@
 -- What is there and what the notes to come give are what all do, and these are notes of the content.
-use Rattle.std.proofs.Common.{◌≡◌, ◌++◌, map}
-use Rattle.mxf_klv.specs.Parts.{NoteParts}
-use Rattle.mxf_klv.specs.Rising.{In}
+use Rattle.mxf_klv.proofs.Common.{◌≡◌, ◌++◌, map, NoteParts, In}
 use Rattle.mxf_find.specs.Votes.{teller_in}
 use Rattle.mxf_find.proofs.fragment.tellers_of.Given as goal
 

@@ -1,5 +1,4 @@
-use Rattle.std.proofs.Common.{arith}
-use Rattle.std.proofs.lemmas.Int.{ints}
+use Rattle.mxf_klv.proofs.Common.{arith, ints}
 use Rattle.mxf_find.proofs.laws.shifts_are_offsets.Goals as goal
 
 pub returns : goal.returns

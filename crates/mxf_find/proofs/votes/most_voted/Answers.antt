@@ -1,7 +1,5 @@
-use Rattle.std.proofs.Common.{ℕ, List, subst, sym}
-use Rattle.std.specs.List.Sorted.{IsNonDecreasing}
-use Rattle.std.proofs.lemmas.List.Sorted.{IsNonDecreasingBy-from_sort}
-use Rattle.std.proofs.lemmas.Option.{IfSome_then}
+use Rattle.mxf_klv.proofs.Common.{ℕ, List, subst, sym, IsNonDecreasing, IsNonDecreasingBy-from_sort}
+use Rattle.mxf_klv.proofs.Common.{IfSome_then}
 use Rattle.mxf_find.specs.Votes.{IsMostVoted}
 use Rattle.mxf_find.proofs.CountLaws.{most-permuted}
 use Rattle.mxf_find.proofs.votes.most_voted.Goals as goal

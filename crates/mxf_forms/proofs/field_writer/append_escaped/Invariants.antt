@@ -1,6 +1,5 @@
 -- The line so far, with the characters that are to come, escaped.
-use Rattle.std.proofs.Common.{◌≡◌, ◌++◌, string_bytes}
-use Rattle.std.specs.Str.Iter.{chars_rest}
+use Rattle.mxf_klv.proofs.Common.{◌≡◌, ◌++◌, string_bytes, chars_rest}
 use Rattle.mxf_forms.specs.Forms.{escaped}
 use Rattle.mxf_forms.proofs.field_writer.append_escaped.Given as goal
 

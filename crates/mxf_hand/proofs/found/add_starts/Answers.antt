@@ -1,7 +1,4 @@
-use Rattle.std.proofs.Common.{◌∙◌, ◌+◌, List, inl, inr, subst}
-use Rattle.mxf_klv.specs.Parts.{NoteParts}
-use Rattle.mxf_catalogue.specs.Covers.{with_run}
-use Rattle.mxf_catalogue.specs.Runs.{run}
+use Rattle.mxf_views.proofs.Common.{◌∙◌, ◌+◌, List, inl, inr, subst, NoteParts, with_run, run}
 use Rattle.mxf_hand.specs.Finding.{IsStart}
 use Rattle.mxf_hand.proofs.FindingLaws.{start_added}
 use Rattle.mxf_hand.proofs.found.add_starts.Goals as goal

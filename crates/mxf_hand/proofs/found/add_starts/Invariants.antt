@@ -1,6 +1,5 @@
 -- The starts so far, with those of the notes that are to come.
-use Rattle.std.proofs.Common.{◌↔◌, ◌⊎◌, ℕ}
-use Rattle.mxf_catalogue.specs.Runs.{LiesIn}
+use Rattle.mxf_views.proofs.Common.{◌↔◌, ◌⊎◌, ℕ, LiesIn}
 use Rattle.mxf_hand.specs.Finding.{IsStart}
 use Rattle.mxf_hand.proofs.found.add_starts.Given as goal
 

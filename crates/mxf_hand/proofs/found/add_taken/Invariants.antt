@@ -1,9 +1,6 @@
 -- What was added so far, with the heads that are to come.
-use Rattle.std.proofs.Common.{◌≡◌, ◌↔◌, ℕ, List, filter, map}
-use Rattle.std.specs.Vec.Iter.{into_iter_items}
-use Rattle.mxf_klv.specs.Parts.{NoteParts}
-use Rattle.mxf_catalogue.specs.Content.{reduced_union}
-use Rattle.mxf_catalogue.specs.Runs.{LiesIn}
+use Rattle.mxf_views.proofs.Common.{◌≡◌, ◌↔◌, ℕ, List, filter, map, into_iter_items, NoteParts}
+use Rattle.mxf_views.proofs.Common.{reduced_union, LiesIn}
 use Rattle.mxf_hand.specs.Finding.{IsStart}
 use Rattle.mxf_hand.specs.Rounds.{is_taken}
 use Rattle.mxf_hand.proofs.found.add_taken.Given as goal

@@ -1,9 +1,6 @@
-use Rattle.std.proofs.Common.{◌≡◌, ◌∙◌, ◌<◌, ◌&&◌, Bool, ap, arith, not, nat_lt, refl, sym}
-use Rattle.std.proofs.lemmas.Bool.{and_from, and_parts, lt-ltb, ltb-true}
-use Rattle.mxf_klv.specs.Note.{end_of}
-use Rattle.mxf_klv.specs.Parts.{NoteParts}
-use Rattle.mxf_klv.proofs.Lists.{list_any-In}
-use Rattle.mxf_klv.proofs.Tests.{same_bool}
+use Rattle.mxf_views.proofs.Common.{◌≡◌, ◌∙◌, ◌<◌, ◌&&◌, Bool, ap, arith, not, nat_lt, refl, sym}
+use Rattle.mxf_views.proofs.Common.{and_from, and_parts, end_of, NoteParts, list_any-In, same_bool}
+use Rattle.std.proofs.lemmas.Bool.{lt-ltb, ltb-true}
 use Rattle.mxf_hand.specs.Rounds.{is_crossed}
 use Rattle.mxf_hand.proofs.found.is_taken.Goals as goal
 

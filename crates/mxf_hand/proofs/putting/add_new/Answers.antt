@@ -1,6 +1,4 @@
-use Rattle.std.proofs.Common.{◌≡◌, List, subst, sym}
-use Rattle.mxf_klv.specs.Parts.{NoteParts}
-use Rattle.mxf_catalogue.specs.Content.{reduced_union}
+use Rattle.mxf_views.proofs.Common.{◌≡◌, List, subst, sym, NoteParts, reduced_union}
 use Rattle.mxf_hand.proofs.RoundLaws.{nothing_new}
 use Rattle.mxf_hand.proofs.putting.add_new.Goals as goal
 

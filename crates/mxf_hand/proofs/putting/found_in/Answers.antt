@@ -1,5 +1,4 @@
-use Rattle.std.proofs.Common.{None, get_or, ◌∙◌, List, subst}
-use Rattle.mxf_klv.specs.Parts.{NoteParts}
+use Rattle.mxf_views.proofs.Common.{None, get_or, ◌∙◌, List, subst, NoteParts}
 use Rattle.mxf_restore.specs.declared.section.Section.{Section}
 use Rattle.mxf_hand.specs.Finding.{Finds, GrowsBySection}
 use Rattle.mxf_hand.specs.Rounds.{made_in, packets_in, read_heads_in}

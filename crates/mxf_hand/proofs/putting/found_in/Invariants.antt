@@ -1,6 +1,5 @@
 -- What is found so far, with what the sections that are to come give.
-use Rattle.std.proofs.Common.{◌≡◌, ◌++◌, List, drop}
-use Rattle.mxf_klv.specs.Parts.{NoteParts}
+use Rattle.mxf_views.proofs.Common.{◌≡◌, ◌++◌, List, drop, NoteParts}
 use Rattle.mxf_hand.specs.Barren.{AreBarren}
 use Rattle.mxf_hand.specs.Finding.{Finds}
 use Rattle.mxf_hand.specs.Hand.{AreToldIn, HandBytes}

@@ -1,11 +1,8 @@
+use Rattle.mxf_views.proofs.Common.{rules, YieldsList-from_first, Contains-from_In, has_note}
 use Rattle.std.specs.Bool.{⊤}
-use Rattle.std.proofs.Common.{rules}
 use Rattle.std.proofs.lemmas.Bool.{MatchBool-at_true}
 use Rattle.std.proofs.lemmas.Iterator.{cases_from_all}
-use Rattle.std.proofs.lemmas.Iterator.Consumers.{YieldsList-from_first}
 use Rattle.std.proofs.lemmas.List.Elements.{All-contains, All-from_all_within}
-use Rattle.mxf_klv.proofs.Lists.{Contains-from_In}
-use Rattle.mxf_catalogue.specs.Content.{has_note}
 use Rattle.mxf_hand.proofs.putting.has_all.Goals as goal
 
 pub returns : goal.returns

@@ -1,5 +1,4 @@
-use Rattle.std.proofs.Common.{subst}
-use Rattle.mxf_catalogue.specs.Content.{AreReduced, IsContent}
+use Rattle.mxf_views.proofs.Common.{subst, AreReduced, IsContent}
 use Rattle.mxf_hand.proofs.RoundLaws.{round_is}
 use Rattle.mxf_hand.proofs.putting.round.Goals as goal
 

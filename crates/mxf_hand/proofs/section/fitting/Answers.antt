@@ -1,5 +1,4 @@
-use Rattle.std.proofs.Common.{◌∙◌, ◌++◌, ◌&&◌, ◌==◌, ◌∷◌, [], ap, filter, map}
-use Rattle.mxf_klv.specs.Parts.{NoteParts}
+use Rattle.mxf_views.proofs.Common.{◌∙◌, ◌++◌, ◌&&◌, ◌==◌, ◌∷◌, [], ap, filter, map, NoteParts}
 use Rattle.mxf_hand.specs.Heads.{fits, heads_to}
 use Rattle.mxf_hand.specs.declared.head.HeadNote.{HeadNote}
 use Rattle.mxf_hand.proofs.HandLaws.{told_after}

@@ -1,5 +1,4 @@
-use Rattle.std.proofs.Common.{◌∙◌, sym, ap}
-use Rattle.std.specs.Option.{option_copied}
+use Rattle.mxf_views.proofs.Common.{◌∙◌, sym, ap, option_copied}
 use Rattle.mxf_hand.proofs.HeadNoteLaws.{start_first, start_none}
 use Rattle.mxf_hand.proofs.section.start_by.Goals as goal
 

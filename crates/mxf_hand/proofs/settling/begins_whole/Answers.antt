@@ -1,5 +1,4 @@
-use Rattle.std.proofs.Common.{◌↔◌, ◌∙◌, IsTrue, ap, map, not, subst, sym}
-use Rattle.mxf_klv.specs.Rising.{In}
+use Rattle.mxf_views.proofs.Common.{◌↔◌, ◌∙◌, IsTrue, ap, map, not, subst, sym, In}
 use Rattle.mxf_hand.proofs.SettlingLaws.{begins-disputed, begins-undisputed, not_twice}
 use Rattle.mxf_hand.proofs.settling.begins_whole.Goals as goal
 

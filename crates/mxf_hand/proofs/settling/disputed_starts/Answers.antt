@@ -1,7 +1,6 @@
-use Rattle.std.proofs.Common.{rules}
-use Rattle.std.proofs.lemmas.Iterator.{YieldsList-from_map, items_from_collect}
-use Rattle.std.proofs.lemmas.Iterator.Consumers.{YieldsList-at, YieldsList-from_filter, YieldsList-from_first}
-use Rattle.mxf_catalogue.specs.Disputes.{DisputedParts, disputed_notes}
+use Rattle.mxf_views.proofs.Common.{rules, YieldsList-from_map, items_from_collect, YieldsList-at}
+use Rattle.mxf_views.proofs.Common.{YieldsList-from_filter, YieldsList-from_first, DisputedParts}
+use Rattle.mxf_views.proofs.Common.{disputed_notes}
 use Rattle.mxf_hand.proofs.settling.disputed_starts.Goals as goal
 
 pub returns : goal.returns

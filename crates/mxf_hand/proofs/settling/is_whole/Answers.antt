@@ -1,5 +1,4 @@
-use Rattle.std.proofs.Common.{◌∙◌, ap, not}
-use Rattle.mxf_catalogue.specs.Disputes.{DisputedParts}
+use Rattle.mxf_views.proofs.Common.{◌∙◌, ap, not, DisputedParts}
 use Rattle.mxf_hand.proofs.SettlingLaws.{not_twice}
 use Rattle.mxf_hand.proofs.settling.is_whole.Goals as goal
 

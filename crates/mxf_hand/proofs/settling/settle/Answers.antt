@@ -1,5 +1,4 @@
-use Rattle.std.proofs.Common.{◌∙◌, subst, sym}
-use Rattle.std.specs.List.Sorted.{IsNonDecreasingBy}
+use Rattle.mxf_views.proofs.Common.{◌∙◌, subst, sym, IsNonDecreasingBy}
 use Rattle.mxf_hand.proofs.SettlingLaws.{starts_never_fall}
 use Rattle.mxf_hand.proofs.settling.settle.Goals as goal
 

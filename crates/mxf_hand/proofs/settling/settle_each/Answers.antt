@@ -1,5 +1,4 @@
-use Rattle.std.proofs.Common.{◌∙◌, ◌<◌, ap, arith, get_or, length, set}
-use Rattle.mxf_klv.proofs.ListSteps.{next_changed}
+use Rattle.mxf_views.proofs.Common.{◌∙◌, ◌<◌, ap, arith, get_or, length, set, next_changed}
 use Rattle.mxf_hand.specs.Settling.{settled}
 use Rattle.mxf_hand.proofs.settling.settle_each.Goals as goal
 

@@ -1,6 +1,5 @@
-use Rattle.std.proofs.Common.{◌≡◌, ◌∙◌, List, [], length, subst, sym}
-use Rattle.std.specs.Vec.Iter.{into_iter_items}
-use Rattle.mxf_klv.specs.Parts.{NoteParts}
+use Rattle.mxf_views.proofs.Common.{◌≡◌, ◌∙◌, List, [], length, subst, sym, into_iter_items}
+use Rattle.mxf_views.proofs.Common.{NoteParts}
 use Rattle.mxf_read.specs.declared.gathering.report.PieceReport.{PieceReport}
 use Rattle.mxf_read.proofs.GatheringLaws.{IsPassed, passed_none, passed_one, told}
 use Rattle.mxf_hints.proofs.ContentsLaws.{AreTaken, reported_all, taken_all, taken_none, taken_one}

@@ -1,6 +1,5 @@
-use Rattle.std.proofs.Common.{rules}
-use Rattle.std.proofs.lemmas.Iterator.{YieldsList-from_map, YieldsList-from_slice}
-use Rattle.std.proofs.lemmas.Iterator.Adapters.{items_from_extend}
+use Rattle.mxf_views.proofs.Common.{rules, YieldsList-from_map, YieldsList-from_slice}
+use Rattle.mxf_views.proofs.Common.{items_from_extend}
 use Rattle.mxf_hints.specs.Contents.{numbered}
 use Rattle.mxf_hints.proofs.contents.push_all.Goals as goal
 

@@ -1,6 +1,4 @@
-use Rattle.std.proofs.Common.{◌∙◌, ap}
-use Rattle.std.specs.List.{list_all}
-use Rattle.mxf_views.specs.Partitions.{partitions_of}
+use Rattle.mxf_views.proofs.Common.{◌∙◌, ap, list_all, partitions_of}
 use Rattle.mxf_hints.specs.Shifts.{is_shifted}
 use Rattle.mxf_hints.proofs.ShiftLaws.{all_in_numbers}
 use Rattle.mxf_hints.proofs.shift.are_shifted.Goals as goal

@@ -1,6 +1,4 @@
-use Rattle.std.proofs.Common.{◌≡◌, drop}
-use Rattle.std.specs.List.{list_all}
-use Rattle.mxf_views.specs.Partitions.{partitions_of}
+use Rattle.mxf_views.proofs.Common.{◌≡◌, drop, list_all, partitions_of}
 use Rattle.mxf_hints.specs.Shifts.{is_shifted}
 use Rattle.mxf_hints.proofs.shift.are_shifted.Given as goal
 

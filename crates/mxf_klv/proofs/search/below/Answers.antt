@@ -1,6 +1,5 @@
-use Rattle.std.proofs.Common.{rules, nat_lt, arith}
-use Rattle.std.proofs.lemmas.Bool.{ltb-true, ltb-false}
-use Rattle.std.proofs.lemmas.List.Sorted.{IsPartitionPoint-from_clause, IsPartitionedBy-ltb}
+use Rattle.mxf_klv.proofs.Common.{rules, nat_lt, arith, ltb-true, ltb-false}
+use Rattle.mxf_klv.proofs.Common.{IsPartitionPoint-from_clause, IsPartitionedBy-ltb}
 use Rattle.mxf_klv.proofs.search.below.Goals as goal
 
 pub returns-in-Some-clause-below : goal.returns-in-Some-clause-below

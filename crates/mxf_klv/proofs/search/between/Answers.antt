@@ -1,6 +1,4 @@
-use Rattle.std.proofs.Common.{◌∙◌, drop, nat_le, nat_lt, true}
-use Rattle.std.proofs.lemmas.Bool.{le-leb, lt-leb}
-use Rattle.std.specs.Option.{option_map_or}
+use Rattle.mxf_klv.proofs.Common.{◌∙◌, drop, nat_le, nat_lt, true, le-leb, lt-leb, option_map_or}
 use Rattle.mxf_klv.proofs.Windows.{window}
 use Rattle.mxf_klv.proofs.search.between.Goals as goal
 

@@ -1,6 +1,5 @@
-use Rattle.std.proofs.Common.{rules, nat_le, arith}
-use Rattle.std.proofs.lemmas.Bool.{leb-true, leb-false}
-use Rattle.std.proofs.lemmas.List.Sorted.{IsPartitionPoint-from_clause, IsPartitionedBy-leb}
+use Rattle.mxf_klv.proofs.Common.{rules, nat_le, arith, leb-true, leb-false}
+use Rattle.mxf_klv.proofs.Common.{IsPartitionPoint-from_clause, IsPartitionedBy-leb}
 use Rattle.mxf_klv.proofs.search.up_to.Goals as goal
 
 pub returns-in-Some-clause-below : goal.returns-in-Some-clause-below

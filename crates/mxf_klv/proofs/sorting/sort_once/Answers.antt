@@ -1,5 +1,4 @@
-use Rattle.std.proofs.Common.{[], subst}
-use Rattle.std.specs.List.Retain.{DiffersFromLast, IsFiltered}
+use Rattle.mxf_klv.proofs.Common.{[], subst, DiffersFromLast, IsFiltered}
 use Rattle.mxf_klv.proofs.SortedUnions.{in_order, in_order-rises}
 use Rattle.mxf_klv.proofs.sorting.sort_once.Goals as goal
 

@@ -1,5 +1,4 @@
-use Rattle.std.proofs.Common.{◌<◌, arith, length, length-append, rules}
-use Rattle.std.proofs.lemmas.Result.{err_from_is_err_and}
+use Rattle.mxf_views.proofs.Common.{◌<◌, arith, length, length-append, rules, err_from_is_err_and}
 use Rattle.mxf_restore.specs.Disputes.{disputes_of}
 use Rattle.mxf_restore.specs.Plan.{plan_of}
 use Rattle.mxf_lines.specs.PlanLines.{plan_lines}

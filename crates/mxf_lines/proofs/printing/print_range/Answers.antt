@@ -1,5 +1,4 @@
-use Rattle.std.proofs.Common.{◌<◌, arith, length, length-append, rules}
-use Rattle.std.proofs.lemmas.Result.{err_from_is_err_and}
+use Rattle.mxf_views.proofs.Common.{◌<◌, arith, length, length-append, rules, err_from_is_err_and}
 use Rattle.mxf_lines.specs.Answering.{asked_units}
 use Rattle.mxf_lines.specs.UnitLines.{unit_lines}
 use Rattle.mxf_lines.proofs.printing.print_range.Goals as goal

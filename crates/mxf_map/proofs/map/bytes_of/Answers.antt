@@ -1,6 +1,4 @@
-use Rattle.std.proofs.Common.{◌∙◌, ap, arith, subst, sym}
-use Rattle.std.specs.List.{AllByRecursion}
-use Rattle.mxf_catalogue.specs.Covers.{IsRun}
+use Rattle.mxf_views.proofs.Common.{◌∙◌, ap, arith, subst, sym, AllByRecursion, IsRun}
 use Rattle.mxf_places.specs.Held.{bytes_of}
 use Rattle.mxf_places.proofs.ByteLaws.{bytes_within, runs_of_cover}
 use Rattle.mxf_map.proofs.map.bytes_of.Goals as goal

@@ -1,7 +1,5 @@
 -- The bytes so far, with those of the runs that are to come.
-use Rattle.std.proofs.Common.{◌≡◌, ◌+◌}
-use Rattle.std.specs.List.{AllByRecursion}
-use Rattle.mxf_catalogue.specs.Covers.{IsRun}
+use Rattle.mxf_views.proofs.Common.{◌≡◌, ◌+◌, AllByRecursion, IsRun}
 use Rattle.mxf_places.specs.Held.{bytes_of}
 use Rattle.mxf_map.proofs.map.bytes_of.Given as goal
 

@@ -1,6 +1,4 @@
-use Rattle.std.proofs.Common.{◌∙◌, List, ap, subst}
-use Rattle.mxf_klv.specs.Parts.{NoteParts}
-use Rattle.mxf_catalogue.specs.NoteLists.{Covers}
+use Rattle.mxf_views.proofs.Common.{◌∙◌, List, ap, subst, NoteParts, Covers}
 use Rattle.mxf_places.specs.AtHand.{AtHandParts, outside_below}
 use Rattle.mxf_map.proofs.MapLaws.{hand_is}
 use Rattle.mxf_map.proofs.map.hand_bytes.Goals as goal

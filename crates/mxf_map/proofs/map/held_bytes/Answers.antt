@@ -1,6 +1,4 @@
-use Rattle.std.proofs.Common.{◌∙◌, List, subst}
-use Rattle.mxf_klv.specs.Parts.{NoteParts}
-use Rattle.mxf_catalogue.specs.NoteLists.{Covers}
+use Rattle.mxf_views.proofs.Common.{◌∙◌, List, subst, NoteParts, Covers}
 use Rattle.mxf_map.proofs.MapLaws.{held_is}
 use Rattle.mxf_map.proofs.map.held_bytes.Goals as goal
 

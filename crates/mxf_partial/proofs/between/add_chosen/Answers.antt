@@ -1,9 +1,8 @@
-use Rattle.std.proofs.Common.{◌≡◌, ◌↔◌, ◌∙◌, List, ap, filter, rules, subst, sym}
+use Rattle.mxf_views.proofs.Common.{◌≡◌, ◌↔◌, ◌∙◌, List, ap, filter, rules, subst, sym}
+use Rattle.mxf_views.proofs.Common.{YieldsList-from_slice, items_from_collect, YieldsList-at}
+use Rattle.mxf_views.proofs.Common.{YieldsList-from_copied, YieldsList-from_filter, on_ok_weaker}
+use Rattle.mxf_views.proofs.Common.{In}
 use Rattle.std.specs.Result.{IfOk}
-use Rattle.std.proofs.lemmas.Iterator.{YieldsList-from_slice, items_from_collect}
-use Rattle.std.proofs.lemmas.Iterator.Consumers.{YieldsList-at, YieldsList-from_copied, YieldsList-from_filter}
-use Rattle.std.proofs.lemmas.Result.{on_ok_weaker}
-use Rattle.mxf_klv.specs.Rising.{In}
 use Rattle.mxf_restore.specs.declared.named.NamedPlace.{NamedPlace}
 use Rattle.mxf_partial.specs.Between.{IsOneOf16, MayIndexOneOf}
 use Rattle.mxf_partial.specs.SegmentStarts.{IsEvenly16, is_between_any, starts_for}

@@ -1,7 +1,4 @@
-use Rattle.std.proofs.Common.{◌↔◌, ◌⊎◌, List, subst, sym}
-use Rattle.std.proofs.lemmas.Result.{on_ok_weaker}
-use Rattle.mxf_klv.specs.Rising.{In}
-use Rattle.mxf_klv.proofs.Lists.{In-append}
+use Rattle.mxf_views.proofs.Common.{◌↔◌, ◌⊎◌, List, subst, sym, on_ok_weaker, In, In-append}
 use Rattle.mxf_restore.specs.declared.named.NamedPlace.{NamedPlace}
 use Rattle.mxf_partial.proofs.ChosenLaws.{evenly_few, evenly_many, or_same}
 use Rattle.mxf_partial.proofs.between.add_evenly.Goals as goal

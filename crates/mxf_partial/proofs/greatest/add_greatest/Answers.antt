@@ -1,6 +1,4 @@
-use Rattle.std.proofs.Common.{ap, inl, refl, subst}
-use Rattle.mxf_sets.specs.Segment.{SegmentParts}
-use Rattle.mxf_views.specs.Places.{SegmentAtParts}
+use Rattle.mxf_views.proofs.Common.{ap, inl, refl, subst, SegmentParts, SegmentAtParts}
 use Rattle.mxf_units.specs.LastUnits.{IsEndless}
 use Rattle.mxf_partial.specs.Greatest.{GivesNone}
 use Rattle.mxf_partial.proofs.greatest.add_greatest.Goals as goal

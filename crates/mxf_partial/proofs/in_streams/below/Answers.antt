@@ -1,5 +1,4 @@
-use Rattle.std.proofs.Common.{rules, ◌+◌}
-use Rattle.std.proofs.lemmas.List.Sorted.{IsPartitionPoint-from_clause}
+use Rattle.mxf_views.proofs.Common.{rules, ◌+◌, IsPartitionPoint-from_clause}
 use Rattle.mxf_partial.specs.InStreams.{is_below}
 use Rattle.mxf_partial.proofs.InStreamLaws.{parted, parted_at}
 use Rattle.mxf_partial.proofs.in_streams.below.Goals as goal

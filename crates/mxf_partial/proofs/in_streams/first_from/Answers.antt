@@ -1,10 +1,8 @@
-use Rattle.std.proofs.Common.{◌∙◌, ◌+◌, ltb-true, refl, sym}
-use Rattle.std.proofs.lemmas.Bool.{ltb-false}
-use Rattle.std.proofs.lemmas.Option.{slice_get_read}
+use Rattle.mxf_views.proofs.Common.{◌∙◌, ◌+◌, ltb-true, refl, sym, ltb-false, slice_get_read}
 use Rattle.mxf_partial.proofs.InStreamLaws.{first_found, none_behind, other_behind}
-use Rattle.mxf_partial.proofs.in_streams.first_from.Goals as goal
 use Rattle.mxf_partial.proofs.in_streams.first_from.Goals.{in_default-via-in-Some+else-stream}
 use Rattle.mxf_partial.proofs.in_streams.first_from.Goals.{in_default-via-in_default}
+use Rattle.mxf_partial.proofs.in_streams.first_from.Goals as goal
 
 pub returns-in-Some : goal.returns-in-Some
 returns-in-Some g c = λ r.

@@ -1,10 +1,9 @@
-use Rattle.std.proofs.Common.{◌∙◌, ◌+◌, ◌<◌, ltb-true, refl, arith, sym}
-use Rattle.std.proofs.lemmas.Bool.{ltb-false}
-use Rattle.std.proofs.lemmas.Option.{slice_get_read}
+use Rattle.mxf_views.proofs.Common.{◌∙◌, ◌+◌, ◌<◌, ltb-true, refl, arith, sym, ltb-false}
+use Rattle.mxf_views.proofs.Common.{slice_get_read}
 use Rattle.mxf_partial.proofs.InStreamLaws.{last_found, none_before, other_before}
-use Rattle.mxf_partial.proofs.in_streams.last_below.Goals as goal
 use Rattle.mxf_partial.proofs.in_streams.last_below.Goals.{in_default-via-in-Some+else-stream}
 use Rattle.mxf_partial.proofs.in_streams.last_below.Goals.{in_default-via-in_default}
+use Rattle.mxf_partial.proofs.in_streams.last_below.Goals as goal
 
 pub returns-then-count-eq0 : goal.returns-then-count-eq0
 returns-then-count-eq0 g c = λ r.

@@ -1,6 +1,5 @@
 -- The places so far at positions of the table.
-use Rattle.std.proofs.Common.{◌↔◌, ◌⊎◌}
-use Rattle.mxf_klv.specs.Rising.{In}
+use Rattle.mxf_views.proofs.Common.{◌↔◌, ◌⊎◌, In}
 use Rattle.mxf_restore.specs.declared.named.NamedPlace.{NamedPlace}
 use Rattle.mxf_partial.proofs.NearLaws.{IsFoundBefore}
 use Rattle.mxf_partial.proofs.near.add_at.Given as goal

@@ -1,10 +1,6 @@
-use Rattle.std.proofs.Common.{inl, inr, subst, sym, List}
-use Rattle.std.proofs.lemmas.Iterator.{YieldsList-from_slice}
-use Rattle.std.proofs.lemmas.Iterator.Adapters.{items_from_extend}
-use Rattle.std.proofs.lemmas.Iterator.Consumers.{YieldsList-from_copied}
-use Rattle.std.proofs.lemmas.Result.{on_ok_weaker}
-use Rattle.mxf_klv.specs.Rising.{In}
-use Rattle.mxf_klv.proofs.Lists.{In-append}
+use Rattle.mxf_views.proofs.Common.{inl, inr, subst, sym, List, YieldsList-from_slice}
+use Rattle.mxf_views.proofs.Common.{items_from_extend, YieldsList-from_copied, on_ok_weaker, In}
+use Rattle.mxf_views.proofs.Common.{In-append}
 use Rattle.mxf_restore.specs.declared.named.NamedPlace.{NamedPlace}
 use Rattle.mxf_partial.proofs.NearPlaces.{true_not_false}
 use Rattle.mxf_partial.proofs.PlaceLaws.{on_ok}

@@ -1,6 +1,5 @@
 -- The places so far, each with its streams.
-use Rattle.std.proofs.Common.{List}
-use Rattle.mxf_klv.specs.Parts.{NoteParts}
+use Rattle.mxf_views.proofs.Common.{List, NoteParts}
 use Rattle.mxf_partial.specs.NearTable.{AreListed}
 use Rattle.mxf_partial.proofs.PlaceLaws.{Placed}
 use Rattle.mxf_partial.proofs.place_streams.of_streams.Given as goal

@@ -1,6 +1,5 @@
-use Rattle.std.proofs.Common.{◌↔◌, ◌⊎◌, ◌<◌, ℕ, OnOk, subst}
-use Rattle.mxf_klv.specs.Note.{greatest_end}
-use Rattle.mxf_catalogue.specs.Runs.{LiesIn}
+use Rattle.mxf_views.proofs.Common.{◌↔◌, ◌⊎◌, ◌<◌, ℕ, subst, greatest_end, LiesIn}
+use Rattle.std.proofs.Common.{OnOk}
 use Rattle.mxf_restore.specs.Plan.{LiesInOrder}
 use Rattle.mxf_restore.specs.declared.plan.Order.{Order}
 use Rattle.mxf_partial.proofs.plan.add_order.Goals as goal

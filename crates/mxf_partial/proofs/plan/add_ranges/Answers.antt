@@ -1,6 +1,5 @@
-use Rattle.std.proofs.Common.{rules}
-use Rattle.std.proofs.lemmas.Iterator.{YieldsList-from_map, YieldsList-from_slice}
-use Rattle.std.proofs.lemmas.Iterator.Adapters.{items_from_extend}
+use Rattle.mxf_views.proofs.Common.{rules, YieldsList-from_map, YieldsList-from_slice}
+use Rattle.mxf_views.proofs.Common.{items_from_extend}
 use Rattle.mxf_partial.specs.Orders.{unit_order}
 use Rattle.mxf_partial.proofs.plan.add_ranges.Goals as goal
 

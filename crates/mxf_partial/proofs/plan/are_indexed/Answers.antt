@@ -1,5 +1,4 @@
-use Rattle.std.proofs.Common.{rules}
-use Rattle.std.proofs.lemmas.Iterator.Consumers.{YieldsList-from_first}
+use Rattle.mxf_views.proofs.Common.{rules, YieldsList-from_first}
 use Rattle.std.proofs.lemmas.Iterator.Search.{all_from_yields_List}
 use Rattle.mxf_partial.specs.Wanted.{is_indexed}
 use Rattle.mxf_partial.proofs.plan.are_indexed.Goals as goal

@@ -1,12 +1,10 @@
-use Rattle.std.proofs.Common.{◌≡◌, ◌↔◌, ◌⊎◌, ◌∙◌, [], List, subst, sym, true}
-use Rattle.mxf_klv.specs.Rising.{In}
+use Rattle.mxf_views.proofs.Common.{◌≡◌, ◌↔◌, ◌⊎◌, ◌∙◌, [], List, subst, sym, true, In, ap}
 use Rattle.mxf_restore.specs.declared.named.NamedPlace.{NamedPlace}
 use Rattle.mxf_partial.specs.Asks.{IsAskedByIndex, IsAskedByUnit}
 use Rattle.mxf_restore.specs.declared.plan.Order.{Order}
 use Rattle.mxf_partial.proofs.UnitPlanLaws.{found}
 use Rattle.mxf_partial.specs.Wanted.{WantedParts}
 use Rattle.mxf_restore.specs.Sections.{sections_of}
-use Rattle.std.proofs.Common.{ap}
 use Rattle.mxf_partial.proofs.plan.finding_orders.Goals as goal
 
 pub returns : goal.returns

@@ -1,5 +1,4 @@
-use Rattle.std.proofs.Common.{◌∙◌, [], subst, sym}
-use Rattle.mxf_klv.specs.Rising.{IsRising, union}
+use Rattle.mxf_views.proofs.Common.{◌∙◌, [], subst, sym, IsRising, union}
 use Rattle.mxf_restore.proofs.PlanLaws.{one_order, orders}
 use Rattle.mxf_partial.proofs.plan.in_order.Goals as goal
 

@@ -1,6 +1,4 @@
-use Rattle.std.proofs.Common.{◌↔◌, ◌⊎◌, ◌<◌, subst}
-use Rattle.mxf_klv.specs.Note.{greatest_end}
-use Rattle.mxf_catalogue.specs.Runs.{LiesIn}
+use Rattle.mxf_views.proofs.Common.{◌↔◌, ◌⊎◌, ◌<◌, subst, greatest_end, LiesIn}
 use Rattle.mxf_restore.specs.Plan.{LiesInOrder}
 use Rattle.mxf_restore.specs.declared.plan.Order.{Order}
 use Rattle.mxf_partial.proofs.UnitPlanLaws.{no_order_more, one_order_more}

@@ -1,6 +1,5 @@
 -- What was added so far, with the orders to come.
-use Rattle.std.proofs.Common.{◌↔◌, ◌⊎◌, ℕ, drop}
-use Rattle.mxf_catalogue.specs.Runs.{LiesIn}
+use Rattle.mxf_views.proofs.Common.{◌↔◌, ◌⊎◌, ℕ, drop, LiesIn}
 use Rattle.mxf_partial.specs.Orders.{IsOrdered}
 use Rattle.mxf_partial.proofs.plan.ordered.Given as goal
 

@@ -1,6 +1,4 @@
-use Rattle.std.proofs.Common.{◌∙◌, ap, map, subst, List}
-use Rattle.mxf_klv.specs.Parts.{NoteParts}
-use Rattle.mxf_catalogue.specs.Content.{IsContent}
+use Rattle.mxf_views.proofs.Common.{◌∙◌, ap, map, subst, List, NoteParts, IsContent}
 use Rattle.mxf_partial.specs.StreamTable.{start_of}
 use Rattle.mxf_partial.proofs.StreamLaws.{parts_differ, starts_are}
 use Rattle.mxf_partial.proofs.streams.part_starts.Goals as goal

@@ -1,6 +1,5 @@
 -- What is wanted of the units so far, with those to come.
-use Rattle.std.proofs.Common.{◌↔◌, ◌⊎◌, ℕ}
-use Rattle.mxf_catalogue.specs.Runs.{LiesIn}
+use Rattle.mxf_views.proofs.Common.{◌↔◌, ◌⊎◌, ℕ, LiesIn}
 use Rattle.mxf_units.specs.Ranges.{units_with_keys}
 use Rattle.mxf_partial.specs.Wanted.{HasByteOf}
 use Rattle.mxf_partial.proofs.wanted.wanted_bytes.Given as goal

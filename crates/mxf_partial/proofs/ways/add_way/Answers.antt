@@ -1,6 +1,4 @@
-use Rattle.std.proofs.Common.{◌∙◌, Some, ap, inl, inr, sym}
-use Rattle.std.proofs.lemmas.Option.{same_Some}
-use Rattle.mxf_klv.proofs.Lists.{In-end}
+use Rattle.mxf_views.proofs.Common.{◌∙◌, Some, ap, inl, inr, sym, same_Some, In-end}
 use Rattle.mxf_partial.proofs.ways.add_way.Goals as goal
 
 pub returns-then-not-has_place : goal.returns-then-not-has_place

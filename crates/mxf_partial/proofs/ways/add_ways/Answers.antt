@@ -1,12 +1,8 @@
-use Rattle.std.proofs.Common.{◌≡◌, ◌↔◌, ◌⊎◌, ◌∙◌, List, Ok, Err, Result, inl, inr, subst, sym, Some}
-use Rattle.std.specs.Result.{OnOk}
-use Rattle.mxf_klv.specs.Parts.{NoteParts}
-use Rattle.mxf_klv.specs.Rising.{In}
-use Rattle.mxf_catalogue.specs.Content.{IsContent}
+use Rattle.mxf_views.proofs.Common.{◌≡◌, ◌↔◌, ◌⊎◌, ◌∙◌, List, Ok, Err, Result, inl, inr, subst, sym}
+use Rattle.mxf_views.proofs.Common.{Some, OnOk, NoteParts, In, IsContent, StreamPlace}
 use Rattle.mxf_restore.specs.declared.named.NamedPlace.{NamedPlace}
 use Rattle.mxf_units.specs.EssenceZones.{parts_of}
 use Rattle.mxf_units.specs.declared.essence_zone.part.StreamPart.{StreamPart}
-use Rattle.mxf_views.specs.declared.index.place.StreamPlace.{StreamPlace}
 use Rattle.mxf_partial.specs.InStreams.{IsInOrder}
 use Rattle.mxf_partial.specs.Ways.{HasWay, LeadsTo}
 use Rattle.mxf_partial.proofs.WayLaws.{ways_are}

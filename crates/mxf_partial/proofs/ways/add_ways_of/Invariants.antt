@@ -1,6 +1,5 @@
 -- What was added so far, with the parts to come.
-use Rattle.std.proofs.Common.{◌↔◌, ◌⊎◌, drop}
-use Rattle.mxf_klv.specs.Rising.{In}
+use Rattle.mxf_views.proofs.Common.{◌↔◌, ◌⊎◌, drop, In}
 use Rattle.mxf_restore.specs.declared.named.NamedPlace.{NamedPlace}
 use Rattle.mxf_units.specs.Units.{UnitsParts}
 use Rattle.mxf_partial.specs.InStreams.{IsInOrder}

@@ -1,5 +1,4 @@
-use Rattle.std.proofs.Common.{[], inl, inr, subst, sym}
-use Rattle.mxf_klv.specs.Rising.{In, In-union}
+use Rattle.mxf_views.proofs.Common.{[], inl, inr, subst, sym, In, In-union}
 use Rattle.mxf_views.proofs.PlaceLaws.{place_cmp-IsAntisymmetric, place_total}
 use Rattle.mxf_partial.proofs.WayLaws.{in_order_is}
 use Rattle.mxf_partial.proofs.ways.in_order.Goals as goal

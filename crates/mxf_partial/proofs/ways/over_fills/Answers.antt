@@ -1,6 +1,4 @@
-use Rattle.std.proofs.Common.{◌∙◌, List, arith, subst}
-use Rattle.mxf_klv.specs.Parts.{NoteParts}
-use Rattle.mxf_catalogue.specs.Content.{IsCatalogue}
+use Rattle.mxf_views.proofs.Common.{◌∙◌, List, arith, subst, NoteParts, IsCatalogue}
 use Rattle.mxf_partial.proofs.WayLaws.{far_from_fills}
 use Rattle.mxf_partial.proofs.ways.over_fills.Goals as goal
 

@@ -1,9 +1,6 @@
-use Rattle.std.proofs.Common.{◌≡◌, ◌∙◌, ap, rules}
-use Rattle.std.proofs.lemmas.Iterator.{YieldsList-from_slice}
-use Rattle.std.proofs.lemmas.Iterator.Adapters.{items_from_extend}
-use Rattle.std.proofs.lemmas.Iterator.Consumers.{YieldsList-from_filter_map}
+use Rattle.mxf_views.proofs.Common.{◌≡◌, ◌∙◌, ap, rules, YieldsList-from_slice, items_from_extend}
+use Rattle.mxf_views.proofs.Common.{YieldsList-from_filter_map, partitions_of}
 use Rattle.std.specs.List.{filter_map}
-use Rattle.mxf_views.specs.Partitions.{partitions_of}
 use Rattle.mxf_places.specs.Claims.{previous_claim}
 use Rattle.mxf_places.proofs.InNumbers.{previous}
 use Rattle.mxf_places.proofs.claim.add_previous.Goals as goal

@@ -1,10 +1,7 @@
-use Rattle.std.proofs.Common.{◌≡◌, ◌∙◌, List, ap, map, rules}
-use Rattle.std.proofs.lemmas.Iterator.{YieldsList-from_slice}
-use Rattle.std.proofs.lemmas.Iterator.Adapters.{items_from_extend}
-use Rattle.std.proofs.lemmas.Iterator.Consumers.{YieldsList-from_filter_map}
+use Rattle.mxf_views.proofs.Common.{◌≡◌, ◌∙◌, List, ap, map, rules, YieldsList-from_slice}
+use Rattle.mxf_views.proofs.Common.{items_from_extend, YieldsList-from_filter_map, NoteParts}
+use Rattle.mxf_views.proofs.Common.{in_numbers, partitions_of}
 use Rattle.std.specs.List.{filter_map}
-use Rattle.mxf_klv.specs.Parts.{NoteParts}
-use Rattle.mxf_views.specs.Partitions.{in_numbers, partitions_of}
 use Rattle.mxf_places.specs.Claims.{zone_claim}
 use Rattle.mxf_places.proofs.InNumbers.{zones}
 use Rattle.mxf_places.proofs.claim.add_zones.Goals as goal

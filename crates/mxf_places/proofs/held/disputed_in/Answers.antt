@@ -1,10 +1,6 @@
-use Rattle.std.proofs.Common.{◌≡◌, ◌∙◌, [], List, ap, map, subst, sym}
-use Rattle.mxf_catalogue.specs.Covers.{union_of_runs, with_run}
-use Rattle.mxf_catalogue.specs.Runs.{run}
-use Rattle.mxf_klv.specs.Note.{covered_end}
-use Rattle.mxf_klv.specs.Parts.{NoteParts}
-use Rattle.mxf_catalogue.specs.Disputes.{DisputedParts, disputed_notes}
-use Rattle.mxf_catalogue.specs.NoteLists.{covered_run}
+use Rattle.mxf_views.proofs.Common.{◌≡◌, ◌∙◌, [], List, ap, map, subst, sym, union_of_runs}
+use Rattle.mxf_views.proofs.Common.{with_run, run, covered_end, NoteParts, DisputedParts}
+use Rattle.mxf_views.proofs.Common.{disputed_notes, covered_run}
 use Rattle.mxf_places.specs.Held.{AreDisputed}
 use Rattle.mxf_places.proofs.HeldLaws.{disputed_runs}
 use Rattle.mxf_places.proofs.held.disputed_in.Goals as goal

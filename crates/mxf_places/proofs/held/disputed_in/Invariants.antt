@@ -1,8 +1,5 @@
 -- The runs, with those of the disputed notes that are to come.
-use Rattle.std.proofs.Common.{◌≡◌, [], map}
-use Rattle.mxf_catalogue.specs.Covers.{union_of_runs}
-use Rattle.mxf_catalogue.specs.Disputes.{disputed_notes}
-use Rattle.mxf_catalogue.specs.NoteLists.{covered_run}
+use Rattle.mxf_views.proofs.Common.{◌≡◌, [], map, union_of_runs, disputed_notes, covered_run}
 use Rattle.mxf_places.proofs.held.disputed_in.Given as goal
 
 abbrev pub invariant-loop-disputed : goal.invariant-loop-disputed

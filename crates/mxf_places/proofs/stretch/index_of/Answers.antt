@@ -1,7 +1,5 @@
-use Rattle.std.proofs.Common.{List, ap, subst, sym, ◌∙◌, ◌<◌, ◌≡◌, arith}
-use Rattle.mxf_klv.specs.Parts.{NoteParts}
-use Rattle.mxf_catalogue.specs.Content.{IsCatalogue}
-use Rattle.mxf_views.specs.Partitions.{PartitionParts}
+use Rattle.mxf_views.proofs.Common.{List, ap, subst, sym, ◌∙◌, ◌<◌, ◌≡◌, arith, NoteParts}
+use Rattle.mxf_views.proofs.Common.{IsCatalogue, PartitionParts}
 use Rattle.mxf_places.proofs.StretchLaws.{far_index}
 use Rattle.mxf_places.proofs.stretch.index_of.Goals as goal
 

@@ -1,5 +1,4 @@
-use Rattle.std.proofs.Common.{[]}
-use Rattle.std.proofs.lemmas.Result.{err_from_is_err_and}
+use Rattle.mxf_views.proofs.Common.{[], err_from_is_err_and}
 use Rattle.mxf_read.specs.Absorbs.{Absorbs}
 use Rattle.mxf_read.proofs.GoingOn.{content_with}
 use Rattle.mxf_read.proofs.Taking.{absorbs_merged, absorbs_none}

@@ -1,10 +1,7 @@
-use Rattle.std.proofs.Common.{◌≡◌, ◌∙◌, ◌+◌, None, Some, drop, ◌∷◌, List, ℕ, refl, sym, ap, arith, length}
-use Rattle.std.proofs.lemmas.List.{length-drop}
-use Rattle.mxf_klv.specs.Note.{note_of}
-use Rattle.mxf_klv.specs.Packet.{size_of}
-use Rattle.mxf_klv.specs.Parts.{PacketParts}
-use Rattle.mxf_klv.specs.PieceReading.{notes_in, packet_at, packets_in, stop_in}
-use Rattle.mxf_klv.proofs.PieceLaws.{packets_in-none, packets_in-some}
+use Rattle.mxf_views.proofs.Common.{◌≡◌, ◌∙◌, ◌+◌, None, Some, drop, ◌∷◌, List, ℕ, refl, sym, ap}
+use Rattle.mxf_views.proofs.Common.{arith, length, length-drop, note_of, size_of, PacketParts}
+use Rattle.mxf_views.proofs.Common.{notes_in, packet_at, packets_in, stop_in, packets_in-none}
+use Rattle.mxf_views.proofs.Common.{packets_in-some}
 use Rattle.mxf_read.proofs.Taking.{ended, one_more, stopped, stopped_at_head}
 use Rattle.mxf_read.proofs.absorbing.note_packets.Goals as goal
 

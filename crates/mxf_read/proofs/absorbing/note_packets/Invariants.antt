@@ -1,6 +1,5 @@
 -- The first notes of the piece were added, and what is left of the bytes has the others and the stop.
-use Rattle.std.proofs.Common.{◌≡◌, ◌+◌, ◌≤◌, length}
-use Rattle.mxf_klv.specs.PieceReading.{notes_in, packets_in, stop_in}
+use Rattle.mxf_views.proofs.Common.{◌≡◌, ◌+◌, ◌≤◌, length, notes_in, packets_in, stop_in}
 use Rattle.mxf_read.proofs.Taking.{IsPart}
 use Rattle.mxf_read.proofs.absorbing.note_packets.Given as goal
 

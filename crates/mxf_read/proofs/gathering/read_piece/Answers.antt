@@ -1,5 +1,4 @@
-use Rattle.std.proofs.Common.{[], Ok, IfOk, IfSome, subst, take}
-use Rattle.std.proofs.lemmas.Option.{IfSome_then}
+use Rattle.mxf_views.proofs.Common.{[], Ok, IfOk, IfSome, subst, take, IfSome_then}
 use Rattle.mxf_read.specs.Absorbs.{Absorbs}
 use Rattle.mxf_read.proofs.gathering.read_piece.Goals as goal
 

@@ -1,5 +1,4 @@
-use Rattle.std.proofs.Common.{ℕ, sym, ap, refl, arith, drop, ◌∙◌}
-use Rattle.mxf_klv.specs.Label.{begins_as_label}
+use Rattle.mxf_views.proofs.Common.{ℕ, sym, ap, refl, arith, drop, ◌∙◌, begins_as_label}
 use Rattle.mxf_read.proofs.Starts.{key_stands, no_head_given, no_key}
 use Rattle.mxf_read.proofs.range.may_begin.Goals as goal
 

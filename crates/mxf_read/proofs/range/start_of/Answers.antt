@@ -1,5 +1,4 @@
-use Rattle.std.proofs.Common.{sym, ◌∙◌, ◌+◌}
-use Rattle.std.proofs.lemmas.List.{take_rest}
+use Rattle.mxf_views.proofs.Common.{sym, ◌∙◌, ◌+◌, take_rest}
 use Rattle.mxf_read.proofs.Starts.{first_is, found_next, may_within, none_found, none_more}
 use Rattle.mxf_read.proofs.range.start_of.Goals as goal
 

@@ -1,6 +1,5 @@
 -- The bytes taken so far were fed, and each read either takes one of the `limit` bytes or is one of the repeated ones.
-use Rattle.std.proofs.Common.{◌≡◌, ◌+◌, ◌-◌, ◌≤◌, List, ℕ, length}
-use Rattle.std.specs.Io.KnownBytes.{Consumes}
+use Rattle.mxf_views.proofs.Common.{◌≡◌, ◌+◌, ◌-◌, ◌≤◌, List, ℕ, length, Consumes}
 use Rattle.mxf_read.specs.Feeding.{Feeds}
 use Rattle.mxf_read.proofs.reading.read_all.Given as goal
 

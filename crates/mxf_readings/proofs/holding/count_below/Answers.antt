@@ -1,7 +1,5 @@
-use Rattle.std.proofs.Common.{rules, nat_lt}
-use Rattle.std.specs.Ordering.{ordering_index}
-use Rattle.std.proofs.lemmas.Bool.{ltb-false, ltb-true}
-use Rattle.std.proofs.lemmas.List.Sorted.{IsPartitionPoint-from_clause}
+use Rattle.mxf_klv.proofs.Common.{rules, nat_lt, ordering_index, ltb-false, ltb-true}
+use Rattle.mxf_klv.proofs.Common.{IsPartitionPoint-from_clause}
 use Rattle.mxf_readings.specs.Holdings.{side}
 use Rattle.mxf_readings.proofs.HoldingLaws.{parted_below}
 use Rattle.mxf_readings.proofs.holding.count_below.Goals as goal

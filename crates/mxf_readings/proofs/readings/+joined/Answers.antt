@@ -1,6 +1,5 @@
-use Rattle.std.proofs.Common.{◌≡◌, ◌∙◌, ◌++◌, ◌/◌, IfOk, List, ap, length, subst, take}
-use Rattle.std.proofs.lemmas.List.{take-append-drop}
-use Rattle.mxf_klv.specs.Parts.{NoteParts}
+use Rattle.mxf_klv.proofs.Common.{◌≡◌, ◌∙◌, ◌++◌, ◌/◌, IfOk, List, ap, length, subst, take}
+use Rattle.mxf_klv.proofs.Common.{take-append-drop, NoteParts}
 use Rattle.mxf_readings.proofs.AllNotesLaws.{halves_joined}
 use Rattle.mxf_readings.proofs.readings.+joined.Goals as goal
 

@@ -1,8 +1,6 @@
-use Rattle.std.proofs.Common.{◌≡◌, ◌∙◌, ◌++◌, ◌∷◌, [], ℕ, List, Option, ap, append-nil, append_assoc, arith, subst, sym}
-use Rattle.std.proofs.lemmas.List.{nil_from_length}
-use Rattle.std.specs.Map.{lookup}
-use Rattle.std.specs.Ordering.{nat_cmp}
-use Rattle.std.specs.BTreeMap.{is_at}
+use Rattle.mxf_views.proofs.Common.{◌≡◌, ◌∙◌, ◌++◌, ◌∷◌, [], ℕ, List, Option, ap, append-nil}
+use Rattle.mxf_views.proofs.Common.{append_assoc, arith, subst, sym, nil_from_length, lookup}
+use Rattle.mxf_views.proofs.Common.{nat_cmp, is_at}
 use Rattle.mxf_restore.specs.NamedPlaces.{AreFirst}
 use Rattle.mxf_restore.specs.declared.named.NamedPlace.{NamedPlace}
 use Rattle.mxf_restore.proofs.NamedPlaceLaws.{first_sources-insert}

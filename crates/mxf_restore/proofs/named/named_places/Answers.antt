@@ -1,6 +1,4 @@
-use Rattle.std.proofs.Common.{◌≡◌, ◌∙◌, ap, filter_map, subst, sym}
-use Rattle.std.proofs.lemmas.Result.{IfOk-weaker}
-use Rattle.mxf_klv.specs.Rising.{In, IsRising}
+use Rattle.mxf_views.proofs.Common.{◌≡◌, ◌∙◌, ap, filter_map, subst, sym, IfOk-weaker, In, IsRising}
 use Rattle.mxf_restore.specs.NamedPlaces.{AreFirst, IsNamedPlace, named_place_of, place_cmp}
 use Rattle.mxf_restore.specs.declared.named.NamedPlace.{NamedPlace}
 use Rattle.mxf_restore.proofs.NamedPlaceLaws.{named_is, places_of, places_rise, places_say}

@@ -1,6 +1,5 @@
-use Rattle.std.proofs.Common.{rules}
-use Rattle.std.proofs.lemmas.Iterator.{YieldsList-from_map, YieldsList-from_slice}
-use Rattle.std.proofs.lemmas.Iterator.Adapters.{items_from_extend}
+use Rattle.mxf_views.proofs.Common.{rules, YieldsList-from_map, YieldsList-from_slice}
+use Rattle.mxf_views.proofs.Common.{items_from_extend}
 use Rattle.mxf_restore.specs.Plan.{part_order}
 use Rattle.mxf_restore.proofs.order.add_part_orders.Goals as goal
 

@@ -1,5 +1,4 @@
-use Rattle.std.proofs.Common.{rules}
-use Rattle.std.proofs.lemmas.Fn.{filter_same}
+use Rattle.mxf_views.proofs.Common.{rules, filter_same}
 use Rattle.mxf_restore.proofs.order.retain_below.Goals as goal
 
 pub returns : goal.returns

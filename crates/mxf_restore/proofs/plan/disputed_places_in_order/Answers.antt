@@ -1,5 +1,4 @@
-use Rattle.std.proofs.Common.{◌∙◌, []}
-use Rattle.mxf_klv.specs.Rising.{union}
+use Rattle.mxf_views.proofs.Common.{◌∙◌, [], union}
 use Rattle.mxf_restore.proofs.PlanLaws.{disputed_places}
 use Rattle.mxf_restore.proofs.plan.disputed_places_in_order.Goals as goal
 

@@ -1,5 +1,4 @@
-use Rattle.std.proofs.Common.{◌∙◌, [], sym}
-use Rattle.mxf_klv.specs.Rising.{union}
+use Rattle.mxf_views.proofs.Common.{◌∙◌, [], sym, union}
 use Rattle.mxf_restore.proofs.PlanLaws.{one_order, orders}
 use Rattle.mxf_restore.proofs.plan.in_order.Goals as goal
 

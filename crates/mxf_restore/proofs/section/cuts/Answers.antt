@@ -1,6 +1,4 @@
-use Rattle.std.proofs.Common.{◌∙◌, [], ap, sym}
-use Rattle.std.specs.Ordering.{nat_cmp}
-use Rattle.mxf_klv.specs.Rising.{union}
+use Rattle.mxf_views.proofs.Common.{◌∙◌, [], ap, sym, nat_cmp, union}
 use Rattle.mxf_restore.specs.Sections.{cuts_of}
 use Rattle.mxf_restore.proofs.SectionLaws.{free_cuts_among, free_left}
 use Rattle.mxf_restore.proofs.section.cuts.Goals as goal

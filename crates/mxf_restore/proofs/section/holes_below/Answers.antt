@@ -1,7 +1,5 @@
-use Rattle.std.proofs.Common.{rules}
-use Rattle.std.proofs.lemmas.Iterator.{YieldsList-from_map, items_from_collect}
-use Rattle.std.proofs.lemmas.Iterator.Consumers.{YieldsList-at, YieldsList-from_filter, YieldsList-from_first}
-use Rattle.mxf_views.specs.Gaps.{gaps_of}
+use Rattle.mxf_views.proofs.Common.{rules, YieldsList-from_map, items_from_collect, YieldsList-at}
+use Rattle.mxf_views.proofs.Common.{YieldsList-from_filter, YieldsList-from_first, gaps_of}
 use Rattle.mxf_places.specs.Held.{is_held}
 use Rattle.mxf_restore.specs.Sections.{closed_hole}
 use Rattle.mxf_restore.proofs.section.holes_below.Goals as goal

@@ -1,8 +1,6 @@
 -- The runs, with those of the packets that are to come and can't be essence.
-use Rattle.std.proofs.Common.{◌≡◌, [], filter, map}
-use Rattle.mxf_catalogue.specs.Covers.{union_of_runs}
-use Rattle.mxf_catalogue.specs.Disputes.{undisputed_notes}
-use Rattle.mxf_catalogue.specs.NoteLists.{covered_run}
+use Rattle.mxf_views.proofs.Common.{◌≡◌, [], filter, map, union_of_runs, undisputed_notes}
+use Rattle.mxf_views.proofs.Common.{covered_run}
 use Rattle.mxf_units.proofs.BesideLaws.{cant_be}
 use Rattle.mxf_units.proofs.beside.beside_essence.Given as goal
 

@@ -1,6 +1,4 @@
-use Rattle.std.proofs.Common.{◌∙◌, arith, sym}
-use Rattle.std.proofs.lemmas.Bool.{false_from_ne_true, le-ltb}
-use Rattle.mxf_klv.proofs.Tests.{same_bool}
+use Rattle.mxf_views.proofs.Common.{◌∙◌, arith, sym, false_from_ne_true, le-ltb, same_bool}
 use Rattle.mxf_units.specs.Units.{is_beside_essence}
 use Rattle.mxf_units.proofs.BesideLaws.{beside-says}
 use Rattle.mxf_units.proofs.beside.is_beside_essence.Goals as goal

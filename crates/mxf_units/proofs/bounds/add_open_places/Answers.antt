@@ -1,7 +1,5 @@
-use Rattle.std.proofs.Common.{rules}
-use Rattle.std.proofs.lemmas.Iterator.{YieldsList-from_slice}
-use Rattle.std.proofs.lemmas.Iterator.Adapters.{items_from_extend}
-use Rattle.std.proofs.lemmas.Iterator.Consumers.{YieldsList-from_filter_map}
+use Rattle.mxf_views.proofs.Common.{rules, YieldsList-from_slice, items_from_extend}
+use Rattle.mxf_views.proofs.Common.{YieldsList-from_filter_map}
 use Rattle.mxf_units.specs.EssenceZones.{open_place}
 use Rattle.mxf_units.proofs.bounds.add_open_places.Goals as goal
 

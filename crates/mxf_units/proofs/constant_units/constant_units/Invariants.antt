@@ -1,6 +1,5 @@
 -- The units so far, with those of the segments to come.
-use Rattle.std.proofs.Common.{◌≡◌, ◌++◌, drop, filter_map}
-use Rattle.std.specs.List.{AllByRecursion}
+use Rattle.mxf_views.proofs.Common.{◌≡◌, ◌++◌, drop, filter_map, AllByRecursion}
 use Rattle.mxf_units.specs.NextPlaces.{AreSized, constant_units}
 use Rattle.mxf_units.proofs.constant_units.constant_units.Given as goal
 

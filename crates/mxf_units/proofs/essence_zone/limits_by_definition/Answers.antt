@@ -1,5 +1,4 @@
-use Rattle.std.proofs.Common.{Option, ap, option_map}
-use Rattle.mxf_klv.specs.Parts.{NoteParts}
+use Rattle.mxf_views.proofs.Common.{Option, ap, option_map, NoteParts}
 use Rattle.mxf_units.specs.EssenceZones.{zone_by, zone_of}
 use Rattle.mxf_units.proofs.LimitLaws.{one-zone, zone-by}
 use Rattle.mxf_units.proofs.essence_zone.limits_by_definition.Goals as goal

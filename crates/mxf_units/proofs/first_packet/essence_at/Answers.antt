@@ -1,6 +1,5 @@
-use Rattle.std.proofs.Common.{◌∙◌, ◌==◌, List, ap, false, find, true}
-use Rattle.mxf_klv.specs.Parts.{NoteParts}
-use Rattle.mxf_catalogue.specs.Disputes.{undisputed_notes}
+use Rattle.mxf_views.proofs.Common.{◌∙◌, ◌==◌, List, ap, false, find, true, NoteParts}
+use Rattle.mxf_views.proofs.Common.{undisputed_notes}
 use Rattle.mxf_units.specs.EssenceZones.{may_be_essence}
 use Rattle.mxf_units.proofs.PacketLaws.{essence_is}
 use Rattle.mxf_units.proofs.first_packet.essence_at.Goals as goal

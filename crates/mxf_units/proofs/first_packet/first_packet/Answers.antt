@@ -1,7 +1,5 @@
-use Rattle.std.proofs.Common.{List, arith, subst, ◌∙◌, ◌≤◌}
-use Rattle.mxf_klv.specs.Parts.{NoteParts}
-use Rattle.mxf_klv.specs.Note.{greatest_end}
-use Rattle.mxf_catalogue.specs.Content.{IsCatalogue}
+use Rattle.mxf_views.proofs.Common.{List, arith, subst, ◌∙◌, ◌≤◌, NoteParts, greatest_end}
+use Rattle.mxf_views.proofs.Common.{IsCatalogue}
 use Rattle.mxf_units.proofs.PacketLaws.{far_packet}
 use Rattle.mxf_units.proofs.first_packet.first_packet.Goals as goal
 

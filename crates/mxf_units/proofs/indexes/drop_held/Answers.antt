@@ -1,5 +1,4 @@
-use Rattle.std.proofs.Common.{rules}
-use Rattle.std.proofs.lemmas.Fn.{filter_same}
+use Rattle.mxf_views.proofs.Common.{rules, filter_same}
 use Rattle.mxf_units.proofs.indexes.drop_held.Goals as goal
 
 pub returns : goal.returns

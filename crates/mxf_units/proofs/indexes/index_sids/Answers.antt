@@ -1,6 +1,4 @@
-use Rattle.std.proofs.Common.{◌∙◌, [], ap}
-use Rattle.std.specs.Ordering.{nat_cmp}
-use Rattle.mxf_klv.specs.Rising.{union}
+use Rattle.mxf_views.proofs.Common.{◌∙◌, [], ap, nat_cmp, union}
 use Rattle.mxf_units.specs.Indexes.{index_sids_of}
 use Rattle.mxf_units.proofs.indexes.index_sids.Goals as goal
 

@@ -1,7 +1,6 @@
-use Rattle.std.proofs.Common.{◌≡◌, ◌∙◌, ap, map, rules}
-use Rattle.std.proofs.lemmas.Iterator.{YieldsList-from_map, YieldsList-from_slice, items_from_collect}
-use Rattle.std.proofs.lemmas.Simd.{map-map}
-use Rattle.mxf_views.specs.Places.{SegmentAtParts, segments_of, without_entries}
+use Rattle.mxf_views.proofs.Common.{◌≡◌, ◌∙◌, ap, map, rules, YieldsList-from_map}
+use Rattle.mxf_views.proofs.Common.{YieldsList-from_slice, items_from_collect, map-map}
+use Rattle.mxf_views.proofs.Common.{SegmentAtParts, segments_of, without_entries}
 use Rattle.mxf_units.proofs.indexes.index_sids_in.Goals as goal
 
 pub returns : goal.returns

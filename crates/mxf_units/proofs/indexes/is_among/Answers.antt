@@ -1,11 +1,7 @@
-use Rattle.std.proofs.Common.{◌↔◌, ◌∙◌, ◌==◌, ℕ, IfErr, IsTrue, List, Ok, Err, OnOk, Result, is_ok, refl}
-use Rattle.std.proofs.lemmas.Cmp.{nat_cmp_total}
-use Rattle.std.specs.FinMap.{nat_cmp-IsAntisymmetric}
-use Rattle.std.specs.List.{list_any}
-use Rattle.std.specs.Ordering.{nat_cmp}
-use Rattle.mxf_klv.specs.Rising.{In, IsPlaceOf}
-use Rattle.mxf_klv.proofs.Tests.{same_bool}
-use Rattle.mxf_catalogue.proofs.Places.{search_says}
+use Rattle.mxf_views.proofs.Common.{◌↔◌, ◌∙◌, ◌==◌, ℕ, IfErr, IsTrue, List, Ok, Err, Result, is_ok}
+use Rattle.mxf_views.proofs.Common.{refl, nat_cmp_total, nat_cmp-IsAntisymmetric, list_any, nat_cmp}
+use Rattle.mxf_views.proofs.Common.{In, IsPlaceOf, same_bool, search_says}
+use Rattle.std.proofs.Common.{OnOk}
 use Rattle.mxf_units.proofs.SidLaws.{any-says}
 use Rattle.mxf_units.proofs.indexes.is_among.Goals as goal
 

@@ -1,6 +1,4 @@
-use Rattle.std.proofs.Common.{◌∙◌, List, ℕ, subst, sym}
-use Rattle.std.specs.Ordering.{nat_cmp}
-use Rattle.mxf_klv.specs.Rising.{IsRising}
+use Rattle.mxf_views.proofs.Common.{◌∙◌, List, ℕ, subst, sym, nat_cmp, IsRising}
 use Rattle.mxf_units.proofs.SidLaws.{sids-rise}
 use Rattle.mxf_units.proofs.indexes.named_index_sids.Goals as goal
 

@@ -1,6 +1,5 @@
-use Rattle.std.proofs.Common.{rules, nat_le}
-use Rattle.std.proofs.lemmas.Bool.{leb-false}
-use Rattle.std.proofs.lemmas.List.Sorted.{IsPartitionPoint-from_clause, IsPartitionedBy-leb}
+use Rattle.mxf_views.proofs.Common.{rules, nat_le, leb-false, IsPartitionPoint-from_clause}
+use Rattle.mxf_views.proofs.Common.{IsPartitionedBy-leb}
 use Rattle.mxf_units.proofs.intervals.begun_by.Goals as goal
 
 pub returns-clause-above : goal.returns-clause-above

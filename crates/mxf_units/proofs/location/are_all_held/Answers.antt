@@ -1,5 +1,4 @@
-use Rattle.std.proofs.Common.{◌∙◌, ◌<◌, arith, sym}
-use Rattle.mxf_klv.proofs.Tests.{same_bool}
+use Rattle.mxf_views.proofs.Common.{◌∙◌, ◌<◌, arith, sym, same_bool}
 use Rattle.mxf_places.specs.Held.{IsHeld, held_end}
 use Rattle.mxf_units.specs.Units.{are_all_held}
 use Rattle.mxf_units.proofs.RangeLaws.{all-empty, all-past, all_held-says, held-below, lt-leb}

@@ -1,5 +1,4 @@
-use Rattle.std.proofs.Common.{◌∙◌, ℕ, arith, sym}
-use Rattle.mxf_klv.proofs.Tests.{same_bool}
+use Rattle.mxf_views.proofs.Common.{◌∙◌, ℕ, arith, sym, same_bool}
 use Rattle.mxf_units.specs.Units.{IsKnown, are_all_known}
 use Rattle.mxf_units.proofs.RangeLaws.{all-empty, all-past, all_known-says, lt-leb}
 use Rattle.mxf_units.proofs.location.are_all_known.Goals as goal

@@ -1,5 +1,4 @@
-use Rattle.std.proofs.Common.{◌∙◌, ◌<◌, ◌≡◌, ◌≤◌, ℕ, arith, subst, sym}
-use Rattle.std.proofs.lemmas.Bool.{le-ltb}
+use Rattle.mxf_views.proofs.Common.{◌∙◌, ◌<◌, ◌≡◌, ◌≤◌, ℕ, arith, subst, sym, le-ltb}
 use Rattle.mxf_places.specs.Held.{IsDisputedAt, held_end}
 use Rattle.mxf_units.specs.Units.{is_any_disputed}
 use Rattle.mxf_units.proofs.RangeLaws.{any-past, any-within, any_disputed-says, disputed-below}

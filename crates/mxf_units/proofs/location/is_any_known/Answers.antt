@@ -1,5 +1,4 @@
-use Rattle.std.proofs.Common.{◌∙◌, ◌<◌, ℕ, arith, subst, sym}
-use Rattle.std.proofs.lemmas.Bool.{le-ltb}
+use Rattle.mxf_views.proofs.Common.{◌∙◌, ◌<◌, ℕ, arith, subst, sym, le-ltb}
 use Rattle.mxf_units.specs.Units.{IsKnown, is_any_known}
 use Rattle.mxf_units.proofs.RangeLaws.{any-past, any-within, any_known-says}
 use Rattle.mxf_units.proofs.location.is_any_known.Goals as goal

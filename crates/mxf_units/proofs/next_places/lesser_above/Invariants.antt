@@ -1,6 +1,5 @@
 -- The least so far, with the first ones of the units that are to come.
-use Rattle.std.proofs.Common.{◌≡◌, ◌+◌, ◌≤◌, ◌^◌, drop, filter_map}
-use Rattle.std.specs.Option.{ForSome}
+use Rattle.mxf_views.proofs.Common.{◌≡◌, ◌+◌, ◌≤◌, ◌^◌, drop, filter_map, ForSome}
 use Rattle.mxf_units.specs.NextPlaces.{place_above}
 use Rattle.mxf_units.specs.Streams.{least_above, lesser, offsets_in}
 use Rattle.mxf_units.proofs.next_places.lesser_above.Given as goal

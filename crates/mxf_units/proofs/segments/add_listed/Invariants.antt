@@ -1,8 +1,7 @@
 -- The places so far, with those of the units that are to come.
-use Rattle.std.proofs.Common.{◌≡◌, ◌++◌, ◌-◌, filter_map}
-use Rattle.std.specs.List.{AllByRecursion, range_with_len}
+use Rattle.mxf_views.proofs.Common.{◌≡◌, ◌++◌, ◌-◌, filter_map, AllByRecursion, range_with_len}
+use Rattle.mxf_views.proofs.Common.{place_in}
 use Rattle.mxf_units.specs.Streams.{IsSmall}
-use Rattle.mxf_views.specs.Places.{place_in}
 use Rattle.mxf_units.proofs.segments.add_listed.Given as goal
 
 abbrev pub invariant-loop-unit : goal.invariant-loop-unit

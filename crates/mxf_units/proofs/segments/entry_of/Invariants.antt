@@ -1,6 +1,5 @@
 -- What was seen, with the entries of the segments that are to come.
-use Rattle.std.proofs.Common.{◌≡◌, drop, filter_map}
-use Rattle.mxf_sets.specs.Offset.{index_entry}
+use Rattle.mxf_views.proofs.Common.{◌≡◌, drop, filter_map, index_entry}
 use Rattle.mxf_units.specs.Streams.{entry_of, only_entry}
 use Rattle.mxf_units.proofs.segments.entry_of.Given as goal
 

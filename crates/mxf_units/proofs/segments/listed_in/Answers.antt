@@ -1,6 +1,5 @@
-use Rattle.std.proofs.Common.{◌∙◌, ◌++◌, ap}
+use Rattle.mxf_views.proofs.Common.{◌∙◌, ◌++◌, ap, SegmentAtParts}
 use Rattle.mxf_places.proofs.LoopLaws.{appended-step}
-use Rattle.mxf_views.specs.Places.{SegmentAtParts}
 use Rattle.mxf_units.specs.Streams.{listed_in}
 use Rattle.mxf_units.proofs.segments.listed_in.Goals as goal
 

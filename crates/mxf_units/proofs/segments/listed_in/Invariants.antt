@@ -1,6 +1,5 @@
 -- The places so far, with those of the segments that are to come.
-use Rattle.std.proofs.Common.{◌≡◌, ◌++◌, drop, flat_map}
-use Rattle.std.specs.List.{AllByRecursion}
+use Rattle.mxf_views.proofs.Common.{◌≡◌, ◌++◌, drop, flat_map, AllByRecursion}
 use Rattle.mxf_units.specs.Streams.{IsSmall, listed_in}
 use Rattle.mxf_units.proofs.segments.listed_in.Given as goal
 

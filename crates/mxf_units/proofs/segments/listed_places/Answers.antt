@@ -1,7 +1,5 @@
-use Rattle.std.proofs.Common.{List, subst, sym}
-use Rattle.std.specs.List.{AllByRecursion}
+use Rattle.mxf_views.proofs.Common.{List, subst, sym, AllByRecursion, StreamPlace}
 use Rattle.mxf_units.specs.Streams.{IsSmall}
-use Rattle.mxf_views.specs.declared.index.place.StreamPlace.{StreamPlace}
 use Rattle.mxf_units.proofs.LeastLaws.{small-in_order}
 use Rattle.mxf_units.proofs.segments.listed_places.Goals as goal
 

@@ -1,8 +1,6 @@
 -- What was seen, with the places that the segments give which are to come.
-use Rattle.std.proofs.Common.{◌≡◌, drop, filter_map}
-use Rattle.std.specs.Option.{ForSome}
+use Rattle.mxf_views.proofs.Common.{◌≡◌, drop, filter_map, ForSome, place_in}
 use Rattle.mxf_units.specs.Streams.{IsSmall, only_place, place_of}
-use Rattle.mxf_views.specs.Places.{place_in}
 use Rattle.mxf_units.proofs.segments.place_of.Given as goal
 
 abbrev pub invariant-loop-segment : goal.invariant-loop-segment

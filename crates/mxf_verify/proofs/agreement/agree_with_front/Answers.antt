@@ -1,5 +1,4 @@
-use Rattle.std.proofs.Common.{◌≡◌, length}
-use Rattle.mxf_klv.specs.Ber.{length_bytes}
+use Rattle.mxf_views.proofs.Common.{◌≡◌, length, length_bytes}
 use Rattle.mxf_verify.proofs.ByteLaws.{agrees_part}
 use Rattle.mxf_verify.proofs.agreement.agree_with_front.Goals as goal
 

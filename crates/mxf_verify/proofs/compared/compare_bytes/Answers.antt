@@ -1,6 +1,5 @@
-use Rattle.std.proofs.Common.{◌∙◌, ◌+◌, ◌-◌, ◌≤◌, IfSome, length, refl, arith, subst, sym, take}
-use Rattle.std.specs.List.{AllWithin}
-use Rattle.std.specs.List.Sorted.{IsNonDecreasingBy}
+use Rattle.mxf_views.proofs.Common.{◌∙◌, ◌+◌, ◌-◌, ◌≤◌, IfSome, length, refl, arith, subst, sym}
+use Rattle.mxf_views.proofs.Common.{take, AllWithin, IsNonDecreasingBy}
 use Rattle.mxf_verify.specs.Candidates.{offset_of}
 use Rattle.mxf_verify.specs.Compared.{ComparesBytes}
 use Rattle.mxf_verify.specs.declared.compared.Compared.{Compared}

@@ -1,7 +1,4 @@
-use Rattle.std.proofs.Common.{◌↔◌, map, refl, subst, sym}
-use Rattle.mxf_catalogue.specs.Content.{IsContent}
-use Rattle.std.specs.List.{AllByRecursion}
-use Rattle.mxf_klv.specs.Rising.{In}
+use Rattle.mxf_views.proofs.Common.{◌↔◌, map, refl, subst, sym, IsContent, AllByRecursion, In}
 use Rattle.mxf_verify.specs.declared.verification.Differing.{Differing}
 use Rattle.mxf_verify.proofs.FinishingLaws.{bytes_same}
 use Rattle.mxf_verify.proofs.finishing.bytes_and_uncompared.Goals as goal

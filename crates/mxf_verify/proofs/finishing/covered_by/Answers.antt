@@ -1,6 +1,5 @@
-use Rattle.std.proofs.Common.{◌∙◌, ◌++◌, ap, subst}
+use Rattle.mxf_views.proofs.Common.{◌∙◌, ◌++◌, ap, subst, SameOffsets}
 use Rattle.std.specs.Result.{IfOk}
-use Rattle.mxf_catalogue.specs.Runs.{SameOffsets}
 use Rattle.mxf_verify.proofs.finishing.covered_by.Goals as goal
 
 pub returns : goal.returns

@@ -1,7 +1,5 @@
-use Rattle.std.proofs.Common.{◌↔◌, ◌∙◌, map, refl, subst, sym}
-use Rattle.std.specs.List.{AllByRecursion}
-use Rattle.mxf_klv.specs.Rising.{In}
-use Rattle.mxf_klv.proofs.Lists.{all_from_In}
+use Rattle.mxf_views.proofs.Common.{◌↔◌, ◌∙◌, map, refl, subst, sym, AllByRecursion, In}
+use Rattle.mxf_views.proofs.Common.{all_from_In}
 use Rattle.mxf_verify.specs.declared.verification.Differing.{Differing}
 use Rattle.mxf_verify.proofs.FinishingLaws.{bytes_same, verification_of}
 use Rattle.mxf_verify.proofs.finishing.finish.Goals as goal

@@ -1,6 +1,4 @@
-use Rattle.std.proofs.Common.{◌↔◌, ◌∙◌, ℕ, subst}
-use Rattle.std.proofs.lemmas.List.{take_all}
-use Rattle.mxf_catalogue.specs.Runs.{LiesIn}
+use Rattle.mxf_views.proofs.Common.{◌↔◌, ◌∙◌, ℕ, subst, take_all, LiesIn}
 use Rattle.mxf_verify.specs.Verifying.{IsHeldBy}
 use Rattle.mxf_verify.proofs.FinishingLaws.{bytes_more}
 use Rattle.mxf_verify.proofs.note_set.bytes_of.Goals as goal

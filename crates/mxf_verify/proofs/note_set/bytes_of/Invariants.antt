@@ -1,6 +1,5 @@
 -- The bytes of the notes so far.
-use Rattle.std.proofs.Common.{◌↔◌, ℕ, take}
-use Rattle.mxf_catalogue.specs.Runs.{LiesIn}
+use Rattle.mxf_views.proofs.Common.{◌↔◌, ℕ, take, LiesIn}
 use Rattle.mxf_verify.specs.Verifying.{IsHeldBy}
 use Rattle.mxf_verify.proofs.note_set.bytes_of.Given as goal
 

@@ -1,5 +1,4 @@
-use Rattle.mxf_klv.specs.NoteOrder.{note_total, note_cmp-IsAntisymmetric}
-use Rattle.mxf_catalogue.proofs.Places.{search_says}
+use Rattle.mxf_views.proofs.Common.{note_total, note_cmp-IsAntisymmetric, search_says}
 use Rattle.mxf_verify.proofs.note_set.place.Goals as goal
 
 pub returns : goal.returns

@@ -1,9 +1,6 @@
-use Rattle.std.proofs.Common.{rules}
+use Rattle.mxf_views.proofs.Common.{rules, is_le, IsPartitionPoint-from_clause, NoteParts}
+use Rattle.mxf_views.proofs.Common.{head_note, note_cmp}
 use denote.Bor.{Bor}
-use Rattle.std.specs.Ordering.{is_le}
-use Rattle.std.proofs.lemmas.List.Sorted.{IsPartitionPoint-from_clause}
-use Rattle.mxf_klv.specs.Parts.{NoteParts}
-use Rattle.mxf_klv.specs.Note.{head_note, note_cmp}
 use Rattle.mxf_verify.proofs.OtherLaws.{parted-count, parted_up_to}
 use Rattle.mxf_verify.proofs.others.heads_up_to.Goals as goal
 

@@ -1,6 +1,5 @@
 -- The offsets so far are those of the ranges so far.
-use Rattle.std.proofs.Common.{take}
-use Rattle.mxf_catalogue.specs.Runs.{SameOffsets}
+use Rattle.mxf_views.proofs.Common.{take, SameOffsets}
 use Rattle.mxf_verify.proofs.ranges.cover_of_each.Given as goal
 
 abbrev pub invariant-loop-run : goal.invariant-loop-run

@@ -1,9 +1,5 @@
-use Rattle.std.proofs.Common.{◌≡◌, ◌∷◌, ◌++◌, [], rules}
-use Rattle.std.proofs.lemmas.Iterator.{items_from_collect}
-use Rattle.std.proofs.lemmas.Iterator.Consumers.{YieldsList-from_first}
-use Rattle.mxf_klv.specs.Note.{greatest_end}
-use Rattle.mxf_catalogue.specs.Covers.{gaps_of_runs}
-use Rattle.mxf_catalogue.specs.Runs.{run}
+use Rattle.mxf_views.proofs.Common.{◌≡◌, ◌∷◌, ◌++◌, [], rules, items_from_collect}
+use Rattle.mxf_views.proofs.Common.{YieldsList-from_first, greatest_end, gaps_of_runs, run}
 use Rattle.mxf_verify.proofs.RangeLaws.{below_greatest, outside-offsets, outside-within}
 use Rattle.mxf_verify.proofs.ranges.outside.Goals as goal
 

@@ -1,8 +1,5 @@
-use Rattle.std.proofs.Common.{◌≡◌, ◌++◌, inl, inr, rules}
-use Rattle.std.proofs.lemmas.Iterator.Adapters.{items_from_extend}
-use Rattle.std.proofs.lemmas.Iterator.Consumers.{YieldsList-from_first}
-use Rattle.mxf_klv.proofs.Lists.{all_append}
-use Rattle.mxf_catalogue.specs.Runs.{IsWithin}
+use Rattle.mxf_views.proofs.Common.{◌≡◌, ◌++◌, inl, inr, rules, items_from_extend}
+use Rattle.mxf_views.proofs.Common.{YieldsList-from_first, all_append, IsWithin}
 use Rattle.mxf_verify.proofs.RangeLaws.{some_both}
 use Rattle.mxf_verify.proofs.ranges.outside_or_in.Goals as goal
 

@@ -1,7 +1,4 @@
-use Rattle.std.proofs.Common.{◌↔◌, ℕ, List}
-use Rattle.std.proofs.lemmas.Result.{IfOk-weaker}
-use Rattle.mxf_catalogue.specs.Runs.{LiesIn, SameOffsets}
-use Rattle.mxf_catalogue.specs.declared.run.Run.{Run}
+use Rattle.mxf_views.proofs.Common.{◌↔◌, ℕ, List, IfOk-weaker, LiesIn, SameOffsets, Run}
 use Rattle.mxf_verify.proofs.RangeLaws.{rest-offsets}
 use Rattle.mxf_verify.proofs.ranges.rest_of.Goals as goal
 

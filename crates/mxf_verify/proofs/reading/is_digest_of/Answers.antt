@@ -1,7 +1,4 @@
-use Rattle.std.proofs.Common.{◌≡◌, not, true, false}
-use Rattle.std.proofs.lemmas.Bool.{and_parts}
-use Rattle.mxf_klv.specs.Note.{keeps_value}
-use Rattle.mxf_klv.proofs.Tests.{not-true-false}
+use Rattle.mxf_views.proofs.Common.{◌≡◌, not, true, false, and_parts, keeps_value, not-true-false}
 use Rattle.mxf_verify.specs.Verifying.{is_digested}
 use Rattle.mxf_verify.proofs.reading.is_digest_of.Goals as goal
 

@@ -1,8 +1,7 @@
-use Rattle.std.proofs.Common.{◌≡◌, ◌∙◌, ◌+◌, ◌++◌, ◌∷◌, [], Bool, List, true, false, ap, append-nil, append_assoc}
-use Rattle.std.proofs.Common.{arith, length, refl, sym}
-use Rattle.mxf_klv.specs.Parts.{NoteParts}
+use Rattle.mxf_views.proofs.Common.{◌≡◌, ◌∙◌, ◌+◌, ◌++◌, ◌∷◌, [], Bool, List, true, false, ap}
+use Rattle.mxf_views.proofs.Common.{append-nil, append_assoc, arith, length, refl, sym, NoteParts}
+use Rattle.mxf_views.proofs.Common.{reduced_union}
 use mathlib.Core.Bool.{cond}
-use Rattle.mxf_catalogue.specs.Content.{reduced_union}
 use Rattle.mxf_verify.specs.Renewing.{added_of, dropped_essence, dropped_of, had_essence}
 use Rattle.mxf_verify.proofs.AnotherLaws.{dropped-one, dropped-step, had-one, had-step}
 use Rattle.mxf_verify.proofs.RenewalLaws.{added-none}

@@ -1,6 +1,5 @@
 -- What was put so far, with what is to come.
-use Rattle.std.proofs.Common.{◌≡◌, ◌+◌, ◌≤◌, ◌++◌, [], length}
-use Rattle.mxf_catalogue.specs.Content.{reduced_union}
+use Rattle.mxf_views.proofs.Common.{◌≡◌, ◌+◌, ◌≤◌, ◌++◌, [], length, reduced_union}
 use Rattle.mxf_verify.specs.Renewing.{added_of, dropped_essence, dropped_of, had_essence}
 use Rattle.mxf_verify.proofs.renewal.part.Given as goal
 

@@ -1,5 +1,4 @@
-use Rattle.std.proofs.Common.{◌∙◌, ap}
-use Rattle.mxf_catalogue.specs.Content.{reduced_union}
+use Rattle.mxf_views.proofs.Common.{◌∙◌, ap, reduced_union}
 use Rattle.mxf_verify.proofs.RenewalLaws.{renewed-by_added}
 use Rattle.mxf_verify.proofs.renewal.renew.Goals as goal
 

@@ -1,6 +1,4 @@
-use Rattle.std.proofs.Common.{◌∙◌, ◌↔◌, IsTrue, ap, not, subst, sym}
-use Rattle.std.proofs.lemmas.Bool.{not-false, not-true}
-use Rattle.mxf_klv.specs.Rising.{In}
+use Rattle.mxf_views.proofs.Common.{◌∙◌, ◌↔◌, IsTrue, ap, not, subst, sym, not-false, not-true, In}
 use Rattle.mxf_verify.proofs.OtherLaws.{headed_head, headed_whole}
 use Rattle.mxf_verify.proofs.saved.is_headed.Goals as goal
 

@@ -1,5 +1,4 @@
-use Rattle.std.proofs.Common.{subst}
-use Rattle.mxf_klv.specs.Rising.{In}
+use Rattle.mxf_views.proofs.Common.{subst, In}
 use Rattle.mxf_verify.proofs.SeenLaws.{in_either}
 use Rattle.mxf_verify.proofs.seen.put_runs.Goals as goal
 

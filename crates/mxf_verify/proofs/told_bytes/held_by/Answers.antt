@@ -1,11 +1,6 @@
-use Rattle.std.proofs.Common.{◌≡◌, ◌∙◌, [], List, ap, arith, map, subst, sym}
-use Rattle.std.proofs.lemmas.List.{drop_all}
+use Rattle.mxf_views.proofs.Common.{◌≡◌, ◌∙◌, [], List, ap, arith, map, subst, sym, drop_all}
+use Rattle.mxf_views.proofs.Common.{NoteParts, Run, union_of_runs, Covers, covered_run, covers_all}
 use denote.Bor.{Bor}
-use Rattle.mxf_klv.specs.Parts.{NoteParts}
-use Rattle.mxf_catalogue.specs.declared.run.Run.{Run}
-use Rattle.mxf_catalogue.specs.Covers.{union_of_runs}
-use Rattle.mxf_catalogue.specs.NoteLists.{Covers, covered_run}
-use Rattle.mxf_catalogue.proofs.ApartLaws.{covers_all}
 use Rattle.mxf_verify.specs.Telling.{notes_at}
 use Rattle.mxf_verify.proofs.told_bytes.held_by.Goals as goal
 

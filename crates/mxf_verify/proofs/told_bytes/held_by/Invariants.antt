@@ -1,7 +1,5 @@
 -- The runs, with those of what is to come.
-use Rattle.std.proofs.Common.{◌≡◌, [], drop, map}
-use Rattle.mxf_catalogue.specs.Covers.{union_of_runs}
-use Rattle.mxf_catalogue.specs.NoteLists.{covered_run}
+use Rattle.mxf_views.proofs.Common.{◌≡◌, [], drop, map, union_of_runs, covered_run}
 use Rattle.mxf_verify.specs.Telling.{notes_at}
 use Rattle.mxf_verify.proofs.told_bytes.held_by.Given as goal
 

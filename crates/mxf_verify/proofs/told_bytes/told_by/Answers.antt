@@ -1,5 +1,4 @@
-use Rattle.std.proofs.Common.{◌∙◌, ap, filter, subst}
-use Rattle.mxf_catalogue.specs.NoteLists.{Covers}
+use Rattle.mxf_views.proofs.Common.{◌∙◌, ap, filter, subst, Covers}
 use Rattle.mxf_verify.specs.Candidates.{notes_of}
 use Rattle.mxf_verify.specs.Telling.{notes_at}
 use Rattle.mxf_verify.specs.ToldBytes.{is_told_differing, is_told_same}

@@ -1,6 +1,5 @@
-use Rattle.std.proofs.Common.{ℕ, max, rules}
-use Rattle.std.proofs.lemmas.Iterator.{YieldsList-from_slice, items_from_collect}
-use Rattle.std.proofs.lemmas.Iterator.Consumers.{YieldsList-from_scan}
+use Rattle.mxf_views.proofs.Common.{ℕ, max, rules, YieldsList-from_slice, items_from_collect}
+use Rattle.mxf_views.proofs.Common.{YieldsList-from_scan}
 use Rattle.mxf_verify.specs.Touching.{back_of}
 use Rattle.mxf_verify.specs.declared.unit_places.UnitPlace.{UnitPlace}
 use Rattle.mxf_units.proofs.IntervalLaws.{greater}

@@ -1,5 +1,4 @@
-use Rattle.std.proofs.Common.{rules}
-use Rattle.std.proofs.lemmas.List.Sorted.{answers_always}
+use Rattle.mxf_views.proofs.Common.{rules, answers_always}
 use Rattle.mxf_verify.specs.Touching.{reach_of}
 use Rattle.mxf_verify.specs.declared.unit_places.UnitPlace.{UnitPlace}
 use Rattle.mxf_verify.proofs.TouchLaws.{end_in_order, members_back}

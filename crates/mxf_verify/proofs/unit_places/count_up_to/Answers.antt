@@ -1,6 +1,5 @@
-use Rattle.std.proofs.Common.{nat_le, rules, ℕ}
-use Rattle.std.proofs.lemmas.Bool.{leb-true, leb-false}
-use Rattle.std.proofs.lemmas.List.Sorted.{IsPartitionPoint-from_clause, IsPartitionedBy-leb}
+use Rattle.mxf_views.proofs.Common.{nat_le, rules, ℕ, leb-true, leb-false}
+use Rattle.mxf_views.proofs.Common.{IsPartitionPoint-from_clause, IsPartitionedBy-leb}
 use Rattle.mxf_verify.proofs.unit_places.count_up_to.Goals as goal
 
 pub returns : goal.returns

@@ -1,6 +1,5 @@
 -- The runs so far with a last one, and the places so far, with those of the units to come.
-use Rattle.std.proofs.Common.{◌≡◌, ◌++◌, ◌+◌, ◌-◌, filter_map}
-use Rattle.std.specs.List.{range_with_len}
+use Rattle.mxf_views.proofs.Common.{◌≡◌, ◌++◌, ◌+◌, ◌-◌, filter_map, range_with_len}
 use Rattle.mxf_units.specs.Units.{unit_of}
 use Rattle.mxf_verify.specs.Fixities.{IsFixityOf, place_of, places_of}
 use Rattle.mxf_verify.proofs.UnitRunLaws.{AreUnitsSoFar}

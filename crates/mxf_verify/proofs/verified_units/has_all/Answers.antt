@@ -1,5 +1,4 @@
-use Rattle.std.proofs.Common.{◌<◌, arith}
-use Rattle.std.proofs.lemmas.Bool.{leb-true}
+use Rattle.mxf_views.proofs.Common.{◌<◌, arith, leb-true}
 use Rattle.mxf_verify.proofs.FixityLaws.{whole_below_end}
 use Rattle.mxf_verify.proofs.verified_units.has_all.Goals as goal
 

@@ -1,5 +1,4 @@
-use Rattle.std.proofs.Common.{◌≡◌, ◌∷◌, ◌++◌, ◌∙◌, [], ap, subst, sym}
-use Rattle.mxf_views.specs.Headline.{IsTheRun}
+use Rattle.mxf_views.proofs.Common.{◌≡◌, ◌∷◌, ◌++◌, ◌∙◌, [], ap, subst, sym, IsTheRun}
 use Rattle.mxf_read.specs.Gathering.{AllTell, HandedBy}
 use Rattle.mxf_read.specs.declared.gathering.part.Part.TheVariants.{Saved}
 use Rattle.mxf_verify.proofs.verifying.read_saved.Goals as goal

@@ -1,6 +1,4 @@
-use Rattle.std.proofs.Common.{[], refl, subst, sym}
-use Rattle.std.specs.Result.{OnOk}
-use Rattle.std.proofs.lemmas.Result.{on_ok_weaker}
+use Rattle.mxf_views.proofs.Common.{[], refl, subst, sym, OnOk, on_ok_weaker}
 use Rattle.mxf_read.specs.Gathering.{Tells, bytes_of}
 use Rattle.mxf_verify.specs.Seen.{SeesNext}
 use Rattle.mxf_verify.specs.Sources.{IsSourceOf, source_at}

@@ -1,5 +1,4 @@
-use Rattle.std.proofs.Common.{◌≡◌, ◌∙◌, ◌<◌, List, arith, length, subst, sym}
-use Rattle.std.specs.Vec.Iter.{into_iter_items}
+use Rattle.mxf_views.proofs.Common.{◌≡◌, ◌∙◌, ◌<◌, List, arith, length, subst, sym, into_iter_items}
 use Rattle.mxf_read.proofs.GatheringLaws.{IsPassed, passed_none, passed_one, passed_within, told}
 use Rattle.mxf_verify.proofs.VerifyingLaws.{HasSeen, seen_all, seen_fault, seen_nothing, seen_one}
 use Rattle.mxf_verify.proofs.verifying.verify.Goals as goal

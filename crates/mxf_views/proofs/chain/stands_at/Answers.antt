@@ -1,5 +1,4 @@
-use Rattle.mxf_views.proofs.Common.{◌≡◌, ◌∙◌, None, Some, is_some, refl}
-use Rattle.std.specs.Option.{option_copied}
+use Rattle.mxf_views.proofs.Common.{◌≡◌, ◌∙◌, None, Some, is_some, refl, option_copied}
 use Rattle.mxf_views.proofs.PartitionSearch.{stands_if_found}
 use Rattle.mxf_views.proofs.chain.stands_at.Goals as goal
 

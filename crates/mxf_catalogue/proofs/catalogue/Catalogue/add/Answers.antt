@@ -1,11 +1,9 @@
-use Rattle.std.proofs.Common.{◌≡◌, ◌≤◌, ◌∙◌, [], IfOk, ap, arith, refl, sym, subst, List}
-use Rattle.std.proofs.lemmas.Result.{IfOk-weaker, on_ok_weaker}
-use Rattle.mxf_klv.specs.Note.{end_of}
-use Rattle.mxf_klv.specs.Rising.{In}
+use Rattle.mxf_klv.proofs.Common.{◌≡◌, ◌≤◌, ◌∙◌, [], IfOk, ap, arith, refl, sym, subst, List}
+use Rattle.mxf_klv.proofs.Common.{IfOk-weaker, end_of, In, NoteParts}
+use Rattle.std.proofs.lemmas.Result.{on_ok_weaker}
 use Rattle.mxf_catalogue.specs.Moved.{TellsMoved}
 use Rattle.mxf_catalogue.specs.declared.catalogue.change.Change.{Change}
 use Rattle.mxf_catalogue.specs.declared.catalogue.change.Change.TheVariants.{Repeated, Added}
-use Rattle.mxf_klv.specs.Parts.{NoteParts}
 use Rattle.mxf_catalogue.proofs.HeadLaws.{reduced_with-present}
 use Rattle.mxf_catalogue.specs.Content.{AreReduced, IsCatalogue, has_note, reduced_with, union_of}
 use Rattle.mxf_catalogue.specs.Covers.{with_run}

@@ -1,6 +1,4 @@
-use Rattle.std.proofs.Common.{◌∙◌, ap, sym, subst, List}
-use Rattle.mxf_klv.specs.Parts.{NoteParts}
-use Rattle.mxf_klv.specs.Rising.{In}
+use Rattle.mxf_klv.proofs.Common.{◌∙◌, ap, sym, subst, List, NoteParts, In}
 use Rattle.mxf_catalogue.specs.Content.{reduced_with, union_of}
 use Rattle.mxf_catalogue.specs.Covers.{with_run}
 use Rattle.mxf_catalogue.specs.NoteLists.{Covers}

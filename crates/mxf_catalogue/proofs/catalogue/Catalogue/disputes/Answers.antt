@@ -1,6 +1,4 @@
-use Rattle.std.proofs.Common.{List, subst, sym}
-use Rattle.mxf_klv.specs.Parts.{NoteParts}
-use Rattle.mxf_klv.specs.Rising.{In}
+use Rattle.mxf_klv.proofs.Common.{List, subst, sym, NoteParts, In}
 use Rattle.mxf_catalogue.specs.Disputes.{IsDisputed}
 use Rattle.mxf_catalogue.proofs.PartLaws.{In-disputed_part}
 use Rattle.mxf_catalogue.proofs.catalogue.Catalogue.disputes.Goals as goal

@@ -1,7 +1,4 @@
-use Rattle.std.proofs.Common.{◌↔◌, ◌≤◌, List, subst}
-use Rattle.mxf_klv.specs.Note.{end_of}
-use Rattle.mxf_klv.specs.Parts.{NoteParts}
-use Rattle.mxf_klv.specs.Rising.{In}
+use Rattle.mxf_klv.proofs.Common.{◌↔◌, ◌≤◌, List, subst, end_of, NoteParts, In}
 use Rattle.mxf_catalogue.proofs.catalogue.Catalogue.end.Goals as goal
 
 pub returns : goal.returns

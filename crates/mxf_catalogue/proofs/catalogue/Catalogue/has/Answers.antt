@@ -1,6 +1,4 @@
-use Rattle.std.proofs.Common.{◌≤◌, arith, List, subst, sym}
-use Rattle.mxf_klv.specs.Note.{end_of}
-use Rattle.mxf_klv.specs.Parts.{NoteParts}
+use Rattle.mxf_klv.proofs.Common.{◌≤◌, arith, List, subst, sym, end_of, NoteParts}
 use Rattle.mxf_catalogue.specs.Content.{has_note, union_of}
 use Rattle.mxf_catalogue.proofs.KeptLaws.{above_new}
 use Rattle.mxf_catalogue.proofs.catalogue.Catalogue.has.Goals as goal

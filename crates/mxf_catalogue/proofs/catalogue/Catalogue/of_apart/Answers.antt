@@ -1,5 +1,4 @@
-use Rattle.std.proofs.Common.{[], subst, sym, List}
-use Rattle.mxf_klv.specs.Parts.{NoteParts}
+use Rattle.mxf_klv.proofs.Common.{[], subst, sym, List, NoteParts}
 use Rattle.mxf_catalogue.specs.declared.run.Run.{Run}
 use Rattle.mxf_catalogue.specs.NoteLists.{Covers, AreCatalogueFields}
 use Rattle.mxf_catalogue.proofs.ApartLaws.{whole_apart}

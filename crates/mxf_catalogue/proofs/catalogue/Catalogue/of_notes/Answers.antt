@@ -1,5 +1,4 @@
-use Rattle.std.proofs.Common.{◌≡◌, ◌∙◌, rules}
-use Rattle.std.specs.Vec.Iter.{into_iter_items}
+use Rattle.mxf_klv.proofs.Common.{◌≡◌, ◌∙◌, rules, into_iter_items}
 use Rattle.mxf_catalogue.specs.Content.{reduced_union}
 use Rattle.mxf_catalogue.proofs.HeadLaws.{reduced_union-none}
 use Rattle.mxf_catalogue.proofs.catalogue.Catalogue.of_notes.Goals as goal

@@ -1,6 +1,5 @@
 -- What is there and what is to come make up the notes.
-use Rattle.std.proofs.Common.{◌≡◌}
-use Rattle.std.specs.Vec.Iter.{into_iter_items}
+use Rattle.mxf_klv.proofs.Common.{◌≡◌, into_iter_items}
 use Rattle.mxf_catalogue.specs.Content.{reduced_union}
 use Rattle.mxf_catalogue.proofs.catalogue.Catalogue.of_notes.Given as goal
 

@@ -1,8 +1,6 @@
-use Rattle.std.proofs.Common.{◌∙◌, ap, sym, subst, ◌≡◌, ◌≢◌, Some, None}
-use Rattle.std.specs.Prelude.{IfSome, IfNone, find, ◌==◌}
-use Rattle.std.specs.Option.{option_copied}
-use Rattle.mxf_klv.specs.Parts.{NoteParts}
-use Rattle.mxf_klv.specs.Rising.{In}
+use Rattle.mxf_klv.proofs.Common.{◌∙◌, ap, sym, subst, ◌≡◌, ◌≢◌, Some, None, IfSome, find}
+use Rattle.mxf_klv.proofs.Common.{option_copied, NoteParts, In}
+use Rattle.std.specs.Prelude.{IfNone, ◌==◌}
 use Rattle.mxf_catalogue.specs.Disputes.{undisputed_notes}
 use Rattle.mxf_catalogue.proofs.DisputeLaws.{undisputed_at-found, undisputed_at-lacked}
 use Rattle.mxf_catalogue.proofs.PartLaws.{undisputed_part}

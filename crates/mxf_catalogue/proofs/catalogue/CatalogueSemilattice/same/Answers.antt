@@ -1,6 +1,4 @@
-use Rattle.std.proofs.Common.{◌≡◌, true, sym, ◌∙◌, subst}
-use Rattle.std.proofs.lemmas.Slice.Eq.{slice_eq-Decides}
-use Rattle.mxf_klv.specs.Parts.{NoteParts}
+use Rattle.mxf_klv.proofs.Common.{◌≡◌, true, sym, ◌∙◌, subst, slice_eq-Decides, NoteParts}
 use Rattle.mxf_catalogue.specs.Content.{has_note, union_of}
 use Rattle.mxf_catalogue.proofs.HeadLaws.{same_members}
 use Rattle.mxf_catalogue.proofs.PartLaws.{same_parts}

@@ -1,6 +1,5 @@
-use Rattle.std.proofs.Common.{◌+◌, ◌<◌, ◌≤◌, ◌||◌, ℕ, length, nat_lt, subst}
-use Rattle.std.specs.List.{AllWithin}
-use Rattle.mxf_klv.specs.Parts.{NoteParts}
+use Rattle.mxf_klv.proofs.Common.{◌+◌, ◌<◌, ◌≤◌, ◌||◌, ℕ, length, nat_lt, subst, AllWithin}
+use Rattle.mxf_klv.proofs.Common.{NoteParts}
 use Rattle.mxf_catalogue.proofs.MarkLaws.{left_rises, marks_are}
 use Rattle.mxf_catalogue.proofs.catalogue.disputed.mark.Goals as goal
 

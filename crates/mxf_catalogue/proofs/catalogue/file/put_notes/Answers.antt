@@ -1,7 +1,6 @@
-use Rattle.std.proofs.Common.{◌++◌, ◌∷◌, ◌∙◌, [], List, ap, append-nil, append_assoc, arith, sym}
+use Rattle.mxf_klv.proofs.Common.{◌++◌, ◌∷◌, ◌∙◌, [], List, ap, append-nil, append_assoc, arith}
+use Rattle.mxf_klv.proofs.Common.{sym, err_from_is_err_and, NoteParts}
 use Rattle.std.proofs.KnownBytes.{Appends-nil}
-use Rattle.std.proofs.lemmas.Result.{err_from_is_err_and}
-use Rattle.mxf_klv.specs.Parts.{NoteParts}
 use Rattle.mxf_catalogue.proofs.FileParts.{fails_in_note, note_written}
 use Rattle.mxf_catalogue.proofs.catalogue.file.put_notes.Goals as goal
 

@@ -1,9 +1,6 @@
 -- Some notes were written, and the others are to come.
-use Rattle.std.proofs.Common.{◌≡◌, ◌+◌, ◌++◌, List, length}
-use Rattle.std.specs.Io.KnownBytes.{Appends}
-use Rattle.std.specs.List.{flat_map}
-use Rattle.mxf_klv.specs.Parts.{NoteParts}
-use Rattle.mxf_klv.specs.Written.{counted}
+use Rattle.mxf_klv.proofs.Common.{◌≡◌, ◌+◌, ◌++◌, List, length, Appends, flat_map, NoteParts}
+use Rattle.mxf_klv.proofs.Common.{counted}
 use Rattle.mxf_catalogue.specs.CatalogueFile.{note_bytes}
 use Rattle.mxf_catalogue.specs.declared.catalogue.file.start.Version.TheVariants.{Two}
 use Rattle.mxf_catalogue.proofs.catalogue.file.put_notes.Given as goal

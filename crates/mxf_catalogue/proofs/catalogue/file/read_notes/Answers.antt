@@ -1,7 +1,6 @@
-use Rattle.std.proofs.Common.{◌+◌, ◌++◌, ◌∷◌, ◌∙◌, [], List, arith, ap, refl, sym, subst, length, length-append}
+use Rattle.mxf_klv.proofs.Common.{◌+◌, ◌++◌, ◌∷◌, ◌∙◌, [], List, arith, ap, refl, sym, subst}
+use Rattle.mxf_klv.proofs.Common.{length, length-append, err_from_is_err_and, NoteParts}
 use Rattle.std.specs.Prelude.{IsTrue}
-use Rattle.std.proofs.lemmas.Result.{err_from_is_err_and}
-use Rattle.mxf_klv.specs.Parts.{NoteParts}
 use Rattle.mxf_catalogue.specs.Content.{IsContent}
 use Rattle.mxf_catalogue.specs.CatalogueFile.{IsFront, IsHeadLast}
 use Rattle.mxf_catalogue.proofs.FileBytes.{front_next, front_place}

@@ -1,5 +1,4 @@
-use Rattle.std.proofs.Common.{◌≡◌, ◌∙◌, ◌++◌, List, ap, append-nil, sym, subst}
-use Rattle.mxf_klv.specs.Parts.{NoteParts}
+use Rattle.mxf_klv.proofs.Common.{◌≡◌, ◌∙◌, ◌++◌, List, ap, append-nil, sym, subst, NoteParts}
 use Rattle.mxf_catalogue.specs.Content.{IsContent, union_of}
 use Rattle.mxf_catalogue.proofs.ContentLaws.{IsContent-union_of}
 use Rattle.mxf_catalogue.proofs.catalogue.merging.merged.Goals as goal

@@ -1,6 +1,4 @@
-use Rattle.std.proofs.Common.{◌∙◌, ◌++◌, List, ap, append-nil, sym}
-use Rattle.std.proofs.lemmas.List.{drop_all}
-use Rattle.mxf_klv.specs.Parts.{NoteParts}
+use Rattle.mxf_klv.proofs.Common.{◌∙◌, ◌++◌, List, ap, append-nil, sym, drop_all, NoteParts}
 use Rattle.mxf_catalogue.proofs.catalogue.note_lists.copies_of.Goals as goal
 
 pub returns : goal.returns

@@ -1,12 +1,10 @@
-use Rattle.std.proofs.Common.{length, sym, ◌∙◌, ap, subst}
-use Rattle.std.proofs.lemmas.Bool.{ltb-true, lt-ltb, false≢true}
-use Rattle.mxf_klv.specs.Parts.{NoteParts}
-use Rattle.mxf_klv.specs.Rising.{In}
+use Rattle.mxf_klv.proofs.Common.{length, sym, ◌∙◌, ap, subst, ltb-true, lt-ltb, false≢true}
+use Rattle.mxf_klv.proofs.Common.{NoteParts, In}
 use Rattle.mxf_catalogue.proofs.Ranges.{stands_at}
-use Rattle.mxf_catalogue.proofs.catalogue.placing.at_offset.Goals as goal
 use Rattle.mxf_catalogue.proofs.catalogue.placing.at_offset.Goals.{in_default-via-in-Some+else-offset}
 use Rattle.mxf_catalogue.proofs.catalogue.placing.at_offset.Goals.{in_default-via-in_default}
 use Rattle.mxf_klv.proofs.Lists.{In-at}
+use Rattle.mxf_catalogue.proofs.catalogue.placing.at_offset.Goals as goal
 
 pub returns-in-Some-clause-found : goal.returns-in-Some-clause-found
 returns-in-Some-clause-found c =

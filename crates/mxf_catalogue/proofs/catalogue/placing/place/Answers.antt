@@ -1,5 +1,4 @@
-use Rattle.std.proofs.Common.{sym}
-use Rattle.mxf_klv.specs.NoteOrder.{note_total, note_cmp-IsAntisymmetric}
+use Rattle.mxf_klv.proofs.Common.{sym, note_total, note_cmp-IsAntisymmetric}
 use Rattle.mxf_catalogue.proofs.Places.{place_at_end, search_says}
 use Rattle.mxf_klv.proofs.Tests.{less_from_test}
 use Rattle.mxf_catalogue.proofs.catalogue.placing.place.Goals as goal

@@ -1,7 +1,5 @@
-use Rattle.std.proofs.Common.{sym, ◌∙◌, ap, subst}
-use Rattle.std.specs.List.{insert}
-use Rattle.mxf_klv.specs.NoteOrder.{note_total, note_cmp-IsAntisymmetric}
-use Rattle.mxf_klv.specs.Rising.{In}
+use Rattle.mxf_klv.proofs.Common.{sym, ◌∙◌, ap, subst, insert, note_total, note_cmp-IsAntisymmetric}
+use Rattle.mxf_klv.proofs.Common.{In}
 use Rattle.mxf_klv.proofs.RisingLemmas.{with_one_present}
 use Rattle.mxf_catalogue.specs.Content.{IsContent}
 use Rattle.mxf_catalogue.proofs.ContentLaws.{IsContent-with_note}

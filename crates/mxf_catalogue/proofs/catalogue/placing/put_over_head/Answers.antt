@@ -1,6 +1,4 @@
-use Rattle.std.proofs.Common.{get_or}
-use Rattle.mxf_klv.specs.NoteOrder.{note_total, note_cmp-IsAntisymmetric}
-use Rattle.mxf_klv.specs.Note.{head_note}
+use Rattle.mxf_klv.proofs.Common.{get_or, note_total, note_cmp-IsAntisymmetric, head_note}
 use Rattle.mxf_catalogue.proofs.Heads.{set_over_head}
 use Rattle.mxf_catalogue.proofs.Places.{search_says}
 use Rattle.mxf_catalogue.proofs.catalogue.placing.put_over_head.Goals as goal

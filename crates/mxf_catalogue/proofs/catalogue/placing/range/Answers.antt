@@ -1,7 +1,4 @@
-use Rattle.std.proofs.Common.{◌<◌, ◌≤◌, subst, length}
-use Rattle.std.specs.List.{AllWithin}
-use Rattle.mxf_klv.specs.Note.{end_of}
-use Rattle.mxf_klv.specs.Parts.{NoteParts}
+use Rattle.mxf_klv.proofs.Common.{◌<◌, ◌≤◌, subst, length, AllWithin, end_of, NoteParts}
 use Rattle.mxf_catalogue.proofs.Ranges.{in_order, touched_range, other_ranges}
 use Rattle.mxf_catalogue.proofs.catalogue.placing.range.Goals as goal
 

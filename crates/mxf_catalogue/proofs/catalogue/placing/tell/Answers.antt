@@ -1,5 +1,4 @@
-use Rattle.std.proofs.Common.{sym}
-use Rattle.std.proofs.lemmas.Bool.{ltb-true, ltb-false}
+use Rattle.mxf_klv.proofs.Common.{sym, ltb-true, ltb-false}
 use Rattle.mxf_catalogue.proofs.Heads.{tells_at, none_tells}
 use Rattle.mxf_catalogue.proofs.catalogue.placing.tell.Goals as goal
 

@@ -1,6 +1,5 @@
-use Rattle.std.proofs.Common.{◌∙◌, ◌+◌, ◌<◌, ◌≤◌, ◌≡◌, arith, ap, drop, get_or, length}
-use Rattle.std.specs.List.{AllWithin}
-use Rattle.mxf_klv.specs.Note.{IsNote, end_of}
+use Rattle.mxf_klv.proofs.Common.{◌∙◌, ◌+◌, ◌<◌, ◌≤◌, ◌≡◌, arith, ap, drop, get_or, length}
+use Rattle.mxf_klv.proofs.Common.{AllWithin, IsNote, end_of}
 use Rattle.mxf_catalogue.proofs.Ranges.{zone_range}
 use Rattle.mxf_klv.proofs.Lists.{all-In, In-at}
 use Rattle.mxf_catalogue.proofs.catalogue.placing.within.Goals as goal

@@ -1,6 +1,5 @@
-use Rattle.std.proofs.Common.{◌∙◌, drop, nat_lt, true}
-use Rattle.std.proofs.lemmas.Bool.{le-ltb, lt-ltb}
-use Rattle.std.specs.Option.{option_map_or}
+use Rattle.mxf_klv.proofs.Common.{◌∙◌, drop, nat_lt, true, lt-ltb, option_map_or}
+use Rattle.std.proofs.lemmas.Bool.{le-ltb}
 use Rattle.mxf_klv.proofs.Windows.{window}
 use Rattle.mxf_catalogue.proofs.cover.placing.between.Goals as goal
 

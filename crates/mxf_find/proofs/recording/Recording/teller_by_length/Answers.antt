@@ -1,5 +1,4 @@
-use Rattle.std.proofs.Common.{None, Some, refl, sym, subst}
-use Rattle.std.specs.Option.{IfNone}
+use Rattle.mxf_klv.proofs.Common.{None, Some, refl, sym, subst, IfNone}
 use Rattle.mxf_find.specs.Telling.{IsNoneOf, is_teller_by_length}
 use Rattle.mxf_find.proofs.TellerLaws.{lent, length_held, length_none, length_one, length_unsound}
 use Rattle.mxf_find.proofs.recording.Recording.teller_by_length.Goals as goal

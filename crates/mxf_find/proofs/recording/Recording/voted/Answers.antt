@@ -1,5 +1,4 @@
-use Rattle.std.proofs.Common.{List, subst}
-use Rattle.mxf_klv.specs.Parts.{NoteParts}
+use Rattle.mxf_klv.proofs.Common.{List, subst, NoteParts}
 use Rattle.mxf_catalogue.specs.Content.{IsContent}
 use Rattle.mxf_find.proofs.VoteLaws.{votes_found, votes_one}
 use Rattle.mxf_find.proofs.recording.Recording.voted.Goals as goal

@@ -1,5 +1,4 @@
-use Rattle.std.proofs.Common.{rules}
-use Rattle.std.proofs.lemmas.Iterator.Consumers.{YieldsList-from_first}
+use Rattle.mxf_views.proofs.Common.{rules, YieldsList-from_first}
 use Rattle.std.proofs.lemmas.Iterator.Search.{any_from_yields_List}
 use Rattle.mxf_findings.proofs.Common.{◌∙◌, ◌==◌, not}
 use Rattle.mxf_findings.proofs.KeptFindings.{other_among_rips}

@@ -1,5 +1,4 @@
-use Rattle.std.proofs.Common.{◌≡◌, List, [], subst, sym}
-use Rattle.mxf_klv.specs.Parts.{NoteParts}
+use Rattle.mxf_views.proofs.Common.{◌≡◌, List, [], subst, sym, NoteParts}
 use Rattle.mxf_hand.specs.Noting.{IsReading}
 use Rattle.mxf_hand.specs.Barren.{AreAllBarren, IsBarren}
 use Rattle.mxf_hand.specs.Hand.{read_bytes}

@@ -1,5 +1,4 @@
-use Rattle.std.proofs.Common.{List, [], Option, IfSome, subst, sym}
-use Rattle.mxf_klv.specs.Parts.{NoteParts}
+use Rattle.mxf_views.proofs.Common.{List, [], Option, IfSome, subst, sym, NoteParts}
 use Rattle.mxf_hand.specs.Noting.{IsReading}
 use Rattle.mxf_hand.specs.Hand.{read_bytes}
 use Rattle.mxf_hand.proofs.BarrenLaws.{found_barren}

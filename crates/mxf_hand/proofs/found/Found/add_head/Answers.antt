@@ -1,7 +1,5 @@
-use Rattle.std.proofs.Common.{◌∙◌, ◌+◌, [], map, refl, subst, sym, Option}
-use Rattle.mxf_klv.specs.Parts.{NoteParts}
-use Rattle.mxf_catalogue.specs.Covers.{with_run}
-use Rattle.mxf_catalogue.specs.Runs.{run}
+use Rattle.mxf_views.proofs.Common.{◌∙◌, ◌+◌, [], map, refl, subst, sym, Option, NoteParts}
+use Rattle.mxf_views.proofs.Common.{with_run, run}
 use Rattle.mxf_read.specs.Feeding.{option_list}
 use Rattle.mxf_hand.specs.Finding.{Grows}
 use Rattle.mxf_hand.specs.declared.found.CutHead.{CutHead}

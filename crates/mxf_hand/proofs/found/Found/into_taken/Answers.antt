@@ -1,6 +1,4 @@
-use Rattle.std.proofs.Common.{◌∙◌, List, [], ap, filter, map, sym}
-use Rattle.mxf_klv.specs.Parts.{NoteParts}
-use Rattle.mxf_catalogue.specs.Content.{reduced_union}
+use Rattle.mxf_views.proofs.Common.{◌∙◌, List, [], ap, filter, map, sym, NoteParts, reduced_union}
 use Rattle.mxf_read.proofs.Taking.{union_append}
 use Rattle.mxf_hand.specs.Finding.{read_notes}
 use Rattle.mxf_hand.specs.Rounds.{is_taken}

@@ -1,6 +1,5 @@
-use Rattle.std.proofs.Common.{◌≡◌, ◌+◌, ◌∙◌, ℕ, ap, arith, subst}
-use Rattle.mxf_klv.specs.Note.{covered_end, end_of}
-use Rattle.mxf_klv.specs.Parts.{LengthParts}
+use Rattle.mxf_views.proofs.Common.{◌≡◌, ◌+◌, ◌∙◌, ℕ, ap, arith, subst, covered_end, end_of}
+use Rattle.mxf_views.proofs.Common.{LengthParts}
 use Rattle.mxf_read.specs.Coming.{HasTaken}
 use Rattle.mxf_hand.specs.Given.{bytes_between}
 use Rattle.mxf_read.proofs.ComingLaws.{some_where}

@@ -1,7 +1,4 @@
-use Rattle.std.proofs.Common.{List, sym, subst}
-use Rattle.std.specs.Prelude.{IfNone}
-use Rattle.mxf_klv.specs.Rising.{In}
-use Rattle.mxf_catalogue.specs.Runs.{LiesIn}
+use Rattle.mxf_views.proofs.Common.{List, sym, subst, IfNone, In, LiesIn}
 use Rattle.mxf_hand.specs.Places.{GivenParts, LiesInPlace}
 use Rattle.mxf_hand.specs.declared.given.Place.{Place}
 use Rattle.mxf_hand.proofs.PlaceLaws.{HaveOffsets, have_offsets, none_given}

@@ -1,5 +1,4 @@
-use Rattle.std.proofs.Common.{◌∙◌, List, Option, subst, sym}
-use Rattle.mxf_klv.proofs.Lists.{In-at}
+use Rattle.mxf_views.proofs.Common.{◌∙◌, List, Option, subst, sym, In-at}
 use Rattle.mxf_hand.specs.Given.{AreTold, SourceParts}
 use Rattle.mxf_hand.specs.Places.{place}
 use Rattle.mxf_hand.proofs.ComparingLaws.{all_compared_more}

@@ -1,7 +1,6 @@
-use Rattle.std.proofs.Common.{◌∙◌, ◌+◌, ◌-◌, ◌++◌, List, ℕ, Option, arith, inr, length, length-append, length-take}
-use Rattle.std.proofs.Common.{refl, subst}
-use Rattle.std.proofs.Common.{sym, take}
-use Rattle.std.proofs.lemmas.List.{take-append-le}
+use Rattle.mxf_views.proofs.Common.{◌∙◌, ◌+◌, ◌-◌, ◌++◌, List, ℕ, Option, arith, inr, length}
+use Rattle.mxf_views.proofs.Common.{length-append, refl, subst, sym, take, take-append-le}
+use Rattle.std.proofs.Common.{length-take}
 use Rattle.std.specs.Prelude.{IfSome}
 use borrow.Rule.Slice.PartMut.{post_of}
 use Rattle.mxf_hand.specs.Given.{SourceParts, StandAt}

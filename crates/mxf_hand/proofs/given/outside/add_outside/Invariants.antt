@@ -1,6 +1,5 @@
 -- The offsets so far, with those from where one has come to.
-use Rattle.std.proofs.Common.{◌≡◌, Some, filter}
-use Rattle.mxf_catalogue.specs.Covers.{is_between}
+use Rattle.mxf_views.proofs.Common.{◌≡◌, Some, filter, is_between}
 use Rattle.mxf_hand.specs.Outside.{with_outside}
 use Rattle.mxf_hand.proofs.given.outside.add_outside.Given as goal
 

@@ -1,12 +1,9 @@
-use Rattle.std.proofs.Common.{◌∙◌, ◌↔◌, [], List, ap, subst, sym}
-use Rattle.std.specs.List.{AllByRecursion}
-use Rattle.mxf_catalogue.specs.declared.run.Run.{Run}
-use Rattle.mxf_catalogue.specs.Covers.{IsCover, IsRun}
-use Rattle.mxf_catalogue.specs.Runs.{LiesIn}
+use Rattle.mxf_views.proofs.Common.{◌∙◌, ◌↔◌, [], List, ap, subst, sym, AllByRecursion, Run}
+use Rattle.mxf_views.proofs.Common.{IsCover, IsRun, LiesIn}
 use Rattle.mxf_hand.specs.Outside.{with_all_outside}
 use Rattle.mxf_hand.proofs.OutsideLaws.{IsCover-with_all_outside, LiesIn-outside}
-use Rattle.mxf_hand.proofs.given.outside.outside.Goals as goal
 use Rattle.mxf_places.proofs.ByteLaws.{runs_of_cover}
+use Rattle.mxf_hand.proofs.given.outside.outside.Goals as goal
 
 pub loop-run-init : goal.loop-run-init
 loop-run-init c =

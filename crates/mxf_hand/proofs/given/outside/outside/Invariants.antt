@@ -1,7 +1,5 @@
 -- The offsets so far, with those of the runs that are to come.
-use Rattle.std.proofs.Common.{◌≡◌, []}
-use Rattle.std.specs.List.{AllByRecursion}
-use Rattle.mxf_catalogue.specs.Covers.{IsRun}
+use Rattle.mxf_views.proofs.Common.{◌≡◌, [], AllByRecursion, IsRun}
 use Rattle.mxf_hand.specs.Outside.{with_all_outside}
 use Rattle.mxf_hand.proofs.given.outside.outside.Given as goal
 

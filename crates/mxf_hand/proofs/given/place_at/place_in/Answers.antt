@@ -1,6 +1,5 @@
-use Rattle.std.proofs.Common.{◌≡◌, ◌<◌, Some, refl, subst, length}
-use Rattle.std.proofs.lemmas.Option.{slice_get_past, slice_get_read}
-use Rattle.std.specs.Prelude.{slice_get}
+use Rattle.mxf_views.proofs.Common.{◌≡◌, ◌<◌, Some, refl, subst, length, slice_get_read, slice_get}
+use Rattle.std.proofs.lemmas.Option.{slice_get_past}
 use Rattle.mxf_hand.specs.declared.given.Place.{Place}
 use Rattle.mxf_hand.proofs.PlaceLaws.{ends_never_fall, first_above, none_has}
 use Rattle.mxf_hand.proofs.given.place_at.place_in.Goals as goal

@@ -1,6 +1,5 @@
 -- The offsets so far, with those of the places that are to come.
-use Rattle.std.proofs.Common.{◌≡◌, [], drop, map}
-use Rattle.mxf_catalogue.specs.Covers.{union_of_runs}
+use Rattle.mxf_views.proofs.Common.{◌≡◌, [], drop, map, union_of_runs}
 use Rattle.mxf_hand.specs.Places.{run_of}
 use Rattle.mxf_hand.proofs.given.placing.cover_of.Given as goal
 

@@ -1,5 +1,4 @@
-use Rattle.std.proofs.Common.{rules}
-use Rattle.std.proofs.lemmas.List.Sorted.{IsNonDecreasingBy-from_sort_by_key}
+use Rattle.mxf_views.proofs.Common.{rules, IsNonDecreasingBy-from_sort_by_key}
 use Rattle.mxf_hand.specs.declared.given.Place.{Place}
 use Rattle.mxf_hand.proofs.given.placing.sort_by_start.Goals as goal
 

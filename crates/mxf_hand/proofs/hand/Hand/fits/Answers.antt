@@ -1,8 +1,5 @@
-use Rattle.std.proofs.Common.{◌≡◌, ◌∙◌, ◌≤◌, ◌<◌, ◌+◌, ◌-◌, ℕ, List, ap, arith, inl, inr, refl, subst, sym, get_or, length}
-use Rattle.std.proofs.Common.{◌≢◌}
-use Rattle.mxf_klv.specs.Rising.{In}
-use Rattle.mxf_catalogue.specs.declared.run.Run.{Run}
-use Rattle.mxf_catalogue.specs.Runs.{LiesIn}
+use Rattle.mxf_views.proofs.Common.{◌≡◌, ◌∙◌, ◌≤◌, ◌<◌, ◌+◌, ◌-◌, ℕ, List, ap, arith, inl, inr}
+use Rattle.mxf_views.proofs.Common.{refl, subst, sym, get_or, length, ◌≢◌, In, Run, LiesIn}
 use Rattle.mxf_hand.specs.Given.{AreTold, bytes_between}
 use Rattle.mxf_hand.specs.Hand.{HandParts}
 use Rattle.mxf_hand.specs.Heads.{key_and_length}

@@ -1,6 +1,5 @@
-use Rattle.std.proofs.Common.{◌≡◌, subst, sym}
+use Rattle.mxf_views.proofs.Common.{◌≡◌, subst, sym, LiesIn}
 use Rattle.std.specs.Result.{IfOk}
-use Rattle.mxf_catalogue.specs.Runs.{LiesIn}
 use Rattle.mxf_hand.specs.Hand.{AreToldIn, HandBytes, HandParts, packet_of}
 use Rattle.mxf_hand.proofs.hand.Hand.packet_of.Goals as goal
 

@@ -1,9 +1,7 @@
-use Rattle.std.proofs.Common.{◌≡◌, ◌∙◌, filter, map, map-id, not, rules, subst}
+use Rattle.mxf_views.proofs.Common.{◌≡◌, ◌∙◌, filter, map, map-id, not, rules, subst}
+use Rattle.mxf_views.proofs.Common.{YieldsList-from_map_by, YieldsList-at, YieldsList-from_filter}
+use Rattle.mxf_views.proofs.Common.{YieldsList-from_first, map_from_collect, NoteParts}
 use Rattle.std.specs.Result.{IfOk}
-use Rattle.std.proofs.lemmas.Iterator.{YieldsList-from_map_by}
-use Rattle.std.proofs.lemmas.Iterator.Consumers.{YieldsList-at, YieldsList-from_filter, YieldsList-from_first}
-use Rattle.std.proofs.lemmas.Iterator.Consumers.{map_from_collect}
-use Rattle.mxf_klv.specs.Parts.{NoteParts}
 use Rattle.mxf_hand.specs.declared.head.HeadNote.{HeadNote}
 use Rattle.mxf_hand.proofs.HeadNoteLaws.{heads_are}
 use Rattle.mxf_hand.proofs.head.Heads.of.Goals as goal

@@ -1,5 +1,4 @@
-use Rattle.std.proofs.lemmas.Result.{err_from_is_err_and}
-use Rattle.mxf_klv.specs.Ber.{length_bytes}
+use Rattle.mxf_klv.proofs.Common.{err_from_is_err_and, length_bytes}
 use Rattle.mxf_klv.proofs.WrittenParts.{StopsIn-middle, WritesPart-after}
 use Rattle.mxf_klv.proofs.packet.PacketEncode.put_to.Goals as goal
 

@@ -1,7 +1,5 @@
-use Rattle.std.proofs.Common.{◌≡◌, ◌∙◌, ◌*◌, ◌<◌, ℕ, arith, length, subst}
-use Rattle.std.proofs.KnownBytes.{Appends-nil}
-use Rattle.std.proofs.lemmas.Result.{err_from_is_err_and}
-use Rattle.mxf_klv.specs.Written.{Writes}
+use Rattle.mxf_views.proofs.Common.{◌≡◌, ◌∙◌, ◌*◌, ◌<◌, ℕ, arith, length, subst, Appends-nil}
+use Rattle.mxf_views.proofs.Common.{err_from_is_err_and, Writes}
 use Rattle.mxf_places.specs.AtHand.{KnownParts}
 use Rattle.mxf_map.specs.Map.{IsMap, MapParts}
 use Rattle.mxf_map.specs.declared.extent.MapExtent.{MapExtent}

@@ -1,7 +1,4 @@
-use Rattle.std.proofs.Common.{◌∙◌, Bool, Some, ap, cond, refl}
-use Rattle.std.specs.BTreeMap.{get}
-use Rattle.std.specs.Ordering.{nat_cmp}
-use Rattle.mxf_sets.proofs.TableLaws.{at_equal}
+use Rattle.mxf_views.proofs.Common.{◌∙◌, Bool, Some, ap, cond, refl, get, nat_cmp, at_equal}
 use Rattle.mxf_lines.proofs.RecordLaws.{records_one_more}
 use Rattle.mxf_lines.proofs.printing.references.add_record.Goals as goal
 

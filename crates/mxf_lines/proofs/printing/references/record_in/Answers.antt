@@ -1,9 +1,5 @@
-use Rattle.std.proofs.Common.{◌∙◌, ap, sym}
+use Rattle.mxf_views.proofs.Common.{◌∙◌, ap, sym, result_ok, kind_of, identification_at, package_at}
 use Rattle.std.specs.Prelude.{option_map}
-use Rattle.std.specs.Result.{result_ok}
-use Rattle.mxf_klv.specs.Kind.{kind_of}
-use Rattle.mxf_sets.specs.Identification.{identification_at}
-use Rattle.mxf_sets.specs.Package.{package_at}
 use Rattle.mxf_lines.specs.declared.printing.references.Record.TheVariants as records
 use Rattle.mxf_lines.proofs.printing.references.record_in.Goals as goal
 

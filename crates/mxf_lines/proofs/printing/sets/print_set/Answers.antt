@@ -1,11 +1,8 @@
-use Rattle.std.proofs.Common.{ℕ, List, Option, ◌∷◌, sym, ap, subst, ◌∙◌, option_and_then}
-use Rattle.mxf_klv.specs.Written.{Puts}
-use Rattle.mxf_sets.specs.Items.{ItemParts}
-use Rattle.mxf_views.specs.Labels.{primer_for, primer_of}
+use Rattle.mxf_views.proofs.Common.{ℕ, List, Option, ◌∷◌, sym, ap, subst, ◌∙◌, option_and_then}
+use Rattle.mxf_views.proofs.Common.{Puts, ItemParts, primer_for, primer_of, CopyInfo}
 use Rattle.mxf_lines.specs.ItemLines.{label_by_copy, item_line, item_lines}
 use Rattle.mxf_lines.specs.Lines.{lines_where}
 use Rattle.mxf_lines.specs.Printing.{Prints}
-use Rattle.mxf_views.specs.declared.copy.CopyInfo.{CopyInfo}
 use Rattle.mxf_lines.proofs.printing.sets.print_set.Goals as goal
 
 pub returns-clause-lines : goal.returns-clause-lines

@@ -1,6 +1,5 @@
 -- What is said of the units to come is said of all.
-use Rattle.std.proofs.Common.{◌≡◌}
-use Rattle.std.specs.List.{list_any}
+use Rattle.mxf_views.proofs.Common.{◌≡◌, list_any}
 use Rattle.mxf_units.specs.Ranges.{units_with_keys}
 use Rattle.mxf_lines.specs.UnitPlanLines.{is_open}
 use Rattle.mxf_lines.proofs.printing.unit_plan.is_any_open.Given as goal

@@ -1,6 +1,5 @@
-use Rattle.std.proofs.Common.{◌≡◌, ◌<◌, ℕ, IfOk, arith, length, length-append, rules, subst}
-use Rattle.std.proofs.lemmas.Result.{err_from_is_err_and}
-use Rattle.mxf_klv.specs.Written.{Writes}
+use Rattle.mxf_views.proofs.Common.{◌≡◌, ◌<◌, ℕ, IfOk, arith, length, length-append, rules, subst}
+use Rattle.mxf_views.proofs.Common.{err_from_is_err_and, Writes}
 use Rattle.mxf_units.specs.Units.{UnitsParts}
 use Rattle.mxf_partial.proofs.UnitPlanLaws.{one_plan}
 use Rattle.mxf_partial.specs.Orders.{IsUnitPlan, UnitPlanParts}

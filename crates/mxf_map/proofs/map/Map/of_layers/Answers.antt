@@ -1,6 +1,4 @@
-use Rattle.std.proofs.Common.{List, ap, length, sym, ◌∙◌}
-use Rattle.mxf_klv.specs.Parts.{NoteParts}
-use Rattle.mxf_catalogue.specs.Disputes.{disputed_notes}
+use Rattle.mxf_views.proofs.Common.{List, ap, length, sym, ◌∙◌, NoteParts, disputed_notes}
 use Rattle.mxf_map.specs.Map.{gaps_below, held_below}
 use Rattle.mxf_map.proofs.map.Map.of_layers.Goals as goal
 

@@ -1,7 +1,4 @@
-use Rattle.std.proofs.Common.{◌<◌, List, subst, sym, ℕ}
-use Rattle.std.specs.List.{AllByRecursion}
-use Rattle.mxf_klv.specs.Note.{greatest_end}
-use Rattle.mxf_klv.specs.Rising.{In}
+use Rattle.mxf_views.proofs.Common.{◌<◌, List, subst, sym, ℕ, AllByRecursion, greatest_end, In}
 use Rattle.mxf_restore.specs.Missing.{missing_places}
 use Rattle.mxf_map.proofs.LayerLaws.{missing_within, offsets_of}
 use Rattle.mxf_map.proofs.map.missing.missing.Goals as goal

@@ -1,8 +1,7 @@
-use Rattle.std.proofs.Common.{◌≡◌, ◌∙◌, List, ap, filter, map, rules}
-use Rattle.std.proofs.lemmas.Iterator.{YieldsList-from_map, YieldsList-from_slice, items_from_collect}
-use Rattle.std.proofs.lemmas.Iterator.Consumers.{YieldsList-at, YieldsList-from_filter}
-use Rattle.std.proofs.lemmas.Simd.{map-map}
-use Rattle.mxf_views.specs.Partitions.{PartitionParts, in_numbers, partitions_of}
+use Rattle.mxf_views.proofs.Common.{◌≡◌, ◌∙◌, List, ap, filter, map, rules, YieldsList-from_map}
+use Rattle.mxf_views.proofs.Common.{YieldsList-from_slice, items_from_collect, YieldsList-at}
+use Rattle.mxf_views.proofs.Common.{YieldsList-from_filter, map-map, PartitionParts, in_numbers}
+use Rattle.mxf_views.proofs.Common.{partitions_of}
 use Rattle.mxf_views.proofs.NumbersLaws.{filter_mapped}
 use Rattle.mxf_map.specs.Layers.{is_part}
 use Rattle.mxf_map.proofs.map.offsets.partition_offsets.Goals as goal

@@ -1,9 +1,5 @@
-use Rattle.std.proofs.Common.{◌∙◌, ◌<◌, subst, sym, List}
-use Rattle.std.specs.List.{AllByRecursion}
-use Rattle.mxf_klv.specs.Note.{greatest_end}
-use Rattle.mxf_klv.specs.Parts.{NoteParts}
-use Rattle.mxf_catalogue.specs.Content.{IsCatalogue}
-use Rattle.mxf_views.specs.Partitions.{partitions_of}
+use Rattle.mxf_views.proofs.Common.{◌∙◌, ◌<◌, subst, sym, List, AllByRecursion, greatest_end}
+use Rattle.mxf_views.proofs.Common.{NoteParts, IsCatalogue, partitions_of}
 use Rattle.mxf_map.specs.Layers.{BeginsPartition, partition_offsets}
 use Rattle.mxf_map.proofs.LayerLaws.{offsets_of, partitions_begin, partitions_within}
 use Rattle.mxf_map.proofs.map.offsets.partitions.Goals as goal

@@ -1,7 +1,4 @@
-use Rattle.std.proofs.Common.{◌∙◌, ◌<◌, subst, sym}
-use Rattle.std.specs.List.{AllByRecursion}
-use Rattle.mxf_klv.specs.Note.{greatest_end}
-use Rattle.mxf_catalogue.specs.Disputes.{clear_notes}
+use Rattle.mxf_views.proofs.Common.{◌∙◌, ◌<◌, subst, sym, AllByRecursion, greatest_end, clear_notes}
 use Rattle.mxf_map.specs.Layers.{BeginsRandomIndex, random_index_offsets}
 use Rattle.mxf_map.proofs.LayerLaws.{offsets_of, random_index_begin, random_index_within}
 use Rattle.mxf_map.proofs.map.offsets.random_index.Goals as goal

@@ -1,6 +1,5 @@
 -- The set, with the offsets that are to come.
-use Rattle.std.proofs.Common.{◌≡◌, [], drop, map}
-use Rattle.mxf_catalogue.specs.Covers.{union_of_runs}
+use Rattle.mxf_views.proofs.Common.{◌≡◌, [], drop, map, union_of_runs}
 use Rattle.mxf_map.proofs.LayerLaws.{first_byte}
 use Rattle.mxf_map.proofs.map.offsets.set_of.Given as goal
 

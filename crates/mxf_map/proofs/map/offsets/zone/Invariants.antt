@@ -1,8 +1,5 @@
 -- The set, with the packets that are to come.
-use Rattle.std.proofs.Common.{◌≡◌, [], map}
-use Rattle.mxf_catalogue.specs.Covers.{union_of_runs}
-use Rattle.mxf_catalogue.specs.Disputes.{clear_notes}
-use Rattle.mxf_catalogue.specs.NoteLists.{run_of}
+use Rattle.mxf_views.proofs.Common.{◌≡◌, [], map, union_of_runs, clear_notes, run_of}
 use Rattle.mxf_map.specs.Layers.{zone_notes}
 use Rattle.mxf_map.proofs.map.offsets.zone.Given as goal
 

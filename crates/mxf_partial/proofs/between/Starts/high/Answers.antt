@@ -1,8 +1,7 @@
-use Rattle.std.proofs.Common.{◌≡◌, ◌↔◌, ◌∙◌, ◌-◌, ◌<◌, ◌≤◌, ℕ, List, ap, arith, get_or, length, map, subst, sym}
+use Rattle.mxf_views.proofs.Common.{◌≡◌, ◌↔◌, ◌∙◌, ◌-◌, ◌<◌, ◌≤◌, ℕ, List, ap, arith, get_or}
+use Rattle.mxf_views.proofs.Common.{length, map, subst, sym, AllWithin, length-map, length-reverse}
+use Rattle.mxf_views.proofs.Common.{In}
 use Rattle.std.specs.Prelude.{reverse}
-use Rattle.std.specs.List.{AllWithin}
-use Rattle.std.proofs.lemmas.List.{length-map, length-reverse}
-use Rattle.mxf_klv.specs.Rising.{In}
 use Rattle.mxf_partial.specs.SegmentStarts.{least_so_far}
 use Rattle.mxf_partial.specs.declared.between.SegmentStart.{SegmentStart}
 use Rattle.mxf_partial.proofs.StartLaws.{length-least, high_says, first_unit}

@@ -1,7 +1,5 @@
-use Rattle.std.proofs.Common.{◌∙◌, ◌++◌, ap, map, subst, sym, List}
-use Rattle.mxf_klv.specs.Parts.{NoteParts}
+use Rattle.mxf_views.proofs.Common.{◌∙◌, ◌++◌, ap, map, subst, sym, List, NoteParts, partitions_of}
 use Rattle.mxf_restore.specs.declared.named.NamedPlace.{NamedPlace}
-use Rattle.mxf_views.specs.Partitions.{partitions_of}
 use Rattle.mxf_partial.specs.NearTable.{AreListed, AreOfStreams, partition_place}
 use Rattle.mxf_partial.specs.declared.place_streams.ListedStream.{ListedStream}
 use Rattle.mxf_partial.proofs.near.Near.of.Goals as goal

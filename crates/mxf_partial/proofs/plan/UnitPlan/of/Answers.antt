@@ -1,12 +1,9 @@
-use Rattle.std.proofs.Common.{◌∙◌, ◌++◌, ◌↔◌, ◌⊎◌, [], List, subst, sym, ap}
-use Rattle.mxf_klv.specs.Rising.{In, union}
-use Rattle.mxf_catalogue.specs.Runs.{LiesIn}
-use Rattle.mxf_views.specs.Rises.{RiseBy}
+use Rattle.mxf_views.proofs.Common.{◌∙◌, ◌++◌, ◌↔◌, ◌⊎◌, [], List, subst, sym, ap, In, union}
+use Rattle.mxf_views.proofs.Common.{LiesIn, RiseBy, IsCover}
 use Rattle.mxf_units.specs.Units.{IsKnown}
 use Rattle.mxf_restore.specs.NamedPlaces.{IsNamedPlace}
 use Rattle.mxf_restore.specs.Plan.{order_cmp}
 use Rattle.mxf_restore.specs.declared.plan.Order.{Order}
-use Rattle.mxf_catalogue.specs.Covers.{IsCover}
 use Rattle.mxf_views.proofs.KeyedLists.{rise_by}
 use Rattle.mxf_places.specs.Held.{end_of_file}
 use Rattle.mxf_restore.specs.declared.named.NamedPlace.{NamedPlace}

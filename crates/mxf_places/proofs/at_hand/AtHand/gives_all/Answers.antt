@@ -1,5 +1,4 @@
-use Rattle.std.proofs.Common.{◌∙◌, ap}
-use Rattle.mxf_klv.proofs.Tests.{same_bool}
+use Rattle.mxf_views.proofs.Common.{◌∙◌, ap, same_bool}
 use Rattle.mxf_places.specs.AtHand.{AtHandParts, has_offsets}
 use Rattle.mxf_places.proofs.AtHandLaws.{has_offsets-says}
 use Rattle.mxf_places.proofs.at_hand.AtHand.gives_all.Goals as goal

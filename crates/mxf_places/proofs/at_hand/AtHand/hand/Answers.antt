@@ -1,5 +1,4 @@
-use Rattle.std.proofs.Common.{ℕ, subst}
-use Rattle.mxf_catalogue.specs.Runs.{LiesIn}
+use Rattle.mxf_views.proofs.Common.{ℕ, subst, LiesIn}
 use Rattle.mxf_places.specs.AtHand.{AtHandParts}
 use Rattle.mxf_places.proofs.at_hand.AtHand.hand.Goals as goal
 

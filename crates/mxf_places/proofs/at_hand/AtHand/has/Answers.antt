@@ -1,5 +1,4 @@
-use Rattle.std.proofs.Common.{◌∙◌, ap}
-use Rattle.mxf_klv.proofs.Tests.{same_bool}
+use Rattle.mxf_views.proofs.Common.{◌∙◌, ap, same_bool}
 use Rattle.mxf_places.specs.AtHand.{AtHandParts, has_offset}
 use Rattle.mxf_places.proofs.AtHandLaws.{has_offset-says}
 use Rattle.mxf_places.proofs.at_hand.AtHand.has.Goals as goal

@@ -1,9 +1,5 @@
-use Rattle.std.proofs.Common.{◌∙◌, ◌+◌, ◌≤◌, ap, arith, sym}
-use Rattle.std.proofs.lemmas.Bool.{false_from_ne_true}
-use Rattle.mxf_klv.specs.Note.{greatest_end}
-use Rattle.mxf_klv.proofs.Lists.{all-In}
-use Rattle.mxf_klv.proofs.Tests.{same_bool}
-use Rattle.mxf_catalogue.specs.declared.run.Run.{Run}
+use Rattle.mxf_views.proofs.Common.{◌∙◌, ◌+◌, ◌≤◌, ap, arith, sym, false_from_ne_true, greatest_end}
+use Rattle.mxf_views.proofs.Common.{all-In, same_bool, Run}
 use Rattle.mxf_places.specs.AtHand.{AtHandParts, has_offsets}
 use Rattle.mxf_places.proofs.AtHandLaws.{has_offsets-says}
 use Rattle.mxf_places.proofs.at_hand.AtHand.has_key_and_length.Goals as goal

@@ -1,10 +1,6 @@
-use Rattle.std.proofs.Common.{◌≡◌, ◌∙◌, [], ◌∷◌, ◌++◌, ap, sym, append_assoc, append-nil, List, ℕ, unwrap_or, cond}
-use Rattle.std.proofs.Common.{Some, arith}
-use Rattle.std.proofs.lemmas.List.{nil_from_length}
-use Rattle.std.specs.Map.{lookup}
-use Rattle.std.specs.Ordering.{nat_cmp}
-use Rattle.std.specs.BTreeMap.{get, is_at}
-use Rattle.mxf_catalogue.specs.Disputes.{undisputed_notes}
+use Rattle.mxf_views.proofs.Common.{◌≡◌, ◌∙◌, [], ◌∷◌, ◌++◌, ap, sym, append_assoc, append-nil}
+use Rattle.mxf_views.proofs.Common.{List, ℕ, unwrap_or, cond, Some, arith, nil_from_length, lookup}
+use Rattle.mxf_views.proofs.Common.{nat_cmp, get, is_at, undisputed_notes}
 use Rattle.mxf_places.specs.Fills.{fills_among, over_list}
 use Rattle.mxf_places.specs.declared.fills.Fill.{Fill}
 use Rattle.mxf_places.proofs.FillLaws.{over_among-list, over_in-insert}

@@ -1,6 +1,5 @@
 -- The fills that are left come before those that the table goes over.
-use Rattle.std.proofs.Common.{◌≡◌, ◌++◌, ℕ, List, length}
-use Rattle.mxf_catalogue.specs.Disputes.{undisputed_notes}
+use Rattle.mxf_views.proofs.Common.{◌≡◌, ◌++◌, ℕ, List, length, undisputed_notes}
 use Rattle.mxf_places.specs.Fills.{fills_among, over_in, over_list}
 use Rattle.mxf_places.specs.declared.fills.Fill.{Fill}
 use Rattle.mxf_places.proofs.fills.Fills.of.Given as goal

@@ -1,5 +1,4 @@
-use Rattle.std.proofs.Common.{List, subst}
-use Rattle.mxf_klv.specs.Parts.{NoteParts}
+use Rattle.mxf_views.proofs.Common.{List, subst, NoteParts}
 use Rattle.mxf_places.specs.Held.{AreDisputed}
 use Rattle.mxf_places.proofs.held.Holdings.disputed.Goals as goal
 

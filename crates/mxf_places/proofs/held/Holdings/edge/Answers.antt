@@ -1,6 +1,4 @@
-use Rattle.std.proofs.Common.{◌∙◌, ◌<◌, ℕ, ap, max, subst, sym, unwrap_or}
-use Rattle.mxf_catalogue.specs.Covers.{IsCover}
-use Rattle.mxf_catalogue.specs.Runs.{LiesIn}
+use Rattle.mxf_views.proofs.Common.{◌∙◌, ◌<◌, ℕ, ap, max, subst, sym, unwrap_or, IsCover, LiesIn}
 use Rattle.mxf_places.specs.AtHand.{runs_end}
 use Rattle.mxf_places.specs.Held.{end_of_file}
 use Rattle.mxf_places.proofs.AtHandLaws.{runs_end-bound}

@@ -1,7 +1,4 @@
-use Rattle.std.proofs.Common.{ap, ◌∙◌, ◌≤◌}
-use Rattle.mxf_klv.specs.Parts.{NoteParts}
-use Rattle.mxf_klv.specs.Rising.{In}
-use Rattle.mxf_klv.specs.Note.{end_of}
+use Rattle.mxf_views.proofs.Common.{ap, ◌∙◌, ◌≤◌, NoteParts, In, end_of}
 use Rattle.mxf_places.specs.Held.{top_of}
 use Rattle.mxf_places.proofs.HeldLaws.{same_bounds, top_of-bound}
 use Rattle.mxf_places.proofs.held.Holdings.greatest_end.Goals as goal

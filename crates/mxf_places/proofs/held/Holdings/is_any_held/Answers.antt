@@ -1,5 +1,4 @@
-use Rattle.std.proofs.Common.{IsTrue, List, subst, ◌↔◌, ◌∙◌, ◌<◌, ◌≤◌, ℕ}
-use Rattle.mxf_klv.specs.Parts.{NoteParts}
+use Rattle.mxf_views.proofs.Common.{IsTrue, List, subst, ◌↔◌, ◌∙◌, ◌<◌, ◌≤◌, ℕ, NoteParts}
 use Rattle.mxf_places.specs.Held.{IsHeld}
 use Rattle.mxf_places.proofs.held.Holdings.is_any_held.Goals as goal
 

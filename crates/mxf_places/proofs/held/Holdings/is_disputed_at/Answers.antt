@@ -1,6 +1,4 @@
-use Rattle.std.proofs.Common.{List, subst, ◌≡◌}
-use Rattle.mxf_klv.specs.Parts.{NoteParts}
-use Rattle.mxf_klv.proofs.Tests.{same_bool}
+use Rattle.mxf_views.proofs.Common.{List, subst, ◌≡◌, NoteParts, same_bool}
 use Rattle.mxf_places.specs.Held.{is_disputed_at}
 use Rattle.mxf_places.proofs.HeldLaws.{is_disputed_at-says}
 use Rattle.mxf_places.proofs.held.Holdings.is_disputed_at.Goals as goal

@@ -1,6 +1,5 @@
 -- The bytes so far were taken from the reader.
-use Rattle.std.proofs.Common.{◌+◌, ◌-◌, ◌≤◌, length}
-use Rattle.std.specs.Io.KnownBytes.{Consumes}
+use Rattle.mxf_views.proofs.Common.{◌+◌, ◌-◌, ◌≤◌, length, Consumes}
 use Rattle.mxf_read.proofs.gathering.reading.read_up_to.Given as goal
 
 abbrev pub invariant-reads : goal.invariant-reads

@@ -1,8 +1,7 @@
-use Rattle.std.proofs.Common.{sym, ◌∙◌}
+use Rattle.mxf_views.proofs.Common.{sym, ◌∙◌, none_if}
 use Rattle.mxf_read.proofs.Reports.{report_cut_head, report_cut_value, report_end, report_stopped}
 use Rattle.mxf_read.proofs.piece.Piece.report.Goals.{else-is_none-via-then-is_none+else-is_empty}
 use Rattle.mxf_read.proofs.piece.Piece.report.Goals.{else-is_none-via-else-is_none}
-use Rattle.mxf_klv.proofs.Tests.{none_if}
 use Rattle.mxf_read.proofs.piece.Piece.report.Goals as goal
 
 pub returns-in-Some : goal.returns-in-Some

@@ -1,7 +1,5 @@
-use Rattle.std.proofs.Common.{◌≡◌, ◌+◌, ◌-◌, ◌++◌, [], length, take, arith, refl, sym, ap, ◌∙◌}
-use Rattle.std.proofs.lemmas.List.{take_all}
-use Rattle.mxf_klv.specs.Parts.{LengthParts}
-use Rattle.mxf_klv.proofs.MoreBytes.{IsHeadNow}
+use Rattle.mxf_views.proofs.Common.{◌≡◌, ◌+◌, ◌-◌, ◌++◌, [], length, take, arith, refl, sym, ap}
+use Rattle.mxf_views.proofs.Common.{◌∙◌, take_all, LengthParts, IsHeadNow}
 use Rattle.mxf_read.proofs.Feeding.{begun, head_whole}
 use Rattle.mxf_read.proofs.Reports.{nil_from}
 use Rattle.mxf_read.proofs.piece.Piece.take_head.Goals as goal

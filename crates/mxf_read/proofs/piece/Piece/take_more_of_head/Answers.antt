@@ -1,6 +1,5 @@
-use Rattle.std.proofs.Common.{◌≡◌, ◌++◌, ◌+◌, ◌-◌, length, take, arith, refl, sym, ap, ◌∙◌}
-use Rattle.mxf_klv.specs.Parts.{LengthParts}
-use Rattle.mxf_klv.proofs.MoreBytes.{IsHeadNow}
+use Rattle.mxf_views.proofs.Common.{◌≡◌, ◌++◌, ◌+◌, ◌-◌, length, take, arith, refl, sym, ap, ◌∙◌}
+use Rattle.mxf_views.proofs.Common.{LengthParts, IsHeadNow}
 use Rattle.mxf_read.proofs.Feeding.{begun, few_held, head_whole, held_more, lacks_head, stopped}
 use Rattle.mxf_read.proofs.piece.Piece.take_more_of_head.Goals as goal
 

@@ -1,6 +1,4 @@
-use Rattle.std.proofs.Common.{◌∙◌, sym, arith}
-use Rattle.std.proofs.lemmas.Bool.{not-false, not-true}
-use Rattle.mxf_klv.proofs.Tests.{none_if}
+use Rattle.mxf_views.proofs.Common.{◌∙◌, sym, arith, not-false, not-true, none_if}
 use Rattle.mxf_read.proofs.Tellings.{cut_tells, none_left, stopped_tells}
 use Rattle.mxf_read.proofs.piece.Piece.wants.Goals.{then-left-gt0, else-left-gt0}
 use Rattle.mxf_read.proofs.piece.Piece.wants.Goals as goal

@@ -1,5 +1,4 @@
-use Rattle.std.proofs.Common.{◌∙◌, IsTrue, ap, not, subst, sym}
-use Rattle.std.proofs.lemmas.Bool.{not-false}
+use Rattle.mxf_klv.proofs.Common.{◌∙◌, IsTrue, ap, not, subst, sym, not-false}
 use Rattle.mxf_readings.specs.Holdings.{HoldingParts}
 use Rattle.mxf_readings.proofs.SourceLaws.{held_says}
 use Rattle.mxf_readings.proofs.holding.Holding.is_one_of.Goals as goal

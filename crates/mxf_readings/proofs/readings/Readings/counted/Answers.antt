@@ -1,6 +1,5 @@
-use Rattle.std.proofs.Common.{◌==◌, ◌∙◌, ℕ, List, ap, count_by, subst, sym}
+use Rattle.mxf_klv.proofs.Common.{◌==◌, ◌∙◌, ℕ, List, ap, count_by, subst, sym, NoteParts}
 use Rattle.mxf_catalogue.specs.Content.{IsContent}
-use Rattle.mxf_klv.specs.Parts.{NoteParts}
 use Rattle.mxf_readings.specs.Readings.{content_of, is_alone}
 use Rattle.mxf_readings.proofs.AloneLaws.{alone-count}
 use Rattle.mxf_readings.proofs.readings.Readings.counted.Goals as goal

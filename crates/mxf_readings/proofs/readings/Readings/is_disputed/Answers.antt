@@ -1,7 +1,5 @@
-use Rattle.std.proofs.Common.{◌∙◌, List, ap, subst, sym}
+use Rattle.mxf_klv.proofs.Common.{◌∙◌, List, ap, subst, sym, NoteParts, In}
 use Rattle.mxf_klv.proofs.Tests.{same_bool}
-use Rattle.mxf_klv.specs.Parts.{NoteParts}
-use Rattle.mxf_klv.specs.Rising.{In}
 use Rattle.mxf_catalogue.specs.Disputes.{IsDisputed}
 use Rattle.mxf_readings.specs.Readings.{all_notes, is_disputed_there}
 use Rattle.mxf_readings.proofs.SourceLaws.{disputed_says}

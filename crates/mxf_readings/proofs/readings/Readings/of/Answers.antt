@@ -1,7 +1,6 @@
-use Rattle.std.proofs.Common.{◌∙◌, ap, map, subst, sym, IsPermutation, IsTrue, List, ℕ}
-use Rattle.std.proofs.lemmas.List.Sorted.{IsNonDecreasingBy-from_sort}
-use Rattle.std.specs.List.{AllByRecursion}
-use Rattle.mxf_klv.specs.Rising.{In}
+use Rattle.mxf_klv.proofs.Common.{◌∙◌, ap, map, subst, sym, IsTrue, List, ℕ}
+use Rattle.mxf_klv.proofs.Common.{IsNonDecreasingBy-from_sort, AllByRecursion, In}
+use Rattle.std.proofs.Common.{IsPermutation}
 use Rattle.mxf_readings.specs.Holdings.{HoldingParts, sources_alone}
 use Rattle.mxf_readings.proofs.AloneLaws.{whole_held}
 use Rattle.mxf_readings.proofs.readings.Readings.of.Goals as goal

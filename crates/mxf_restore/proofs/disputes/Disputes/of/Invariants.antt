@@ -1,6 +1,5 @@
 -- The least offset and the greatest end so far, with those of the notes that are to come.
-use Rattle.std.proofs.Common.{◌≡◌}
-use Rattle.mxf_catalogue.specs.Disputes.{disputed_notes}
+use Rattle.mxf_views.proofs.Common.{◌≡◌, disputed_notes}
 use Rattle.mxf_restore.specs.Disputes.{greatest_end, least_start}
 use Rattle.mxf_restore.proofs.disputes.Disputes.of.Given as goal
 

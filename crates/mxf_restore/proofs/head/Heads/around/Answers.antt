@@ -1,5 +1,4 @@
-use Rattle.std.proofs.Common.{◌∙◌, ap, sym, subst}
-use Rattle.std.specs.Option.{option_copied}
+use Rattle.mxf_views.proofs.Common.{◌∙◌, ap, sym, subst, option_copied}
 use Rattle.mxf_restore.specs.Heads.{AreHeads}
 use Rattle.mxf_restore.specs.Plan.{start_of}
 use Rattle.mxf_restore.proofs.HeadLaws.{none_needed}

@@ -1,5 +1,4 @@
-use Rattle.std.proofs.Common.{◌≡◌, length, sym, subst, List, ℕ}
-use Rattle.std.specs.List.{AllByRecursion}
+use Rattle.mxf_klv.proofs.Common.{◌≡◌, length, sym, subst, List, ℕ, AllByRecursion}
 use Rattle.mxf_sets.specs.Batch.{BatchParts}
 use Rattle.mxf_sets.proofs.LabelLaws.{items_wide}
 use Rattle.mxf_sets.proofs.batch.Batch.items.Goals as goal

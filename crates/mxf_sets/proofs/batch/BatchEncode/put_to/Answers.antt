@@ -1,5 +1,4 @@
-use Rattle.std.proofs.Common.{◌++◌, refl}
-use Rattle.std.proofs.lemmas.Result.{err_from_is_err_and}
+use Rattle.mxf_klv.proofs.Common.{◌++◌, refl, err_from_is_err_and}
 use Rattle.byteorder.specs.Endian.{big_bytes}
 use Rattle.mxf_sets.proofs.Writing.{Stops-first, Stops-second, WritesPart-second}
 use Rattle.mxf_sets.proofs.batch.BatchEncode.put_to.Goals as goal

@@ -1,5 +1,4 @@
-use Rattle.std.proofs.Common.{◌≡◌, ◌+◌, Some}
-use Rattle.std.specs.Prelude.{MatchOption}
+use Rattle.mxf_klv.proofs.Common.{◌≡◌, ◌+◌, Some, MatchOption}
 use Rattle.mxf_sets.specs.Lookup.{count_of, value_of}
 use Rattle.mxf_sets.proofs.local_set.Items.only.Given as goal
 

@@ -1,6 +1,4 @@
-use Rattle.std.proofs.Common.{arith, eqb-true, refl}
-use Rattle.std.proofs.lemmas.Int.{to_z-of_z}
-use Rattle.std.proofs.lemmas.List.{nil_from_length}
+use Rattle.mxf_klv.proofs.Common.{arith, eqb-true, refl, to_z-of_z, nil_from_length}
 use Rattle.mxf_sets.proofs.SegmentLemmas.{segment_is}
 use Rattle.mxf_sets.proofs.segment.Segment.of.Goals.{else-numbers-gt0-via-then-numbers-gt0+else-not-is_empty}
 use Rattle.mxf_sets.proofs.segment.Segment.of.Goals.{else-numbers-gt0-via-else-numbers-gt0}

@@ -1,5 +1,4 @@
-use Rattle.std.proofs.Common.{◌++◌, List, ℕ, ap, sym}
-use Rattle.std.proofs.lemmas.Result.{err_from_is_err_and}
+use Rattle.mxf_klv.proofs.Common.{◌++◌, List, ℕ, ap, sym, err_from_is_err_and}
 use Rattle.mxf_sets.proofs.Writing.{Stops-first, WritesPart-second}
 use Rattle.mxf_sets.proofs.segment.writing.put_item.Goals as goal
 

@@ -1,7 +1,4 @@
-use Rattle.std.proofs.Common.{◌≡◌, ◌+◌, take, length}
-use Rattle.std.specs.Io.KnownBytes.{Appends}
-use Rattle.std.specs.List.{flat_map}
-use Rattle.mxf_klv.specs.Written.{counted}
+use Rattle.mxf_klv.proofs.Common.{◌≡◌, ◌+◌, take, length, Appends, flat_map, counted}
 use Rattle.mxf_sets.specs.Items.{item_bytes}
 use Rattle.mxf_sets.proofs.segment.writing.put_items.Given as goal
 

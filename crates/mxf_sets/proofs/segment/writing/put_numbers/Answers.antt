@@ -1,8 +1,6 @@
-use Rattle.std.proofs.Common.{rules, ◌≡◌, ◌∙◌, List, ap, subst, FitsSigned, w64, ℤ}
-use Rattle.std.specs.Int.{cast_unsigned, to_be_bytes}
-use Rattle.std.proofs.lemmas.Int.{to_z-of_z}
-use Rattle.std.specs.List.{flat_map}
-use Rattle.mxf_klv.specs.Written.{WritesPart}
+use Rattle.mxf_klv.proofs.Common.{rules, ◌≡◌, ◌∙◌, List, ap, subst, FitsSigned, ℤ, cast_unsigned}
+use Rattle.mxf_klv.proofs.Common.{to_be_bytes, to_z-of_z, flat_map, WritesPart}
+use Rattle.std.proofs.Common.{w64}
 use Rattle.mxf_sets.specs.Items.{ItemParts, item_bytes}
 use Rattle.mxf_sets.proofs.SegmentBytes.{numbers_written}
 use Rattle.mxf_sets.proofs.segment.writing.put_numbers.Goals as goal

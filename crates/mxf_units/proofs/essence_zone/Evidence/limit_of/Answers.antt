@@ -1,9 +1,5 @@
-use Rattle.std.proofs.Common.{List, [], ap, subst, sym, ◌∙◌, ℕ}
-use Rattle.std.specs.FinMap.{nat_cmp-IsAntisymmetric}
-use Rattle.std.specs.Option.{option_or}
-use Rattle.std.specs.Ordering.{nat_cmp}
-use Rattle.std.proofs.lemmas.Cmp.{nat_cmp_total}
-use Rattle.mxf_klv.specs.Rising.{IsRising, IsRising-union}
+use Rattle.mxf_views.proofs.Common.{List, [], ap, subst, sym, ◌∙◌, ℕ, nat_cmp-IsAntisymmetric}
+use Rattle.mxf_views.proofs.Common.{option_or, nat_cmp, nat_cmp_total, IsRising, IsRising-union}
 use Rattle.mxf_units.specs.Streams.{least_above}
 use Rattle.mxf_units.specs.EssenceZones.{bounds_of, limit_of}
 use Rattle.mxf_units.proofs.LeastLaws.{least-rising}

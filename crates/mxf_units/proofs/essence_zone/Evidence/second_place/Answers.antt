@@ -1,10 +1,6 @@
-use Rattle.std.proofs.Common.{List, ap, subst, sym, ◌∙◌}
-use Rattle.mxf_klv.specs.Parts.{NoteParts}
-use Rattle.mxf_klv.specs.Rising.{IsRising}
-use Rattle.mxf_views.specs.Places.{segments_of}
+use Rattle.mxf_views.proofs.Common.{List, ap, subst, sym, ◌∙◌, NoteParts, IsRising, segments_of}
+use Rattle.mxf_views.proofs.Common.{place_cmp, StreamPlace}
 use Rattle.mxf_units.specs.Streams.{least_above, next_of, offsets_in, places_above}
-use Rattle.mxf_views.specs.Places.{place_cmp}
-use Rattle.mxf_views.specs.declared.index.place.StreamPlace.{StreamPlace}
 use Rattle.mxf_units.proofs.LeastLaws.{least-in_order}
 use Rattle.mxf_units.proofs.OrderLaws.{places-rise}
 use Rattle.mxf_units.proofs.essence_zone.Evidence.second_place.Goals as goal

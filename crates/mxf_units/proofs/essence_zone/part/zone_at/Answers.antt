@@ -1,5 +1,4 @@
-use Rattle.std.proofs.Common.{rules, ◌∙◌}
-use Rattle.std.proofs.lemmas.List.Sorted.{IsPartitionPoint-from_clause}
+use Rattle.mxf_views.proofs.Common.{rules, ◌∙◌, IsPartitionPoint-from_clause}
 use Rattle.mxf_units.proofs.PartLaws.{found, is_behind, parted, settled}
 use Rattle.mxf_units.proofs.essence_zone.part.zone_at.Goals as goal
 

@@ -1,5 +1,4 @@
-use Rattle.std.proofs.Common.{◌∙◌, ap, rules}
-use Rattle.std.proofs.lemmas.List.Sorted.{IsNonDecreasingBy-from_sort, answers_always}
+use Rattle.mxf_views.proofs.Common.{◌∙◌, ap, rules, IsNonDecreasingBy-from_sort, answers_always}
 use Rattle.mxf_units.specs.Intervals.{greatest_ends}
 use Rattle.mxf_units.proofs.intervals.Intervals.of.Goals as goal
 

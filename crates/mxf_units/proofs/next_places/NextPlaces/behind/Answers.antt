@@ -1,9 +1,8 @@
-use Rattle.std.proofs.Common.{◌∙◌, ◌<◌, List, ap, arith, subst, sym}
-use Rattle.std.specs.List.{AllByRecursion}
+use Rattle.mxf_views.proofs.Common.{◌∙◌, ◌<◌, List, ap, arith, subst, sym, AllByRecursion}
+use Rattle.mxf_views.proofs.Common.{StreamPlace}
 use Rattle.mxf_units.specs.Intervals.{IsAround}
 use Rattle.mxf_units.specs.NextPlaces.{AreSized, NextPlacesParts, end_number, first_number, next_by}
 use Rattle.mxf_units.specs.Streams.{least_above, lesser, offsets_in}
-use Rattle.mxf_views.specs.declared.index.place.StreamPlace.{StreamPlace}
 use Rattle.mxf_units.proofs.LeastLaws.{lesser_assoc, small-least}
 use Rattle.mxf_units.proofs.NextPlaceLaws.{all_around, around-least}
 use Rattle.mxf_units.proofs.next_places.NextPlaces.behind.Goals as goal

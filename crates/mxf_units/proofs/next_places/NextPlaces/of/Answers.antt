@@ -1,9 +1,6 @@
-use Rattle.std.proofs.Common.{List, flat_map, subst, sym}
-use Rattle.mxf_klv.specs.Rising.{IsRising}
+use Rattle.mxf_views.proofs.Common.{List, flat_map, subst, sym, IsRising, place_cmp, StreamPlace}
 use Rattle.mxf_units.specs.NextPlaces.{AreSized}
 use Rattle.mxf_units.specs.Streams.{listed_in}
-use Rattle.mxf_views.specs.Places.{place_cmp}
-use Rattle.mxf_views.specs.declared.index.place.StreamPlace.{StreamPlace}
 use Rattle.mxf_units.proofs.NextPlaceLaws.{all_permuted, next-of_segments}
 use Rattle.mxf_units.proofs.OrderLaws.{places-rise}
 use Rattle.mxf_units.proofs.next_places.NextPlaces.of.Goals as goal

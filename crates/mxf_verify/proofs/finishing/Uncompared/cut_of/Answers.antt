@@ -1,7 +1,6 @@
-use Rattle.std.proofs.Common.{rules}
+use Rattle.mxf_views.proofs.Common.{rules, YieldsList-from_map_by, YieldsList-at}
+use Rattle.mxf_views.proofs.Common.{YieldsList-from_filter, YieldsList-from_first, map_from_collect}
 use Rattle.std.proofs.lemmas.Result.{IfOk-at_ok}
-use Rattle.std.proofs.lemmas.Iterator.{YieldsList-from_map_by}
-use Rattle.std.proofs.lemmas.Iterator.Consumers.{YieldsList-at, YieldsList-from_filter, YieldsList-from_first, map_from_collect}
 use Rattle.mxf_verify.specs.declared.verification.CutNote.{CutNote}
 use Rattle.mxf_verify.proofs.FinishingLaws.{is_left_out, left_out_by, those_left_out}
 use Rattle.mxf_verify.proofs.finishing.Uncompared.cut_of.Goals as goal

@@ -1,5 +1,4 @@
-use Rattle.std.proofs.Common.{◌∙◌, subst}
-use Rattle.mxf_catalogue.specs.Runs.{SameOffsets}
+use Rattle.mxf_views.proofs.Common.{◌∙◌, subst, SameOffsets}
 use Rattle.mxf_verify.proofs.finishing.Uncompared.of.Goals as goal
 
 pub returns-clause-read : goal.returns-clause-read

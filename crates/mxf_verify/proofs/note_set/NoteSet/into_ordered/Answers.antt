@@ -1,6 +1,4 @@
-use Rattle.std.proofs.Common.{[], subst, sym}
-use Rattle.mxf_catalogue.specs.Content.{IsContent}
-use Rattle.mxf_catalogue.proofs.ContentLaws.{IsContent-union_of}
+use Rattle.mxf_views.proofs.Common.{[], subst, sym, IsContent, IsContent-union_of}
 use Rattle.mxf_verify.proofs.note_set.NoteSet.into_ordered.Goals as goal
 
 pub invariant_of-result : goal.invariant_of-result

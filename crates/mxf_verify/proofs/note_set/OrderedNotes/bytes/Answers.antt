@@ -1,6 +1,5 @@
-use Rattle.std.proofs.Common.{◌↔◌, ◌∙◌, ℕ, subst}
+use Rattle.mxf_views.proofs.Common.{◌↔◌, ◌∙◌, ℕ, subst, LiesIn}
 use Rattle.std.specs.Result.{IfOk}
-use Rattle.mxf_catalogue.specs.Runs.{LiesIn}
 use Rattle.mxf_verify.specs.Verifying.{IsHeldBy}
 use Rattle.mxf_verify.proofs.note_set.OrderedNotes.bytes.Goals as goal
 

@@ -1,10 +1,9 @@
-use Rattle.std.proofs.Common.{◌≡◌, ◌∙◌, ◌↔◌, ◌-◌, ap, sym, subst, IsTrue, nat_lt, nat_le, count_by}
-use Rattle.std.specs.List.Sorted.{IsNonDecreasing}
-use Rattle.mxf_klv.specs.Note.{covered_end, head_note}
-use Rattle.mxf_catalogue.specs.Content.{has_note}
-use Rattle.mxf_catalogue.specs.Disputes.{is_same_note}
+use Rattle.mxf_views.proofs.Common.{◌≡◌, ◌∙◌, ◌↔◌, ◌-◌, ap, sym, subst, IsTrue, nat_lt, nat_le}
+use Rattle.mxf_views.proofs.Common.{count_by, IsNonDecreasing, covered_end, head_note, has_note}
+use Rattle.mxf_views.proofs.Common.{is_same_note}
 use Rattle.mxf_verify.specs.Opposing.{IsOpposed}
-use Rattle.mxf_verify.proofs.TouchCounts.{begun-count, ended-begun, ended-count, held-byte, opposed-by_counts, starts-rise}
+use Rattle.mxf_verify.proofs.TouchCounts.{begun-count, ended-begun, ended-count, held-byte}
+use Rattle.mxf_verify.proofs.TouchCounts.{opposed-by_counts, starts-rise}
 use Rattle.mxf_verify.proofs.opposing.Opposing.opposes.Goals as goal
 
 pub below-begun-requires : goal.below-begun-requires

@@ -1,9 +1,7 @@
-use Rattle.std.proofs.Common.{◌∙◌, IsPermutation, ap, map, subst, sym}
-use Rattle.std.proofs.lemmas.Simd.{map-map}
+use Rattle.mxf_views.proofs.Common.{◌∙◌, ap, map, subst, sym, map-map, IsNonDecreasingBy-from_sort}
+use Rattle.mxf_views.proofs.Common.{NoteParts, covered_end}
+use Rattle.std.proofs.Common.{IsPermutation}
 use denote.Bor.{Bor}
-use Rattle.std.proofs.lemmas.List.Sorted.{IsNonDecreasingBy-from_sort}
-use Rattle.mxf_klv.specs.Parts.{NoteParts}
-use Rattle.mxf_klv.specs.Note.{covered_end}
 use Rattle.mxf_verify.proofs.others.Others.bounded.Goals as goal
 
 pub invariant_of-result : goal.invariant_of-result

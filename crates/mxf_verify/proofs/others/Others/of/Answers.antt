@@ -1,5 +1,4 @@
-use Rattle.std.proofs.Common.{subst, sym}
-use Rattle.mxf_catalogue.specs.Content.{IsCatalogue}
+use Rattle.mxf_views.proofs.Common.{subst, sym, IsCatalogue}
 use Rattle.mxf_verify.proofs.OtherLaws.{others_are}
 use Rattle.mxf_verify.proofs.others.Others.of.Goals as goal
 

@@ -1,9 +1,7 @@
-use Rattle.std.proofs.Common.{◌≡◌, ◌+◌, ◌<◌, [], false, ap, subst, sym, refl, ◌∙◌, arith, get_or, length, append-nil}
-use Rattle.std.proofs.KnownBytes.{Consumes-nil}
-use Rattle.std.proofs.lemmas.List.{get_or_default}
-use Rattle.std.proofs.lemmas.Bool.{true≢false}
+use Rattle.mxf_views.proofs.Common.{◌≡◌, ◌+◌, ◌<◌, [], false, ap, subst, sym, refl, ◌∙◌, arith}
+use Rattle.mxf_views.proofs.Common.{get_or, length, append-nil, Consumes-nil, get_or_default}
+use Rattle.mxf_views.proofs.Common.{true≢false, NoteParts}
 use denote.Bor.{Bor}
-use Rattle.mxf_klv.specs.Parts.{NoteParts}
 use Rattle.mxf_verify.specs.Verifying.{is_digested}
 use Rattle.mxf_verify.specs.Taking.{HasTaken}
 use Rattle.mxf_verify.specs.declared.candidate.Candidate.{Candidate}

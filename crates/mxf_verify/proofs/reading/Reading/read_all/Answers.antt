@@ -1,17 +1,13 @@
-use Rattle.std.proofs.Common.{◌≡◌, ◌+◌, ◌<◌, ◌≤◌, ◌++◌, [], IsTrue, ap, subst, sym, refl, ◌∙◌, arith, get_or, length}
-use Rattle.std.proofs.Common.{append_assoc, append-nil, length-append, true, false, if◌then◌else◌}
-use Rattle.std.proofs.KnownBytes.{Consumes-nil, Consumes-trans}
-use Rattle.std.proofs.lemmas.Result.{on_ok_weaker}
+use Rattle.mxf_views.proofs.Common.{◌≡◌, ◌+◌, ◌<◌, ◌≤◌, ◌++◌, [], IsTrue, ap, subst, sym, refl, ◌∙◌}
+use Rattle.mxf_views.proofs.Common.{arith, get_or, length, append_assoc, append-nil, length-append}
+use Rattle.mxf_views.proofs.Common.{true, false, if◌then◌else◌, Consumes-nil, Consumes-trans}
+use Rattle.mxf_views.proofs.Common.{on_ok_weaker, NoteParts, covered_end, AllWithin, get_or_default}
 use denote.Bor.{Bor}
-use Rattle.mxf_klv.specs.Parts.{NoteParts}
-use Rattle.mxf_klv.specs.Note.{covered_end}
 use Rattle.mxf_verify.specs.Verifying.{is_digested}
 use Rattle.mxf_verify.specs.Candidates.{offset_of}
 use Rattle.mxf_verify.specs.Taking.{HasTaken}
 use Rattle.mxf_verify.proofs.ReadingLaws.{as_many_notes, left_notes, note_of_same, some_of}
 use Rattle.mxf_verify.proofs.TakingLaws.{as_many}
-use Rattle.std.specs.List.{AllWithin}
-use Rattle.std.proofs.lemmas.List.{get_or_default}
 use Rattle.mxf_verify.proofs.reading.Reading.read_all.Goals as goal
 
 pub loop-place-init : goal.loop-place-init

@@ -1,7 +1,6 @@
+use Rattle.mxf_views.proofs.Common.{◌≡◌, ◌+◌, ◌<◌, ◌≤◌, ◌++◌, ℕ, List, IsTrue, get_or, length}
+use Rattle.mxf_views.proofs.Common.{Consumes, NoteParts}
 use denote.Bor.{Bor}
-use Rattle.std.proofs.Common.{◌≡◌, ◌+◌, ◌<◌, ◌≤◌, ◌++◌, ℕ, List, IsTrue, get_or, length}
-use Rattle.std.specs.Io.KnownBytes.{Consumes}
-use Rattle.mxf_klv.specs.Parts.{NoteParts}
 use Rattle.mxf_verify.specs.Verifying.{is_digested}
 use Rattle.mxf_verify.specs.Candidates.{notes_of, offset_of}
 use Rattle.mxf_verify.specs.Taking.{HasTaken}

@@ -1,16 +1,12 @@
-use Rattle.std.proofs.Common.{◌≡◌, ◌+◌, ◌<◌, ◌++◌, IsTrue, ap, subst, sym, ◌∙◌, arith, get_or, length}
-use Rattle.std.proofs.Common.{append_assoc, length-append, inl, inr}
-use Rattle.std.proofs.KnownBytes.{Consumes-trans}
-use Rattle.std.proofs.lemmas.List.{get_or_default}
-use Rattle.std.proofs.lemmas.Bool.{false≢true, true≢false}
+use Rattle.mxf_views.proofs.Common.{◌≡◌, ◌+◌, ◌<◌, ◌++◌, IsTrue, ap, subst, sym, ◌∙◌, arith, get_or}
+use Rattle.mxf_views.proofs.Common.{length, append_assoc, length-append, inl, inr, Consumes-trans}
+use Rattle.mxf_views.proofs.Common.{get_or_default, false≢true, true≢false, covered_end, NoteParts}
+use Rattle.mxf_views.proofs.Common.{bytes_eq}
 use Rattle.mxf_verify.specs.Taking.{HasTaken}
 use Rattle.mxf_verify.specs.SourceReads.{Digests}
 use Rattle.mxf_verify.specs.Verifying.{front_size, is_digested}
 use Rattle.mxf_verify.specs.declared.candidate.Candidate.{Candidate}
-use Rattle.mxf_klv.specs.Note.{covered_end}
-use Rattle.mxf_klv.specs.Parts.{NoteParts}
 use Rattle.sha2.specs.Sha256.{sha256}
-use Rattle.std.specs.Str.{bytes_eq}
 use denote.Bor.{Bor}
 use Rattle.mxf_verify.proofs.CandidateLaws.{covered_by_size, front_within}
 use Rattle.mxf_verify.proofs.ReadingLaws.{taken_up_to}

@@ -1,5 +1,4 @@
-use Rattle.std.proofs.Common.{◌+◌, ◌-◌, ◌≡◌, ◌≤◌, List, ℕ, length}
-use Rattle.std.specs.Io.KnownBytes.{Consumes}
+use Rattle.mxf_views.proofs.Common.{◌+◌, ◌-◌, ◌≡◌, ◌≤◌, List, ℕ, length, Consumes}
 use Rattle.mxf_verify.specs.SourceReads.{IsLike, Reads}
 use Rattle.mxf_verify.proofs.reading.Reading.take_up_to.Given as goal
 

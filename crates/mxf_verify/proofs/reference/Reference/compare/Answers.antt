@@ -1,7 +1,4 @@
-use Rattle.std.proofs.Common.{length, subst, sym}
-use Rattle.std.specs.List.{AllWithin}
-use Rattle.std.specs.List.Sorted.{IsNonDecreasingBy}
-use Rattle.mxf_klv.specs.Note.{IsNote}
+use Rattle.mxf_views.proofs.Common.{length, subst, sym, AllWithin, IsNonDecreasingBy, IsNote}
 use Rattle.mxf_verify.specs.Candidates.{offset_of}
 use Rattle.mxf_verify.specs.SourceReads.{AreApart}
 use Rattle.mxf_verify.proofs.ReferenceLaws.{reference_apart, reference_notes, reference_rises}

@@ -1,5 +1,4 @@
-use Rattle.std.proofs.Common.{◌∙◌, ◌≡◌, ap, length, map, subst, sym, true}
-use Rattle.std.specs.List.{AllWithin}
+use Rattle.mxf_views.proofs.Common.{◌∙◌, ◌≡◌, ap, length, map, subst, sym, true, AllWithin}
 use Rattle.mxf_verify.specs.declared.candidate.Candidate.{Candidate}
 use Rattle.mxf_verify.specs.Compared.{fresh}
 use Rattle.mxf_verify.proofs.ReferenceLaws.{fresh_notes, fresh_same}

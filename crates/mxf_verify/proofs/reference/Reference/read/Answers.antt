@@ -1,7 +1,5 @@
-use Rattle.std.proofs.Common.{◌+◌, ◌-◌, arith, min, take}
-use Rattle.std.proofs.lemmas.List.{length-take}
-use Rattle.std.proofs.lemmas.Option.{IfSome_then}
-use Rattle.mxf_klv.specs.Note.{greatest_end}
+use Rattle.mxf_views.proofs.Common.{◌+◌, ◌-◌, arith, min, take, length-take, IfSome_then}
+use Rattle.mxf_views.proofs.Common.{greatest_end}
 use Rattle.mxf_verify.proofs.reference.Reference.read.Goals as goal
 
 pub returns-clause-told : goal.returns-clause-told

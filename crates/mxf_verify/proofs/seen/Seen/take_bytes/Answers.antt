@@ -1,6 +1,4 @@
-use Rattle.std.proofs.Common.{refl, subst}
-use Rattle.mxf_klv.specs.Rising.{In}
-use Rattle.mxf_klv.specs.Note.{greatest_end}
+use Rattle.mxf_views.proofs.Common.{refl, subst, In, greatest_end}
 use Rattle.mxf_verify.proofs.SeenLaws.{seen_bytes, within_more}
 use Rattle.mxf_verify.proofs.seen.Seen.take_bytes.Goals as goal
 

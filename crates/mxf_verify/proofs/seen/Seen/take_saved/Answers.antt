@@ -1,7 +1,4 @@
-use Rattle.std.proofs.Common.{◌≤◌, inl, inr, refl}
-use Rattle.mxf_catalogue.specs.declared.run.Run.{Run}
-use Rattle.mxf_klv.proofs.Lists.{all-In}
-use Rattle.mxf_klv.specs.Note.{greatest_end}
+use Rattle.mxf_views.proofs.Common.{◌≤◌, inl, inr, refl, Run, all-In, greatest_end}
 use Rattle.mxf_verify.proofs.SeenLaws.{seen_saved, within_both}
 use Rattle.mxf_verify.proofs.seen.Seen.take_saved.Goals as goal
 

@@ -1,5 +1,4 @@
-use Rattle.std.proofs.Common.{◌≡◌, ◌∙◌, List, ap, subst}
-use Rattle.mxf_klv.specs.Rising.{SameMembers}
+use Rattle.mxf_views.proofs.Common.{◌≡◌, ◌∙◌, List, ap, subst, SameMembers}
 use Rattle.mxf_units.specs.Intervals.{greatest_ends}
 use Rattle.mxf_verify.specs.Touching.{back_of, reach_of}
 use Rattle.mxf_verify.specs.declared.unit_places.UnitPlace.{UnitPlace}

@@ -1,4 +1,5 @@
-use Rattle.mxf_views.proofs.Common.{◌-◌, ◌<◌, ◌≤◌, arith, get_or, length, Mark, In-at}
+use Rattle.mxf_views.proofs.Common.{◌-◌, ◌<◌, ◌≤◌, arith, get_or, length, In-at}
+use Rattle.mxf_views.specs.declared.kept.sums.Mark.{Mark}
 use Rattle.mxf_views.proofs.kept.sums.marks_within.Goals as goal
 
 pub returns : goal.returns

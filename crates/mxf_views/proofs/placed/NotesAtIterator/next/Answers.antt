@@ -1,4 +1,6 @@
-use Rattle.mxf_views.proofs.Common.{◌==◌, ◌∙◌, ap, clear_notes, cons_option, find, notes_at, NoteParts, rules, sym}
+use Rattle.mxf_views.proofs.Common.{◌==◌, ◌∙◌, ap, clear_notes, cons_option, find, NoteParts, rules}
+use Rattle.mxf_views.proofs.Common.{sym}
+use Rattle.mxf_views.specs.Kept.{notes_at}
 use Rattle.mxf_views.proofs.placed.NotesAtIterator.next.Goals as goal
 
 pub returns-in-Some-clear_at-clause-steps : goal.returns-in-Some-clear_at-clause-steps

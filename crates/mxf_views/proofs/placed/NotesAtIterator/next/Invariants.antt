@@ -1,4 +1,5 @@
-use Rattle.mxf_views.proofs.Common.{◌≡◌, length, notes_at}
+use Rattle.mxf_views.proofs.Common.{◌≡◌, length}
+use Rattle.mxf_views.specs.Kept.{notes_at}
 use Rattle.mxf_views.proofs.placed.NotesAtIterator.next.Given as goal
 
 abbrev pub invariant-loop-first : goal.invariant-loop-first

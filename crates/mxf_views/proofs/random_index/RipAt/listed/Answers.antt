@@ -1,5 +1,4 @@
-use Rattle.mxf_views.proofs.Common.{◌∙◌, ap, map, sym}
-use Rattle.mxf_views.specs.RandomIndex.{RipAtParts}
+use Rattle.mxf_views.proofs.Common.{◌∙◌, ap, map, sym, RipAtParts}
 use Rattle.mxf_views.proofs.NumbersLaws.{listed_alone}
 use Rattle.mxf_views.proofs.random_index.RipAt.listed.Goals as goal
 

@@ -1,5 +1,4 @@
-use Rattle.mxf_views.proofs.Common.{◌∙◌, ap, is_linked, list_all, partitions_of}
-use Rattle.mxf_views.specs.Partitions.{in_numbers}
+use Rattle.mxf_views.proofs.Common.{◌∙◌, ap, is_linked, list_all, partitions_of, in_numbers}
 use Rattle.mxf_views.proofs.NumbersLaws.{all_mapped}
 use Rattle.mxf_views.proofs.views.Views.are_linked.Goals as goal
 

@@ -1,5 +1,4 @@
-use Rattle.mxf_views.proofs.Common.{◌∙◌, List, ap, PartitionParts, partitions_of}
-use Rattle.mxf_views.specs.Partitions.{link_by}
+use Rattle.mxf_views.proofs.Common.{◌∙◌, List, ap, PartitionParts, partitions_of, link_by}
 use Rattle.mxf_views.proofs.NumbersLaws.{link_in_numbers}
 use Rattle.mxf_views.proofs.views.Views.link_by.Goals as goal
 

@@ -1,5 +1,4 @@
-use Rattle.mxf_views.proofs.Common.{◌∙◌, ◌==◌, ap, find, PartitionParts, partitions_of}
-use Rattle.mxf_views.specs.Partitions.{in_numbers}
+use Rattle.mxf_views.proofs.Common.{◌∙◌, ◌==◌, ap, find, PartitionParts, partitions_of, in_numbers}
 use Rattle.mxf_views.proofs.NumbersLaws.{find_mapped}
 use Rattle.mxf_views.proofs.views.Views.partition_at.Goals as goal
 

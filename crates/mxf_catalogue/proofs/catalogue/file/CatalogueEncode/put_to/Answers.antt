@@ -1,5 +1,4 @@
-use Rattle.std.proofs.Common.{length, ap, sym, ◌++◌, ℕ, ◌≡◌}
-use Rattle.std.proofs.lemmas.Result.{err_from_is_err_and}
+use Rattle.mxf_klv.proofs.Common.{length, ap, sym, ◌++◌, ℕ, ◌≡◌, err_from_is_err_and}
 use Rattle.std.specs.Prelude.{flat_map}
 use Rattle.mxf_catalogue.specs.CatalogueFile.{file_bytes, note_bytes, start_bytes}
 use Rattle.mxf_catalogue.specs.declared.catalogue.file.start.Version.TheVariants.{Two}

@@ -1,6 +1,5 @@
-use Rattle.std.proofs.Common.{◌≡◌, [], ◌∷◌, List, ℕ, arith, false, length, refl}
-use Rattle.mxf_klv.specs.Parts.{NoteParts}
-use Rattle.mxf_klv.specs.Note.{IsNote}
+use Rattle.mxf_klv.proofs.Common.{◌≡◌, [], ◌∷◌, List, ℕ, arith, false, length, refl, NoteParts}
+use Rattle.mxf_klv.proofs.Common.{IsNote}
 use Rattle.mxf_catalogue.proofs.catalogue.file.entry.mark_and_held.Goals as goal
 
 no_bytes : (xs : List ℕ) → length xs ≡ 0 → [] ≡ xs

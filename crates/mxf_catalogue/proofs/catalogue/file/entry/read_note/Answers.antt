@@ -1,7 +1,6 @@
-use Rattle.std.proofs.Common.{arith, length-append}
+use Rattle.mxf_klv.proofs.Common.{arith, length-append, IfOk-weaker}
 use Rattle.mxf_catalogue.specs.CatalogueFile.{BeginsWithNote}
 use Rattle.mxf_catalogue.specs.FileReading.{NoteBehindMark}
-use Rattle.std.proofs.lemmas.Result.{IfOk-weaker}
 use Rattle.mxf_catalogue.proofs.FileBytes.{length-fixed_bytes}
 use Rattle.mxf_catalogue.proofs.FileParts.{note_begins}
 use Rattle.mxf_catalogue.proofs.catalogue.file.entry.read_note.Goals as goal

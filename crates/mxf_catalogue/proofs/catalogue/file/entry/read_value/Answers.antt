@@ -1,5 +1,4 @@
-use Rattle.std.proofs.Common.{◌≡◌, ◌∙◌, ℕ, Bool, ap, cond, sym}
-use Rattle.mxf_klv.specs.Parts.{note_parts}
+use Rattle.mxf_klv.proofs.Common.{◌≡◌, ◌∙◌, ℕ, Bool, ap, cond, sym, note_parts}
 use Rattle.mxf_catalogue.proofs.FileParts.{noted}
 use Rattle.mxf_catalogue.proofs.catalogue.file.entry.read_value.Goals as goal
 

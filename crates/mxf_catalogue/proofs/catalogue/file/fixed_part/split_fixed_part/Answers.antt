@@ -1,5 +1,4 @@
-use Rattle.std.proofs.Common.{arith, length-append}
-use Rattle.std.proofs.lemmas.List.{length-drop}
+use Rattle.mxf_klv.proofs.Common.{arith, length-append, length-drop}
 use Rattle.mxf_catalogue.proofs.FileBytes.{length-number_bytes}
 use Rattle.mxf_catalogue.proofs.FileParts.{fixed_part_split}
 use Rattle.mxf_catalogue.proofs.catalogue.file.fixed_part.split_fixed_part.Goals as goal

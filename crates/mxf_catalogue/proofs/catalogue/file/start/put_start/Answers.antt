@@ -1,5 +1,4 @@
-use Rattle.std.proofs.Common.{Err, ◌∷◌, [], List, ℕ, ap, refl}
-use Rattle.std.proofs.lemmas.Result.{err_from_is_err_and}
+use Rattle.mxf_klv.proofs.Common.{Err, ◌∷◌, [], List, ℕ, ap, refl, err_from_is_err_and}
 use Rattle.mxf_catalogue.specs.CatalogueFile.{magic, number_bytes}
 use Rattle.mxf_catalogue.proofs.FileParts.{fails_in_first, WritesPart-second, number_is}
 use Rattle.mxf_catalogue.proofs.catalogue.file.start.put_start.Goals as goal

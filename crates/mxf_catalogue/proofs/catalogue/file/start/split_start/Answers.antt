@@ -1,5 +1,4 @@
-use Rattle.std.proofs.Common.{arith}
-use Rattle.std.proofs.lemmas.List.{length-drop}
+use Rattle.mxf_klv.proofs.Common.{arith, length-drop}
 use Rattle.mxf_catalogue.proofs.FileParts.{at_front_of_rest, start_split}
 use Rattle.mxf_catalogue.proofs.catalogue.file.start.split_start.Goals as goal
 

@@ -1,5 +1,4 @@
-use Rattle.std.proofs.Common.{sym, subst, inl, inr}
-use Rattle.mxf_klv.specs.Rising.{In}
+use Rattle.mxf_klv.proofs.Common.{sym, subst, inl, inr, In}
 use Rattle.mxf_catalogue.proofs.ContentLaws.{In-union_of}
 use Rattle.mxf_catalogue.proofs.catalogue.note_lists.NoteLists.have.Goals as goal
 

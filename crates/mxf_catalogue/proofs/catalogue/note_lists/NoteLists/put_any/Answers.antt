@@ -1,5 +1,4 @@
-use Rattle.std.proofs.Common.{◌≤◌, arith, sym, subst, ◌∙◌}
-use Rattle.mxf_klv.specs.Note.{end_of}
+use Rattle.mxf_klv.proofs.Common.{◌≤◌, arith, sym, subst, ◌∙◌, end_of}
 use Rattle.mxf_catalogue.proofs.HeadLaws.{reduced_with-present}
 use Rattle.mxf_catalogue.specs.Content.{union_of}
 use Rattle.mxf_catalogue.specs.Covers.{with_run}

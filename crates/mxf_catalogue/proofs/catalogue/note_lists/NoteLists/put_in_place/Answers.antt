@@ -1,6 +1,4 @@
-use Rattle.std.proofs.Common.{sym, ◌∙◌, ap, subst, inl, inr}
-use Rattle.mxf_klv.specs.Note.{head_note}
-use Rattle.mxf_klv.specs.Rising.{In}
+use Rattle.mxf_klv.proofs.Common.{sym, ◌∙◌, ap, subst, inl, inr, head_note, In}
 use Rattle.mxf_catalogue.specs.Content.{union_of}
 use Rattle.mxf_catalogue.specs.NoteLists.{AreKeptLists}
 use Rattle.mxf_catalogue.proofs.ContentLaws.{In-union_of}

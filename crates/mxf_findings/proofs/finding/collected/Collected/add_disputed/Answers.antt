@@ -1,7 +1,6 @@
-use Rattle.std.proofs.Common.{append-nil}
+use Rattle.mxf_views.proofs.Common.{append-nil, DisputedParts}
 use Rattle.mxf_findings.proofs.Common.{◌∙◌, ◌++◌, List, sym, ap, map, filter, finding}
 use Rattle.mxf_findings.specs.Findings.{is_dispute_cause}
-use Rattle.mxf_catalogue.specs.Disputes.{DisputedParts}
 use Rattle.mxf_findings.proofs.finding.collected.Collected.add_disputed.Goals as goal
 
 pub returns : goal.returns

@@ -1,6 +1,4 @@
-use Rattle.std.proofs.Common.{◌∙◌, List, map, subst, sym}
-use Rattle.std.proofs.lemmas.List.{at_drop_all}
-use Rattle.mxf_catalogue.specs.Covers.{IsCover, union_of_runs}
+use Rattle.mxf_views.proofs.Common.{◌∙◌, List, map, subst, sym, at_drop_all, IsCover, union_of_runs}
 use Rattle.mxf_hand.specs.Differing.{run_of_difference}
 use Rattle.mxf_hand.specs.declared.given.differing.Difference.{Difference}
 use Rattle.mxf_hand.proofs.DifferingLaws.{differences_cover}

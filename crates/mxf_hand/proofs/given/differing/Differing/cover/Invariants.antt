@@ -1,7 +1,5 @@
 -- The offsets so far, with those of the differences that are to come.
-use Rattle.std.proofs.Common.{◌≡◌, [], drop, map}
-use Rattle.std.specs.List.{AllByRecursion}
-use Rattle.mxf_catalogue.specs.Covers.{union_of_runs}
+use Rattle.mxf_views.proofs.Common.{◌≡◌, [], drop, map, AllByRecursion, union_of_runs}
 use Rattle.mxf_hand.specs.Differing.{IsDifference, run_of_difference}
 use Rattle.mxf_hand.proofs.given.differing.Differing.cover.Given as goal
 

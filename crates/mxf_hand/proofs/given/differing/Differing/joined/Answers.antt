@@ -1,5 +1,4 @@
-use Rattle.std.proofs.Common.{List, ap, subst, sym}
-use Rattle.std.specs.List.{AllByRecursion}
+use Rattle.mxf_views.proofs.Common.{List, ap, subst, sym, AllByRecursion}
 use Rattle.mxf_hand.specs.Differing.{IsDifference, with_all}
 use Rattle.mxf_hand.specs.declared.given.differing.Difference.{Difference}
 use Rattle.mxf_hand.proofs.DifferingLaws.{all_permuted}

@@ -1,6 +1,5 @@
 -- The differences so far, with those that are to come.
-use Rattle.std.proofs.Common.{◌≡◌, [], drop}
-use Rattle.std.specs.List.{AllByRecursion}
+use Rattle.mxf_views.proofs.Common.{◌≡◌, [], drop, AllByRecursion}
 use Rattle.mxf_hand.specs.Differing.{IsDifference, with_all}
 use Rattle.mxf_hand.proofs.given.differing.Differing.joined.Given as goal
 

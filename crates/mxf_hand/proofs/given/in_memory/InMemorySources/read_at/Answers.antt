@@ -1,9 +1,8 @@
-use Rattle.std.proofs.Common.{◌≡◌, ◌<◌, ◌++◌, ◌∙◌, ℕ, List, length, get_or, take, drop, refl, sym, ap, arith}
-use Rattle.std.proofs.Common.{length-append, length-take, take-append-drop}
+use Rattle.mxf_views.proofs.Common.{◌≡◌, ◌<◌, ◌++◌, ◌∙◌, ℕ, List, length, get_or, take, drop, refl}
+use Rattle.mxf_views.proofs.Common.{sym, ap, arith, length-append, slice_get, take_at}
+use Rattle.mxf_views.proofs.Common.{slice_get-map, slice_get_read}
+use Rattle.std.proofs.Common.{length-take, take-append-drop}
 use Rattle.std.specs.Option.{option_map}
-use Rattle.std.specs.Prelude.{slice_get}
-use Rattle.std.proofs.lemmas.List.{take_at}
-use Rattle.std.proofs.lemmas.Option.{slice_get-map, slice_get_read}
 use Rattle.mxf_hand.specs.Given.{StandAt}
 use Rattle.mxf_hand.specs.InMemory.{source_of, sources_of}
 use Rattle.mxf_hand.specs.declared.given.in_memory.BytesAt.{BytesAt}

@@ -1,12 +1,11 @@
-use Rattle.std.proofs.Common.{◌≡◌, ◌≢◌, ℕ, ◌+◌, ◌-◌, ◌≤◌, ◌<◌, List, ◌++◌, Option, arith, length, take, drop}
-use Rattle.std.proofs.Common.{refl, sym, ap, subst, ◌∙◌}
-use Rattle.std.proofs.Common.{append-nil, append_assoc, take-append-drop, length-append, length-take-le}
+use Rattle.mxf_klv.proofs.Common.{◌≡◌, ◌≢◌, ℕ, ◌+◌, ◌-◌, ◌≤◌, ◌<◌, List, ◌++◌, Option, arith}
+use Rattle.mxf_klv.proofs.Common.{length, take, drop, refl, sym, ap, subst, ◌∙◌, append-nil}
+use Rattle.mxf_klv.proofs.Common.{append_assoc, length-append, nil_from_length, take_rest}
+use Rattle.mxf_klv.proofs.Common.{Appends-trans, Appends, counted}
+use Rattle.std.proofs.Common.{take-append-drop, length-take-le}
 use Rattle.std.proofs.lemmas.Bool.{eqb-false, eqb-true}
-use Rattle.std.proofs.lemmas.List.{nil_from_length, take_rest}
 use Rattle.std.proofs.Math.Seq.{take-append_seam}
-use Rattle.std.proofs.KnownBytes.{Appends-kept, Appends-trans}
-use Rattle.std.specs.Io.KnownBytes.{Appends}
-use Rattle.mxf_klv.specs.Written.{counted}
+use Rattle.std.proofs.KnownBytes.{Appends-kept}
 use Rattle.mxf_klv.proofs.writing.progress.Progress.put.Goals as goal
 
 moves_front : (all done rest : List ℕ) (n : ℕ) → all ≡ done ++ rest → all ≡ (done ++ take n rest) ++ take

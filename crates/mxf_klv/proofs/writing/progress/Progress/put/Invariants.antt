@@ -1,7 +1,5 @@
 -- What is gone from `rest` was appended, and is counted.
-use Rattle.std.proofs.Common.{◌≤◌, ◌≡◌, ◌+◌, ◌-◌, List, ℕ, ◌++◌, length}
-use Rattle.std.specs.Io.KnownBytes.{Appends}
-use Rattle.mxf_klv.specs.Written.{counted}
+use Rattle.mxf_klv.proofs.Common.{◌≤◌, ◌≡◌, ◌+◌, ◌-◌, List, ℕ, ◌++◌, length, Appends, counted}
 use Rattle.mxf_klv.proofs.writing.progress.Progress.put.Given as goal
 
 abbrev pub invariant-loop-rest : goal.invariant-loop-rest

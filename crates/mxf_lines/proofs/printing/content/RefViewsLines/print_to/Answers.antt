@@ -1,6 +1,5 @@
-use Rattle.std.proofs.Common.{◌<◌, arith, length, length-append, refl, rules, subst}
-use Rattle.std.proofs.lemmas.Result.{err_from_is_err_and}
-use Rattle.mxf_klv.specs.Written.{Puts}
+use Rattle.mxf_views.proofs.Common.{◌<◌, arith, length, length-append, refl, rules, subst}
+use Rattle.mxf_views.proofs.Common.{err_from_is_err_and, Puts}
 use Rattle.mxf_lines.specs.Printing.{Prints, content_lines}
 use Rattle.mxf_lines.proofs.printing.content.RefViewsLines.print_to.Goals as goal
 

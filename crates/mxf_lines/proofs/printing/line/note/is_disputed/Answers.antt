@@ -1,6 +1,4 @@
-use Rattle.mxf_catalogue.proofs.DisputeLaws.{is_disputed-IsDisputed}
-use Rattle.mxf_catalogue.specs.Disputes.{is_disputed}
-use Rattle.mxf_klv.proofs.Tests.{same_bool}
+use Rattle.mxf_views.proofs.Common.{is_disputed-IsDisputed, is_disputed, same_bool}
 use Rattle.mxf_lines.proofs.printing.line.note.is_disputed.Goals as goal
 
 pub returns : goal.returns

@@ -1,5 +1,4 @@
-use Rattle.std.proofs.Common.{refl, subst}
-use Rattle.mxf_klv.specs.Written.{Puts}
+use Rattle.mxf_views.proofs.Common.{refl, subst, Puts}
 use Rattle.mxf_lines.specs.Printing.{Prints}
 use Rattle.mxf_lines.proofs.printing.plan.PlanWithDisputesLines.print_to.Goals as goal
 

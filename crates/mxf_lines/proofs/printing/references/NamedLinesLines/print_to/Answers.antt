@@ -1,6 +1,5 @@
-use Rattle.std.proofs.Common.{◌≡◌, ◌∙◌, ◌==◌, ap, false, flat_map, length, rules, sym}
-use Rattle.std.proofs.lemmas.List.{nil_from_length}
-use Rattle.std.proofs.lemmas.Result.{err_from_is_err_and}
+use Rattle.mxf_views.proofs.Common.{◌≡◌, ◌∙◌, ◌==◌, ap, false, flat_map, length, rules, sym}
+use Rattle.mxf_views.proofs.Common.{nil_from_length, err_from_is_err_and}
 use Rattle.mxf_lines.specs.ReferenceLines.{lines_of_reference}
 use Rattle.mxf_lines.proofs.PrintLaws.{leads_more, leads_failed, leads_end}
 use Rattle.mxf_lines.proofs.RecordLaws.{lines_of_some}

@@ -1,6 +1,5 @@
-use Rattle.std.proofs.Common.{◌≡◌, arith, ap, refl, flat_map}
-use Rattle.std.proofs.lemmas.Result.{err_from_is_err_and}
-use Rattle.mxf_catalogue.specs.Disputes.{clear_notes}
+use Rattle.mxf_views.proofs.Common.{◌≡◌, arith, ap, refl, flat_map, err_from_is_err_and}
+use Rattle.mxf_views.proofs.Common.{clear_notes}
 use Rattle.mxf_lines.specs.ItemLines.{set_lines}
 use Rattle.mxf_lines.proofs.PrintLaws.{leads_first, leads_more, leads_failed, leads_end}
 use Rattle.mxf_lines.proofs.printing.sets.SetLinesLines.print_to.Goals as goal

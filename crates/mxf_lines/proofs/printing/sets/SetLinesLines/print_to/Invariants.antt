@@ -1,6 +1,5 @@
 -- What is answered of the lines to come is answered of all lines, and the labels are those of their copy.
-use Rattle.std.proofs.Common.{flat_map}
-use Rattle.mxf_catalogue.specs.Disputes.{clear_notes}
+use Rattle.mxf_views.proofs.Common.{flat_map, clear_notes}
 use Rattle.mxf_lines.specs.ItemLines.{AreLabelsIn, set_lines}
 use Rattle.mxf_lines.proofs.PrintLaws.{Leads}
 use Rattle.mxf_lines.proofs.printing.sets.SetLinesLines.print_to.Given as goal

@@ -1,7 +1,6 @@
-use Rattle.std.proofs.Common.{◌∙◌, List, subst}
-use Rattle.mxf_klv.specs.Parts.{NoteParts}
-use Rattle.mxf_sets.specs.declared.pack.part.PackPart.TheVariants as parts
+use Rattle.mxf_views.proofs.Common.{◌∙◌, List, subst, NoteParts}
 use Rattle.mxf_map.specs.Layers.{AreOffsets, BeginsPartition, BeginsRandomIndex, LiesInZone}
+use Rattle.mxf_sets.specs.declared.pack.part.PackPart.TheVariants as parts
 use Rattle.mxf_places.specs.declared.stretch.Zone.TheVariants as zones
 use Rattle.mxf_map.proofs.map.layers.Layers.of.Goals as goal
 

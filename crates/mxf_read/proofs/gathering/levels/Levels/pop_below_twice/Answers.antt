@@ -1,5 +1,4 @@
-use Rattle.std.proofs.Common.{subst}
-use Rattle.std.specs.Option.{option_to_list}
+use Rattle.mxf_views.proofs.Common.{subst, option_to_list}
 use Rattle.mxf_read.specs.Levels.{AreBalanced}
 use Rattle.mxf_read.proofs.LevelLaws.{balanced_front}
 use Rattle.mxf_read.proofs.gathering.levels.Levels.pop_below_twice.Goals as goal

@@ -1,5 +1,4 @@
-use Rattle.std.proofs.Common.{◌∙◌, refl, arith, ap, length}
-use Rattle.std.proofs.lemmas.List.{length-take}
+use Rattle.mxf_klv.proofs.Common.{◌∙◌, refl, arith, ap, length, length-take}
 use Rattle.mxf_sets.proofs.PackLaws.{bad_batch, pack_read}
 use Rattle.mxf_sets.proofs.pack.partition.PartitionPack.read_value.Goals as goal
 

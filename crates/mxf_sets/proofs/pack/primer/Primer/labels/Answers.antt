@@ -1,5 +1,4 @@
-use Rattle.std.proofs.Common.{◌≡◌, length, sym, subst, List, ℕ}
-use Rattle.std.specs.List.{AllByRecursion}
+use Rattle.mxf_klv.proofs.Common.{◌≡◌, length, sym, subst, List, ℕ, AllByRecursion}
 use Rattle.mxf_sets.proofs.LabelLaws.{entries_wide}
 use Rattle.mxf_sets.proofs.pack.primer.Primer.labels.Goals as goal
 

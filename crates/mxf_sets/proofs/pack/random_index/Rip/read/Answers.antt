@@ -1,7 +1,6 @@
-use Rattle.std.proofs.Common.{◌≡◌, ◌∙◌, ◌+◌, ◌-◌, ◌*◌, ◌%◌, arith, ap, length, refl, sym}
-use Rattle.std.proofs.lemmas.List.{length-drop}
+use Rattle.mxf_klv.proofs.Common.{◌≡◌, ◌∙◌, ◌+◌, ◌-◌, ◌*◌, ◌%◌, arith, ap, length, refl, sym}
+use Rattle.mxf_klv.proofs.Common.{length-drop, AreBytes}
 use Rattle.byteorder.specs.Endian.{big_number}
-use Rattle.mxf_klv.specs.Bytes.{AreBytes}
 use Rattle.mxf_klv.proofs.RoundTrips.{AreBytes-take, AreBytes-drop}
 use Rattle.mxf_sets.specs.RandomIndexPack.{entries_of}
 use Rattle.mxf_sets.proofs.RipLaws.{entries_are, length-entries_of, rip_read}

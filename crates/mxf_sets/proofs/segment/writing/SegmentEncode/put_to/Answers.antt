@@ -1,6 +1,4 @@
-use Rattle.std.proofs.Common.{◌≡◌, ap}
-use Rattle.std.specs.List.{flat_map}
-use Rattle.std.proofs.lemmas.Result.{err_from_is_err_and}
+use Rattle.mxf_klv.proofs.Common.{◌≡◌, ap, flat_map, err_from_is_err_and}
 use Rattle.mxf_sets.specs.Items.{item_bytes}
 use Rattle.mxf_sets.specs.Segment.{SegmentParts, entry_item, entry_items, number_items}
 use Rattle.mxf_sets.proofs.SegmentBytes.{by_parts, constant_bytes, entries_bytes}

@@ -1,4 +1,6 @@
-use Rattle.mxf_views.proofs.Common.{List, subst, sym, Mark, clear_from, AreInRange, AreMarks, SumsParts}
+use Rattle.mxf_views.proofs.Common.{List, subst, sym, clear_from, AreInRange, SumsParts}
+use Rattle.mxf_views.specs.declared.kept.sums.Mark.{Mark}
+use Rattle.mxf_views.specs.Sums.{AreMarks}
 use Rattle.mxf_views.proofs.kept.sums.Sums.counts.Goals as goal
 
 pub counts_by-requires-clause-marks : goal.counts_by-requires-clause-marks

@@ -1,6 +1,4 @@
-use Rattle.std.proofs.Common.{List, subst, sym, inl, inr, refl}
-use Rattle.mxf_klv.specs.Parts.{NoteParts}
-use Rattle.mxf_klv.specs.Rising.{In}
+use Rattle.mxf_views.proofs.Common.{List, subst, sym, inl, inr, refl, NoteParts, In}
 use Rattle.mxf_lines.proofs.printing.line.note.NoteLinesSeries.next_item.Goals as goal
 
 pub is_disputed-disputed-requires : goal.is_disputed-disputed-requires

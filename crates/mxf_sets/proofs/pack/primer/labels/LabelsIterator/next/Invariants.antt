@@ -1,5 +1,4 @@
-use Rattle.std.proofs.Common.{◌≡◌, length}
-use Rattle.std.specs.List.{AllByRecursion}
+use Rattle.mxf_klv.proofs.Common.{◌≡◌, length, AllByRecursion}
 use Rattle.mxf_sets.specs.PackReadings.{labels_among}
 use Rattle.mxf_sets.proofs.pack.primer.labels.LabelsIterator.next.Given as goal
 

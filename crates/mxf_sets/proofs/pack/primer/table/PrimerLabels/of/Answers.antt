@@ -1,10 +1,7 @@
-use Rattle.std.proofs.Common.{◌≡◌, ℕ, List, Option, Some, sym, ap, subst, ◌∙◌, length, cond}
-use Rattle.std.specs.Map.{lookup}
-use Rattle.std.specs.Ordering.{nat_cmp}
-use Rattle.std.specs.BTreeMap.{is_at}
+use Rattle.mxf_klv.proofs.Common.{◌≡◌, ℕ, List, Option, Some, sym, ap, subst, ◌∙◌, length, cond}
+use Rattle.mxf_klv.proofs.Common.{lookup, nat_cmp, is_at, AllByRecursion}
 use Rattle.byteorder.specs.Endian.{big_number}
 use Rattle.mxf_sets.specs.PrimerTable.{with_label}
-use Rattle.std.specs.List.{AllByRecursion}
 use Rattle.mxf_sets.specs.Batch.{batch_items}
 use Rattle.mxf_sets.proofs.LabelLaws.{entries_wide}
 use Rattle.mxf_sets.proofs.TableLaws.{IsTold, told_all, told_none, told_with}

@@ -1,5 +1,4 @@
-use Rattle.std.proofs.Common.{◌≡◌, length}
-use Rattle.std.specs.List.{AllByRecursion}
+use Rattle.mxf_klv.proofs.Common.{◌≡◌, length, AllByRecursion}
 use Rattle.mxf_sets.specs.Batch.{batch_items}
 use Rattle.mxf_sets.proofs.TableLaws.{IsTold}
 use Rattle.mxf_sets.proofs.pack.primer.table.PrimerLabels.of.Given as goal
