@@ -7,8 +7,8 @@ use Rattle.mxf_klv.proofs.Common.{length-take, get_or-take, get_or-drop, get_or_
 use Rattle.mxf_klv.proofs.Common.{take-append-le, flat_map-append, get_or_from_slice_get}
 use Rattle.mxf_klv.proofs.Common.{slice_get_within, w64, from_be_bytes, to_be_bytes, flat_map}
 use Rattle.mxf_klv.proofs.Common.{ordering_index, Ordering, Less, Appends, NoteParts, keeps}
-use Rattle.mxf_klv.proofs.Common.{note_cmp, note_parts, note_total, WriteFault, StopsIn, WritesPart}
-use Rattle.mxf_klv.proofs.Common.{counted}
+use Rattle.mxf_klv.proofs.Common.{note_cmp, note_parts, note_total, StopsIn, WritesPart, counted}
+use Rattle.mxf_klv.specs.declared.writing.WriteFault.{WriteFault}
 use Rattle.std.proofs.Common.{take-append-drop}
 use Rattle.std.specs.Prelude.{IsTrue, ◌==◌}
 use Rattle.std.specs.List.{slice_get}

@@ -1,6 +1,7 @@
 -- Which notes tell, by their fields.
 use Rattle.mxf_klv.proofs.Common.{◌≡◌, ◌↔◌, ◌==◌, ◌∙◌, true, List, IsTrue, length, not, ap, arith}
-use Rattle.mxf_klv.proofs.Common.{eq-eqb, refl, sym, kind_of, Kind, NoteParts, head_parts, In}
+use Rattle.mxf_klv.proofs.Common.{eq-eqb, refl, sym, kind_of, NoteParts, head_parts, In}
+use Rattle.mxf_klv.specs.declared.kinds.Kind.{Kind}
 use Rattle.mxf_klv.proofs.Tests.{not-true-false, not_true}
 use Rattle.mxf_catalogue.specs.Content.{IsCatalogue, IsContent}
 use Rattle.mxf_catalogue.specs.Disputes.{is_disputed}

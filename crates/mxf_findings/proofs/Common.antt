@@ -9,21 +9,20 @@ use Rattle.mxf_views.proofs.Common.{◌-◌, ◌<◌, ◌==◌, ◌^◌, ◌||�
 use Rattle.mxf_views.proofs.Common.{later_differs, picked_none, picked_one, picked_several}
 use Rattle.mxf_views.proofs.Common.{In-clear_notes, clear-alone, clear_at-found, search_says}
 use Rattle.mxf_views.proofs.Common.{has_byte, AreApart-filter, IsContent, AreApart, IsClear}
-use Rattle.mxf_views.proofs.Common.{clear_notes, disputed_notes, lies_in, Run, Contains-from_In}
+use Rattle.mxf_views.proofs.Common.{clear_notes, disputed_notes, lies_in, Contains-from_In}
 use Rattle.mxf_views.proofs.Common.{In-append, In-filter, In-from_Contains, In-map, all-In}
 use Rattle.mxf_views.proofs.Common.{find-only, found-In, list_any-In, none_found, either}
 use Rattle.mxf_views.proofs.Common.{not-true-false, not_equal, not_true, same_bool, kind_of, end_of}
 use Rattle.mxf_views.proofs.Common.{greatest_end, keeps_value, IsPacket, size_of, NoteParts}
 use Rattle.mxf_views.proofs.Common.{PacketParts, end_after, In, In-union, IsPlaceOf, IsRising}
-use Rattle.mxf_views.proofs.Common.{IsRising-union, Kind, Status, OpenIncomplete, kind_says}
-use Rattle.mxf_views.proofs.Common.{kind_tells, identification_at, stream_offset, pack_at}
-use Rattle.mxf_views.proofs.Common.{part_and_status, primer_at, rip_at, package_at, IsPartitionKind}
-use Rattle.mxf_views.proofs.Common.{PartitionPackParts, RipParts, read_as, SegmentParts, segment_at}
-use Rattle.mxf_views.proofs.Common.{Body, RipEntry, AreSoMany, CountsZone, IsBest, IsCopy}
-use Rattle.mxf_views.proofs.Common.{IsPrefaceIn, IsPreferred, copies_among, is_fill, is_primer}
-use Rattle.mxf_views.proofs.Common.{is_set, preface, preferred_of, rank, sets_found, sets_from}
-use Rattle.mxf_views.proofs.Common.{zone_of, copies_of, is_preface_note, is_set_note, gaps_of}
-use Rattle.mxf_views.proofs.Common.{is_in_copy, primer_there, primer_for, HangTogether}
+use Rattle.mxf_views.proofs.Common.{IsRising-union, kind_says, kind_tells, identification_at}
+use Rattle.mxf_views.proofs.Common.{stream_offset, pack_at, part_and_status, primer_at, rip_at}
+use Rattle.mxf_views.proofs.Common.{package_at, IsPartitionKind, PartitionPackParts, RipParts}
+use Rattle.mxf_views.proofs.Common.{read_as, SegmentParts, segment_at, AreSoMany, CountsZone}
+use Rattle.mxf_views.proofs.Common.{IsBest, IsCopy, IsPrefaceIn, IsPreferred, copies_among, is_fill}
+use Rattle.mxf_views.proofs.Common.{is_primer, is_set, preface, preferred_of, rank, sets_found}
+use Rattle.mxf_views.proofs.Common.{sets_from, zone_of, copies_of, is_preface_note, is_set_note}
+use Rattle.mxf_views.proofs.Common.{gaps_of, is_in_copy, primer_there, primer_for, HangTogether}
 use Rattle.mxf_views.proofs.Common.{PartitionParts, chain_of, is_footer, link_at, link_of, pack_of}
 use Rattle.mxf_views.proofs.Common.{partitions_among, is_no_unreadable_pack, partition_at}
 use Rattle.mxf_views.proofs.Common.{partitions_of, SegmentAtParts, is_segment, segments_among}
@@ -32,13 +31,22 @@ use Rattle.mxf_views.proofs.Common.{rip_view_among, rip_view_by, rip_view_of, pa
 use Rattle.mxf_views.proofs.Common.{place_by_segment, segments_read, IsReadAs, read_pack, Agree}
 use Rattle.mxf_views.proofs.Common.{EndsWithFooter, EndsWithRandomIndex, HasMetadata, IsFill}
 use Rattle.mxf_views.proofs.Common.{IsFooterPack, IsHeaderPack, IsPartitionPack, IsPrimerPack}
-use Rattle.mxf_views.proofs.Common.{IsRandomIndexPack, IsWellFormed, total_of, Broken, Whole}
-use Rattle.mxf_views.proofs.Common.{CopyInfo, Ambiguous, At, NotIndexed, One, and_from, and_parts}
+use Rattle.mxf_views.proofs.Common.{IsRandomIndexPack, IsWellFormed, total_of, and_from, and_parts}
 use Rattle.mxf_views.proofs.Common.{cases_lt, false_from_ne_true, false≢true, or_cases, or_parts}
 use Rattle.mxf_views.proofs.Common.{nat_cmp_total, tied_itself, map-append, Contains-permutation}
 use Rattle.mxf_views.proofs.Common.{answers_always, length-filter, same_Some, bytes_eq-Decides}
 use Rattle.mxf_views.proofs.Common.{AllByRecursion, AllWithin, cons_option, list_any}
 use Rattle.mxf_views.proofs.Common.{IsNonDecreasingBy, result_ok}
+use Rattle.mxf_catalogue.specs.declared.run.Run.{Run}
+use Rattle.mxf_klv.specs.declared.kinds.Kind.{Kind}
+use Rattle.mxf_klv.specs.declared.kinds.Status.{Status}
+use Rattle.mxf_klv.specs.declared.kinds.Status.TheVariants.{OpenIncomplete, ClosedComplete}
+use Rattle.mxf_sets.specs.declared.pack.part.PackPart.TheVariants.{Body, Footer, Header}
+use Rattle.mxf_sets.specs.declared.pack.random_index.RipEntry.{RipEntry}
+use Rattle.mxf_views.specs.declared.chain.Chain.TheVariants.{Broken, Whole}
+use Rattle.mxf_views.specs.declared.copy.CopyInfo.{CopyInfo}
+use Rattle.mxf_views.specs.declared.index.place.Place.TheVariants.{Ambiguous, At, NotIndexed}
+use Rattle.mxf_views.specs.declared.random_index.RipView.TheVariants.{One}
 use Rattle.std.proofs.Common.{Equal, Greater, IsPermutation, Less, OnOk, bytes_eq, ltb-false}
 use Rattle.std.proofs.Common.{nat_cmp}
 use Rattle.mxf_catalogue.proofs.MovedLaws.{rising_apart}
@@ -46,14 +54,12 @@ use Rattle.mxf_catalogue.specs.Disputes.{disputed_parts}
 use Rattle.mxf_klv.proofs.Lists.{In-chosen}
 use Rattle.mxf_klv.proofs.SmallPackets.{are_packets}
 use Rattle.mxf_klv.proofs.Tests.{none_some}
-use Rattle.mxf_klv.specs.declared.kinds.Status.TheVariants.{ClosedComplete}
 use Rattle.mxf_sets.proofs.PackKinds.{is_pack_kind}
 use Rattle.mxf_sets.specs.Instance.{instance_uid_at}
 use Rattle.mxf_sets.specs.Items.{item_at, items_of, left_of}
 use Rattle.mxf_sets.specs.Preface.{PrefaceParts, preface_at}
 use Rattle.mxf_sets.specs.RandomIndexPack.{entries_of}
 use Rattle.mxf_sets.specs.Storage.{storage_at}
-use Rattle.mxf_sets.specs.declared.pack.part.PackPart.TheVariants.{Footer, Header}
 use Rattle.mxf_findings.specs.Codes.{finding, finding_cmp, finding_cmp-IsAntisymmetric}
 use Rattle.mxf_findings.specs.Codes.{finding_total}
 use Rattle.mxf_views.specs.Copies.{status_rank, sets_of}

@@ -5,8 +5,9 @@ use Rattle.mxf_views.proofs.Common.{List, [], ◌∷◌, ◌++◌, Option, Some,
 use Rattle.mxf_views.proofs.Common.{get_or, length, map, take, refl, sym, ap, subst, inl, inr}
 use Rattle.mxf_views.proofs.Common.{append_assoc, arith, eqb-true, cases_lt, false≢true, eq-eqb}
 use Rattle.mxf_views.proofs.Common.{drop-drop, take_more, same_Some, slice_get-get_or}
-use Rattle.mxf_views.proofs.Common.{slice_get_within, slice_get, AllByRecursion, In, In-append, Run}
+use Rattle.mxf_views.proofs.Common.{slice_get_within, slice_get, AllByRecursion, In, In-append}
 use Rattle.mxf_views.proofs.Common.{IsCover, union_of_runs, LiesIn}
+use Rattle.mxf_catalogue.specs.declared.run.Run.{Run}
 use Rattle.std.proofs.Common.{length-take}
 use Rattle.std.specs.Prelude.{Err, IfSome, Ok, OnOk, Result}
 use Rattle.mxf_hand.specs.Given.{AreAtHand, AreTold, Differ, HaveExtents, IsGiven, IsGivenAs}

@@ -8,8 +8,9 @@ use Rattle.mxf_views.proofs.Common.{at_drop_all, and_from, and_parts, cases_lt, 
 use Rattle.mxf_views.proofs.Common.{Contains-permutation, IsPermutation-sym, same_Some}
 use Rattle.mxf_views.proofs.Common.{slice_get-get_or, slice_get, slice_set, AllByRecursion}
 use Rattle.mxf_views.proofs.Common.{IsNonDecreasingBy, IsPermutation, In, Contains-from_In}
-use Rattle.mxf_views.proofs.Common.{In-from_Contains, In-map, all-In, all_from_In, Run, IsCover}
+use Rattle.mxf_views.proofs.Common.{In-from_Contains, In-map, all-In, all_from_In, IsCover}
 use Rattle.mxf_views.proofs.Common.{union_of_runs, union_of_runs-IsUnion, LiesIn}
+use Rattle.mxf_catalogue.specs.declared.run.Run.{Run}
 use Rattle.std.proofs.Common.{leb-true, le-leb}
 use Rattle.std.specs.Prelude.{drop, min, Err, Ok, OnErr, OnOk, Result}
 use Rattle.mxf_klv.specs.declared.memory.OutOfMemory.{OutOfMemory}

@@ -5,7 +5,8 @@ use Rattle.mxf_views.proofs.Common.{unwrap_or, cases_lt, NoteParts, PacketParts,
 use Rattle.mxf_views.proofs.Common.{covered_end, end_of, note_of, end_after, IsContent, clear_same}
 use Rattle.mxf_views.proofs.Common.{SharesByte-same_offset, covers_below_end, PartitionParts}
 use Rattle.mxf_views.proofs.Common.{RipAtParts, partitions_read, EndsWithRandomIndex}
-use Rattle.mxf_views.proofs.Common.{IsRandomIndexPack, IsWellFormed, One}
+use Rattle.mxf_views.proofs.Common.{IsRandomIndexPack, IsWellFormed}
+use Rattle.mxf_views.specs.declared.random_index.RipView.TheVariants.{One}
 use Rattle.mxf_views.proofs.RandomIndexLaws.{rip_view_iff}
 use Rattle.mxf_places.specs.AtHand.{LiesInRange, nothing_at_hand}
 use Rattle.mxf_places.specs.Held.{IsHeld, end_of_file, held_end, top_of}

@@ -4,8 +4,8 @@ use Rattle.mxf_views.proofs.Common.{Bool, true, false, List, [], ◌∷◌, Opti
 use Rattle.mxf_views.proofs.Common.{cond, filter, find, get_or, inl, inr, nat_le, nat_lt, not, refl}
 use Rattle.mxf_views.proofs.Common.{subst, sym, le-leb, leb-true, lt-leb, ltb-false, range_with_len}
 use Rattle.mxf_views.proofs.Common.{option_map_or, NoteParts, In, In-list_all, found-In}
-use Rattle.mxf_views.proofs.Common.{list_all-In, equals_itself, Run, is_between, LiesIn}
-use Rattle.mxf_views.proofs.Common.{same_covers}
+use Rattle.mxf_views.proofs.Common.{list_all-In, equals_itself, is_between, LiesIn, same_covers}
+use Rattle.mxf_catalogue.specs.declared.run.Run.{Run}
 use Rattle.std.proofs.lemmas.Bool.{ltb-true}
 use Rattle.std.specs.Option.{option_and_then}
 use Rattle.mxf_places.specs.AtHand.{has_offset, up_to_bound}

@@ -2,9 +2,10 @@
 use Rattle.mxf_views.proofs.Common.{◌≡◌, ◌↔◌, ◌⊎◌, ◌<◌, ◌≤◌, ◌+◌, ℕ, List, [], ◌∷◌, Some, true}
 use Rattle.mxf_views.proofs.Common.{false, filter, if◌then◌else◌, max, min, nat_lt, refl, inl, inr}
 use Rattle.mxf_views.proofs.Common.{arith, lt-ltb, ltb-true, and_from, cases_lt, AllByRecursion}
-use Rattle.mxf_views.proofs.Common.{greatest_end, In-filter, Run, IsCover, IsRun, LiesIn-with_run}
+use Rattle.mxf_views.proofs.Common.{greatest_end, In-filter, IsCover, IsRun, LiesIn-with_run}
 use Rattle.mxf_views.proofs.Common.{is_between, with_run, AreMaximal, LiesIn, run, IsCover-with_run}
 use Rattle.mxf_views.proofs.Common.{AreMaximal-lower}
+use Rattle.mxf_catalogue.specs.declared.run.Run.{Run}
 use Rattle.std.proofs.Common.{ltb-false}
 use Rattle.mxf_catalogue.specs.Covers.{LiesIn-first}
 use Rattle.mxf_catalogue.proofs.RunLaws.{at_or_above}

@@ -4,8 +4,9 @@ use Rattle.mxf_views.proofs.Common.{◌++◌, Some, true, false, if◌then◌els
 use Rattle.mxf_views.proofs.Common.{nat_lt, refl, sym, ap, subst, inl, inr, arith, lt-ltb, ltb-true}
 use Rattle.mxf_views.proofs.Common.{cases_lt, Contains-permutation, IsPermutation-sym, same_Some}
 use Rattle.mxf_views.proofs.Common.{slice_get, IsNonDecreasingBy, In, Contains-from_In, In-append}
-use Rattle.mxf_views.proofs.Common.{In-from_Contains, In-map, Run, IsCover, IsRun, union_of_runs}
+use Rattle.mxf_views.proofs.Common.{In-from_Contains, In-map, IsCover, IsRun, union_of_runs}
 use Rattle.mxf_views.proofs.Common.{union_of_runs-IsUnion, with_run, LiesIn, IsCover-with_run}
+use Rattle.mxf_catalogue.specs.declared.run.Run.{Run}
 use Rattle.mxf_hand.specs.Places.{AreApart, ArePlaces, AreSpans, GivenParts, IsPlaceOf}
 use Rattle.mxf_hand.specs.Places.{LiesInExtent, LiesInPlace, overlaps_below, place, places_above}
 use Rattle.mxf_hand.specs.Places.{run_of, some_place, spans_from}

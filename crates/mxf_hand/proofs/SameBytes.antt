@@ -4,7 +4,8 @@ use Rattle.mxf_views.proofs.Common.{suc, Bool, true, false, List, [], ◌∷◌,
 use Rattle.mxf_views.proofs.Common.{arith, cond, filter, flat_map, get_or, map, nat_lt, not, refl}
 use Rattle.mxf_views.proofs.Common.{subst, sym, list_all, range_with_len, option_map_or, NoteParts}
 use Rattle.mxf_views.proofs.Common.{packet_parts, covered_end, end_of, note_of, SameMembers}
-use Rattle.mxf_views.proofs.Common.{filter_alike, Run, reduced_union, IsCover, LiesIn}
+use Rattle.mxf_views.proofs.Common.{filter_alike, reduced_union, IsCover, LiesIn}
+use Rattle.mxf_catalogue.specs.declared.run.Run.{Run}
 use Rattle.mxf_hand.specs.Given.{Differ, IsAtHand, IsDiffering, IsGivenAs, SourceParts}
 use Rattle.mxf_hand.specs.Given.{bytes_between}
 use Rattle.mxf_hand.specs.Noting.{cut_heads, packet_notes}

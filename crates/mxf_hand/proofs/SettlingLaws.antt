@@ -5,11 +5,11 @@ use Rattle.mxf_views.proofs.Common.{eq-eqb, eqb-true, find, inl, inr, refl, subs
 use Rattle.mxf_views.proofs.Common.{◌∷◌, count_by, filter, length, ltb-true, map, IsNonDecreasingBy}
 use Rattle.mxf_views.proofs.Common.{get_or-map, length-map, range_with_len, option_map_or, and_from}
 use Rattle.mxf_views.proofs.Common.{and_parts, In-filter, In-map, found-In, list_any-In, none_found}
-use Rattle.mxf_views.proofs.Common.{range-all, range-full, same_bool, NoteParts, In, Stop}
-use Rattle.mxf_views.proofs.Common.{IsContent, DisputedParts, disputed_notes, is_disputed}
-use Rattle.mxf_views.proofs.Common.{undisputed_notes, offsets_rise, IsContent-filter}
-use Rattle.mxf_views.proofs.Common.{In-undisputed_notes, SharesByte-same_offset}
-use Rattle.mxf_views.proofs.Common.{notes-disputed_notes, same_note}
+use Rattle.mxf_views.proofs.Common.{range-all, range-full, same_bool, NoteParts, In, IsContent}
+use Rattle.mxf_views.proofs.Common.{DisputedParts, disputed_notes, is_disputed, undisputed_notes}
+use Rattle.mxf_views.proofs.Common.{offsets_rise, IsContent-filter, In-undisputed_notes}
+use Rattle.mxf_views.proofs.Common.{SharesByte-same_offset, notes-disputed_notes, same_note}
+use Rattle.mxf_klv.specs.declared.piece.Stop.{Stop}
 use Rattle.std.proofs.Common.{slice_get}
 use Rattle.mxf_catalogue.specs.Disputes.{whole_notes}
 use Rattle.mxf_catalogue.proofs.DisputeLaws.{IsContent-disputed_notes}

@@ -7,10 +7,11 @@ use Rattle.mxf_views.proofs.Common.{tied_itself, same_Some, option_map_or, NoteP
 use Rattle.mxf_views.proofs.Common.{covered_end, end_of, head_note, note_cmp, note_total, end_after}
 use Rattle.mxf_views.proofs.Common.{notes_from, In, In-append, In-filter, In-flat_map, find-none}
 use Rattle.mxf_views.proofs.Common.{find-only, equals_itself, AreReduced, IsContent, has_note}
-use Rattle.mxf_views.proofs.Common.{reduced_union, AreMaximal, LiesIn, Run, apart, is_whole}
+use Rattle.mxf_views.proofs.Common.{reduced_union, AreMaximal, LiesIn, apart, is_whole}
 use Rattle.mxf_views.proofs.Common.{same_content, IsContent-filter, SharesByte-same_offset}
 use Rattle.mxf_views.proofs.Common.{has-reduced_union, one_reduced, IsContent-laid}
 use Rattle.mxf_views.proofs.Common.{covers_below_end, covers_first, starts_above, IsWellFormed}
+use Rattle.mxf_catalogue.specs.declared.run.Run.{Run}
 use Rattle.std.proofs.Common.{le-leb, Less, Equal}
 use Rattle.std.proofs.lemmas.Bool.{ltb-true}
 use Rattle.std.specs.Option.{option_and_then}

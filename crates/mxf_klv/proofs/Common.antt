@@ -20,14 +20,6 @@ pub use Rattle.mxf_klv.specs.Rising.{In, In-union, In-with_one, IsRising, IsRisi
 pub use Rattle.mxf_klv.specs.Rising.{IsRising-with_one, SameMembers, less_back, less_in}
 pub use Rattle.mxf_klv.specs.Rising.{same_from_members, union, with_one}
 pub use Rattle.mxf_klv.specs.Written.{StopsIn, WritesPart, counted}
-pub use Rattle.mxf_klv.specs.declared.ber.BerFault.{BerFault}
-pub use Rattle.mxf_klv.specs.declared.kinds.Kind.{Kind}
-pub use Rattle.mxf_klv.specs.declared.kinds.Status.{Status}
-pub use Rattle.mxf_klv.specs.declared.packet.PacketFault.{PacketFault}
-pub use Rattle.mxf_klv.specs.declared.piece.Stop.{Stop}
-pub use Rattle.mxf_klv.specs.declared.piece.Stop.TheVariants.{BadLength, End, NoStart, NotUl}
-pub use Rattle.mxf_klv.specs.declared.piece.Stop.TheVariants.{TooFar, Truncated}
-pub use Rattle.mxf_klv.specs.declared.writing.WriteFault.{WriteFault}
 pub use Rattle.std.proofs.Common.{Bool, Err, FitsSigned, IfOk, IsTrue, List, None, Ok, Option}
 pub use Rattle.std.proofs.Common.{Result, Some, SomeIff, [], add-one, ap, append-nil, append_assoc}
 pub use Rattle.std.proofs.Common.{arith, cond, count_by, drop, eq-eqb, eqb-true, false, filter}

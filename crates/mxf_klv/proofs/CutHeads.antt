@@ -5,7 +5,8 @@ use Rattle.mxf_klv.proofs.Common.{ap, subst, ◌∙◌, arith, inl, inr, option_
 use Rattle.mxf_klv.proofs.Common.{ltb-true, le-leb, lt-leb, lt-ltb, and_parts, and_from, cond-true}
 use Rattle.mxf_klv.proofs.Common.{cond-false, take_at, LengthParts, NoteParts, head_parts}
 use Rattle.mxf_klv.proofs.Common.{greatest_end, BeginsWithKeyAndLength, HasNoKeyAndLength, head_at}
-use Rattle.mxf_klv.proofs.Common.{stop_of, In, Truncated}
+use Rattle.mxf_klv.proofs.Common.{stop_of, In}
+use Rattle.mxf_klv.specs.declared.piece.Stop.TheVariants.{Truncated}
 use Rattle.std.specs.Prelude.{IfNone}
 use Rattle.std.proofs.lemmas.Bool.{le-ltb, and_left, and_right}
 use Rattle.mxf_klv.specs.Piece.{BeginsWithCut}

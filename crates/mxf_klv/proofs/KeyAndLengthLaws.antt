@@ -3,10 +3,11 @@ use Rattle.mxf_klv.proofs.Common.{Option, None, Some, SomeIff, ok_or, ◌≡◌,
 use Rattle.mxf_klv.proofs.Common.{List, ◌++◌, length, take, drop, replicate, Ok, Err, sym, ap}
 use Rattle.mxf_klv.proofs.Common.{subst, ◌∙◌, arith, length-append, append_assoc, take_at, drop_at}
 use Rattle.mxf_klv.proofs.Common.{take_all, take-append-drop, take-take, length-take}
-use Rattle.mxf_klv.proofs.Common.{length-replicate, BerFault, LengthParts, PacketParts}
-use Rattle.mxf_klv.proofs.Common.{packet_parts, label_start, IsLabel, BeginsAsLabel, ReadsLength}
-use Rattle.mxf_klv.proofs.Common.{IsSpelledPacket, IsCutPacket, ReadsPacket, packet_fault}
-use Rattle.mxf_klv.proofs.Common.{BeginsWithKeyAndLength, HasNoKeyAndLength, ReadsKeyAndLength}
+use Rattle.mxf_klv.proofs.Common.{length-replicate, LengthParts, PacketParts, packet_parts}
+use Rattle.mxf_klv.proofs.Common.{label_start, IsLabel, BeginsAsLabel, ReadsLength, IsSpelledPacket}
+use Rattle.mxf_klv.proofs.Common.{IsCutPacket, ReadsPacket, packet_fault, BeginsWithKeyAndLength}
+use Rattle.mxf_klv.proofs.Common.{HasNoKeyAndLength, ReadsKeyAndLength}
+use Rattle.mxf_klv.specs.declared.ber.BerFault.{BerFault}
 use Rattle.mxf_klv.proofs.LengthLemmas.{spelled_len, one_reading}
 use Rattle.mxf_klv.proofs.PacketLemmas.{key_cut, length_fault}
 use Rattle.mxf_klv.specs.declared.packet.PacketFault.TheVariants as faults

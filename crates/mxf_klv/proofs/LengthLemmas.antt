@@ -2,7 +2,8 @@
 use Rattle.mxf_klv.proofs.Common.{◌≡◌, ℕ, suc, ◌+◌, ◌-◌, ◌^◌, ◌<◌, ◌≤◌, List, [], ◌∷◌, ◌++◌, length}
 use Rattle.mxf_klv.proofs.Common.{get_or, take, drop, refl, sym, ap, ◌∙◌, arith, inr, take_at}
 use Rattle.mxf_klv.proofs.Common.{take-append-drop, length-take, CanSpell, LengthParts, Result, Ok}
-use Rattle.mxf_klv.proofs.Common.{Err, BerFault, IsSpelledLength, ReadsLength}
+use Rattle.mxf_klv.proofs.Common.{Err, IsSpelledLength, ReadsLength}
+use Rattle.mxf_klv.specs.declared.ber.BerFault.{BerFault}
 use Rattle.std.proofs.Math.Nat.{pow-le-pow_right}
 use Rattle.byteorder.specs.Endian.{big_number, big_bytes}
 use Rattle.byteorder.specs.Numbers.{big_from-lt, big_from-take}

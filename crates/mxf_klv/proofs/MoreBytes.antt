@@ -8,8 +8,11 @@ use Rattle.mxf_klv.proofs.Common.{PacketParts, packet_parts, label_start, Begins
 use Rattle.mxf_klv.proofs.Common.{IsSpelledLength, IsCutPacket, IsSpelledPacket, ReadsPacket}
 use Rattle.mxf_klv.proofs.Common.{size_of, BeginsWithKeyAndLength, HasNoKeyAndLength, greatest_end}
 use Rattle.mxf_klv.proofs.Common.{note_of, BeginsWithNone, IsStop, end_after, notes_from, IsOpen}
-use Rattle.mxf_klv.proofs.Common.{packet_at, packets_in, rest_in, stop_in, stop_of, PacketFault}
-use Rattle.mxf_klv.proofs.Common.{Stop, End, NotUl, BadLength, TooFar, Truncated, NoStart}
+use Rattle.mxf_klv.proofs.Common.{packet_at, packets_in, rest_in, stop_in, stop_of}
+use Rattle.mxf_klv.specs.declared.packet.PacketFault.{PacketFault}
+use Rattle.mxf_klv.specs.declared.piece.Stop.{Stop}
+use Rattle.mxf_klv.specs.declared.piece.Stop.TheVariants.{End, NotUl, BadLength, TooFar, Truncated}
+use Rattle.mxf_klv.specs.declared.piece.Stop.TheVariants.{NoStart}
 use Rattle.std.proofs.Common.{length-take}
 use Rattle.mxf_klv.specs.Piece.{AreLaid}
 use Rattle.mxf_klv.proofs.KeyAndLengthLaws.{head_in, head-size}

@@ -2,9 +2,11 @@
 use Rattle.mxf_klv.proofs.Common.{◌≡◌, ℕ, ◌≤◌, List, [], ◌∷◌, ◌++◌, length, take, drop, Result, Ok}
 use Rattle.mxf_klv.proofs.Common.{Err, refl, sym, ap, subst, ◌∙◌, arith, length-append}
 use Rattle.mxf_klv.proofs.Common.{append_assoc, take_all, take-append-drop, length-take}
-use Rattle.mxf_klv.proofs.Common.{drop-append-le, BerFault, PacketFault, LengthParts, PacketParts}
-use Rattle.mxf_klv.proofs.Common.{label_start, BeginsAsLabel, ReadsLength, IsSpelledPacket}
-use Rattle.mxf_klv.proofs.Common.{IsCutPacket, ReadsPacket}
+use Rattle.mxf_klv.proofs.Common.{drop-append-le, LengthParts, PacketParts, label_start}
+use Rattle.mxf_klv.proofs.Common.{BeginsAsLabel, ReadsLength, IsSpelledPacket, IsCutPacket}
+use Rattle.mxf_klv.proofs.Common.{ReadsPacket}
+use Rattle.mxf_klv.specs.declared.ber.BerFault.{BerFault}
+use Rattle.mxf_klv.specs.declared.packet.PacketFault.{PacketFault}
 use Rattle.std.proofs.lemmas.List.{append-nil}
 use Rattle.mxf_klv.proofs.LengthLemmas.{one_reading}
 use Rattle.mxf_klv.proofs.KeyAndLengthLaws.{head_in, head-length}

@@ -2,10 +2,10 @@
 use Rattle.mxf_klv.proofs.Common.{◌≡◌, ℕ, suc, ◌+◌, ◌-◌, ◌<◌, ◌≤◌, List, [], ◌∷◌, ◌++◌, length}
 use Rattle.mxf_klv.proofs.Common.{take, drop, replicate, Err, refl, sym, ap, subst, ◌∙◌, arith, inl}
 use Rattle.mxf_klv.proofs.Common.{length-append, append_assoc, take_at, drop_at, take_all}
-use Rattle.mxf_klv.proofs.Common.{take-append-drop, length-replicate, BerFault, PacketParts}
-use Rattle.mxf_klv.proofs.Common.{label_start, IsLabel, BeginsAsLabel, IsSpelledLength, IsCutLength}
-use Rattle.mxf_klv.proofs.Common.{ReadsLength, IsSpelledPacket, IsCutPacket, ReadsPacket}
-use Rattle.mxf_klv.proofs.Common.{packet_fault}
+use Rattle.mxf_klv.proofs.Common.{take-append-drop, length-replicate, PacketParts, label_start}
+use Rattle.mxf_klv.proofs.Common.{IsLabel, BeginsAsLabel, IsSpelledLength, IsCutLength, ReadsLength}
+use Rattle.mxf_klv.proofs.Common.{IsSpelledPacket, IsCutPacket, ReadsPacket, packet_fault}
+use Rattle.mxf_klv.specs.declared.ber.BerFault.{BerFault}
 use Rattle.std.proofs.lemmas.List.{append-nil}
 use Rattle.byteorder.specs.Endian.{big_number}
 use Rattle.mxf_klv.proofs.LengthLemmas.{wide_found_cons}

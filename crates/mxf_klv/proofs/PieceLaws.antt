@@ -3,12 +3,15 @@ use Rattle.mxf_klv.proofs.Common.{◌≡◌, ℕ, zero, suc, ◌+◌, ◌<◌, �
 use Rattle.mxf_klv.proofs.Common.{length, take, drop, Result, Ok, Err, None, Some, refl, sym, ap}
 use Rattle.mxf_klv.proofs.Common.{subst, ◌∙◌, arith, inl, inr, length-append, option_map_or}
 use Rattle.mxf_klv.proofs.Common.{result_ok, le-leb, and_from, cases_lt, cond-true, take_at}
-use Rattle.mxf_klv.proofs.Common.{drop_at, length-take, bytes_eq-Decides, BerFault, PacketFault}
-use Rattle.mxf_klv.proofs.Common.{LengthParts, PacketParts, label_start, BeginsAsLabel}
-use Rattle.mxf_klv.proofs.Common.{begins_as_label, IsSpelledLength, ReadsLength, IsSpelledPacket}
-use Rattle.mxf_klv.proofs.Common.{ReadsPacket, size_of, greatest_end, BeginsWithNone, IsPiece, Stop}
-use Rattle.mxf_klv.proofs.Common.{length_at, head_at, end_with, packet_at, packets_in, rest_in}
-use Rattle.mxf_klv.proofs.Common.{stop_of, GoesOn, EndsAt, BeginsWithKeyAndLength}
+use Rattle.mxf_klv.proofs.Common.{drop_at, length-take, bytes_eq-Decides, LengthParts, PacketParts}
+use Rattle.mxf_klv.proofs.Common.{label_start, BeginsAsLabel, begins_as_label, IsSpelledLength}
+use Rattle.mxf_klv.proofs.Common.{ReadsLength, IsSpelledPacket, ReadsPacket, size_of, greatest_end}
+use Rattle.mxf_klv.proofs.Common.{BeginsWithNone, IsPiece, length_at, head_at, end_with, packet_at}
+use Rattle.mxf_klv.proofs.Common.{packets_in, rest_in, stop_of, GoesOn, EndsAt}
+use Rattle.mxf_klv.proofs.Common.{BeginsWithKeyAndLength}
+use Rattle.mxf_klv.specs.declared.ber.BerFault.{BerFault}
+use Rattle.mxf_klv.specs.declared.packet.PacketFault.{PacketFault}
+use Rattle.mxf_klv.specs.declared.piece.Stop.{Stop}
 use Rattle.std.proofs.Common.{length-drop, take-append-drop}
 use Rattle.std.specs.Option.{option_and_then}
 use Rattle.mxf_klv.specs.PieceReading.{fits_at, packet_with, packets_by, rest_by}

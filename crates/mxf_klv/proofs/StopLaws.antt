@@ -9,8 +9,11 @@ use Rattle.mxf_klv.proofs.Common.{IsCutLength, ReadsLength, IsCutPacket, size_of
 use Rattle.mxf_klv.proofs.Common.{BeginsWithKeyAndLength, HasNoKeyAndLength, ReadsKeyAndLength}
 use Rattle.mxf_klv.proofs.Common.{greatest_end, BeginsWithNone, IsPiece, IsStop, end_after, EndsAt}
 use Rattle.mxf_klv.proofs.Common.{GoesOn, head_at, length_at, packet_at, end_with, stop_of, stop_in}
-use Rattle.mxf_klv.proofs.Common.{IsOpen, PacketFault, Stop, End, NotUl, BadLength, TooFar}
-use Rattle.mxf_klv.proofs.Common.{Truncated, NoStart}
+use Rattle.mxf_klv.proofs.Common.{IsOpen}
+use Rattle.mxf_klv.specs.declared.packet.PacketFault.{PacketFault}
+use Rattle.mxf_klv.specs.declared.piece.Stop.{Stop}
+use Rattle.mxf_klv.specs.declared.piece.Stop.TheVariants.{End, NotUl, BadLength, TooFar, Truncated}
+use Rattle.mxf_klv.specs.declared.piece.Stop.TheVariants.{NoStart}
 use Rattle.std.proofs.Common.{nat_eq, IfErr, length-take, take-append-drop}
 use Rattle.std.proofs.lemmas.Bool.{eqb-true, eq-eqb}
 use Rattle.mxf_klv.specs.Piece.{EndsTooFar}

@@ -2,9 +2,12 @@
 use Rattle.mxf_views.proofs.Common.{◌≡◌, ◌≢◌, ◌↔◌, ◌+◌, ◌-◌, ◌<◌, ◌≤◌, ◌∙◌, ◌==◌, ◌&&◌, ℕ, zero}
 use Rattle.mxf_views.proofs.Common.{suc, Bool, true, false, not, cond, List, [], ◌∷◌, None, Some}
 use Rattle.mxf_views.proofs.Common.{Option, filter, length, inl, inr, refl, ap, arith, list_all}
-use Rattle.mxf_views.proofs.Common.{AreBytes, greatest_end, NoteParts, notes_in, stop_in, In, Stop}
-use Rattle.mxf_views.proofs.Common.{BadLength, End, NoStart, NotUl, TooFar, Truncated, In-list_all}
-use Rattle.mxf_views.proofs.Common.{list_all-In, equals_itself, not_equal, Run}
+use Rattle.mxf_views.proofs.Common.{AreBytes, greatest_end, NoteParts, notes_in, stop_in, In}
+use Rattle.mxf_views.proofs.Common.{In-list_all, list_all-In, equals_itself, not_equal}
+use Rattle.mxf_klv.specs.declared.piece.Stop.{Stop}
+use Rattle.mxf_klv.specs.declared.piece.Stop.TheVariants.{BadLength, End, NoStart, NotUl, TooFar}
+use Rattle.mxf_klv.specs.declared.piece.Stop.TheVariants.{Truncated}
+use Rattle.mxf_catalogue.specs.declared.run.Run.{Run}
 use Rattle.mxf_read.specs.declared.gathering.report.PieceReport.{PieceReport}
 use Rattle.mxf_units.specs.Units.{UnitsParts}
 use Rattle.mxf_verify.specs.Fixities.{AreUnitRuns, AreVerifiedUnits, VerifiedUnitsParts}

@@ -3,7 +3,8 @@ use Rattle.mxf_views.proofs.Common.{◌≡◌, ◌≢◌, ◌↔◌, ◌⊎◌, 
 use Rattle.mxf_views.proofs.Common.{IsTrue, List, [], ◌∷◌, Some, arith, ap, filter, if◌then◌else◌}
 use Rattle.mxf_views.proofs.Common.{inl, inr, nat_lt, refl, subst, sym, ◌∙◌, cases_lt, and_from}
 use Rattle.mxf_views.proofs.Common.{and_parts, In-filter, same_bool, In, is_between, Covers}
-use Rattle.mxf_views.proofs.Common.{AreMaximal, LiesIn, Run, starts_above, AreMaximal-lower}
+use Rattle.mxf_views.proofs.Common.{AreMaximal, LiesIn, starts_above, AreMaximal-lower}
+use Rattle.mxf_catalogue.specs.declared.run.Run.{Run}
 use Rattle.std.proofs.lemmas.Bool.{ltb-true, lt-ltb}
 use Rattle.mxf_places.specs.AtHand.{KnownParts, has_offset}
 use Rattle.mxf_places.specs.Held.{AreDisputed, IsDisputedAt, IsHeld, is_disputed_at, is_held}

@@ -1,9 +1,9 @@
 -- For each cell a mark fits: of each it is known whether what it says is true.
 use Rattle.mxf_views.proofs.Common.{◌≡◌, ◌⊎◌, ◌<◌, ◌≤◌, ◌+◌, ◌-◌, ℕ, zero, suc, Bool, true, false}
 use Rattle.mxf_views.proofs.Common.{List, [], ◌∷◌, refl, sym, subst, inl, inr, arith, ap, ◌∙◌}
-use Rattle.mxf_views.proofs.Common.{cases_lt, NoteParts, IsInSpan, end_of, kind_of, In, PackPart}
-use Rattle.mxf_views.proofs.Common.{clear_notes, In-clear_notes, PartitionParts, partitions_of}
-use Rattle.mxf_views.proofs.Common.{LiesIn}
+use Rattle.mxf_views.proofs.Common.{cases_lt, NoteParts, IsInSpan, end_of, kind_of, In, clear_notes}
+use Rattle.mxf_views.proofs.Common.{In-clear_notes, PartitionParts, partitions_of, LiesIn}
+use Rattle.mxf_sets.specs.declared.pack.part.PackPart.{PackPart}
 use Rattle.mxf_places.specs.AtHand.{KnownParts, has_offset}
 use Rattle.mxf_places.specs.Held.{IsDisputedAt, IsHeld, is_disputed_at, is_held}
 use Rattle.mxf_map.specs.Layers.{IsOfZone, is_of_zone, is_part, is_random_index}

@@ -5,12 +5,16 @@ use Rattle.mxf_views.proofs.Common.{filter, filter_map, cond, Option, Some, None
 use Rattle.mxf_views.proofs.Common.{IfOk, if◌then◌else◌, AllByRecursion, cons_option, and_parts}
 use Rattle.mxf_views.proofs.Common.{Contains-permutation, IsPermutation-sym, IsPermutation}
 use Rattle.mxf_views.proofs.Common.{option_map_or, Contains-from_In, In-from_Contains, three_parts}
-use Rattle.mxf_views.proofs.Common.{Kind, NoteParts, IsNote, greatest_end, kind_of, In, SameMembers}
-use Rattle.mxf_views.proofs.Common.{In-filter, In-map, all-In, all_from_In, PackPart, IsCatalogue}
+use Rattle.mxf_views.proofs.Common.{NoteParts, IsNote, greatest_end, kind_of, In, SameMembers}
+use Rattle.mxf_views.proofs.Common.{In-filter, In-map, all-In, all_from_In, IsCatalogue}
 use Rattle.mxf_views.proofs.Common.{union_of_runs, union_of_runs-IsUnion, clear_notes, run_of}
-use Rattle.mxf_views.proofs.Common.{IsWithin, LiesIn, run, Run, Cover, In-clear_notes, IsSetKind}
-use Rattle.mxf_views.proofs.Common.{preface, identification, storage, material_package}
-use Rattle.mxf_views.proofs.Common.{source_package, raw_set, PartitionParts, partitions_of}
+use Rattle.mxf_views.proofs.Common.{IsWithin, LiesIn, run, In-clear_notes, IsSetKind, preface}
+use Rattle.mxf_views.proofs.Common.{identification, storage, material_package, source_package}
+use Rattle.mxf_views.proofs.Common.{raw_set, PartitionParts, partitions_of}
+use Rattle.mxf_klv.specs.declared.kinds.Kind.{Kind}
+use Rattle.mxf_sets.specs.declared.pack.part.PackPart.{PackPart}
+use Rattle.mxf_catalogue.specs.declared.run.Run.{Run}
+use Rattle.mxf_catalogue.specs.declared.cover.Cover.{Cover}
 use Rattle.std.proofs.lemmas.Bool.{ltb-true}
 use Rattle.std.specs.Option.{option_and_then}
 use Rattle.std.specs.Prelude.{nat_lt}

@@ -6,7 +6,8 @@ use Rattle.mxf_views.proofs.Common.{not, ◌&&◌, unwrap_or, cases_lt, false_fr
 use Rattle.mxf_views.proofs.Common.{range_with_len, covered_end, range-all, range-none, range-same}
 use Rattle.mxf_views.proofs.Common.{range-split, list_any-In, Covers, covers_below_end}
 use Rattle.mxf_views.proofs.Common.{starts_above, rip_view_of, same_bool, AllByRecursion, NoteParts}
-use Rattle.mxf_views.proofs.Common.{In, all_from_In, IsCover, AreMaximal, LiesIn, Run, has_byte}
+use Rattle.mxf_views.proofs.Common.{In, all_from_In, IsCover, AreMaximal, LiesIn, has_byte}
+use Rattle.mxf_catalogue.specs.declared.run.Run.{Run}
 use Rattle.std.proofs.lemmas.Bool.{lt-ltb}
 use Rattle.std.specs.Option.{option_and_then}
 use Rattle.mxf_places.specs.Held.{IsHeld, bytes_of, end_of_file, is_held, reaches_past, rip_end_by}

@@ -2,7 +2,9 @@
 use Rattle.mxf_views.proofs.Common.{◌≡◌, ◌↔◌, ◌⊎◌, ◌<◌, ◌≤◌, ◌+◌, ◌-◌, ℕ, zero, suc, Bool, true}
 use Rattle.mxf_views.proofs.Common.{false, not, IsTrue, List, [], ◌∷◌, refl, sym, ap, subst, inl}
 use Rattle.mxf_views.proofs.Common.{inr, arith, get_or, length, min, ◌∙◌, cases_lt, not-true-false}
-use Rattle.mxf_views.proofs.Common.{not_true, NoteParts, In, PackPart, LiesIn, Run}
+use Rattle.mxf_views.proofs.Common.{not_true, NoteParts, In, LiesIn}
+use Rattle.mxf_sets.specs.declared.pack.part.PackPart.{PackPart}
+use Rattle.mxf_catalogue.specs.declared.run.Run.{Run}
 use Rattle.mxf_places.specs.AtHand.{KnownParts}
 use Rattle.mxf_places.specs.Held.{IsHeld, is_held}
 use Rattle.mxf_map.specs.Layers.{AreOffsets, BeginsPartition, BeginsRandomIndex, IsOfZone}

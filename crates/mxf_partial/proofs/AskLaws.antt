@@ -4,7 +4,8 @@ use Rattle.mxf_views.proofs.Common.{Option, None, Some, ap, arith, inl, inr, Err
 use Rattle.mxf_views.proofs.Common.{filter_map, map, refl, subst, sym, zero, suc, same_Some}
 use Rattle.mxf_views.proofs.Common.{range_with_len, result_ok, cons_option, ◌-◌, In, IsRising}
 use Rattle.mxf_views.proofs.Common.{In-append, In-filter_map, all_from_In, find-only, found-In}
-use Rattle.mxf_views.proofs.Common.{StreamPlace, IsRisingBy, from_lower, one_by_key}
+use Rattle.mxf_views.proofs.Common.{IsRisingBy, from_lower, one_by_key}
+use Rattle.mxf_views.specs.declared.index.place.StreamPlace.{StreamPlace}
 use Rattle.std.proofs.Common.{nat_cmp}
 use Rattle.std.proofs.lemmas.Bool.{eq-eqb, eqb-true}
 use Rattle.std.specs.Option.{option_and_then}

@@ -4,7 +4,8 @@ use Rattle.mxf_views.proofs.Common.{false, List, [], ◌∷◌, Option, None, So
 use Rattle.mxf_views.proofs.Common.{inl, inr, arith, get_or, length, max, cases_lt}
 use Rattle.mxf_views.proofs.Common.{get_or_from_slice_get, slice_get-get_or, slice_get_read}
 use Rattle.mxf_views.proofs.Common.{slice_get_within, In, In-at, In-end, Contains-from_In}
-use Rattle.mxf_views.proofs.Common.{LiesIn-with_run, with_run, LiesIn, run, Run}
+use Rattle.mxf_views.proofs.Common.{LiesIn-with_run, with_run, LiesIn, run}
+use Rattle.mxf_catalogue.specs.declared.run.Run.{Run}
 use Rattle.std.proofs.Common.{slice_get}
 use Rattle.std.proofs.lemmas.Option.{slice_get_cases}
 use Rattle.mxf_places.specs.AtHand.{LiesBetween}

@@ -5,7 +5,9 @@ use Rattle.mxf_views.proofs.Common.{inr, arith, get_or, length, map, cases_lt, A
 use Rattle.mxf_views.proofs.Common.{NoteParts, In, IsRising, In-append, In-at, In-map}
 use Rattle.mxf_views.proofs.Common.{Contains-from_In, IsRisingBy, one_by_key, lt_from_less}
 use Rattle.mxf_views.proofs.Common.{get_or_from_slice_get, slice_get-get_or, slice_get_read}
-use Rattle.mxf_views.proofs.Common.{slice_get_within, LiesIn, Run, partitions_of, StreamPlace}
+use Rattle.mxf_views.proofs.Common.{slice_get_within, LiesIn, partitions_of}
+use Rattle.mxf_catalogue.specs.declared.run.Run.{Run}
+use Rattle.mxf_views.specs.declared.index.place.StreamPlace.{StreamPlace}
 use Rattle.std.proofs.Common.{slice_get}
 use Rattle.mxf_places.specs.AtHand.{LiesBetween}
 use Rattle.mxf_restore.specs.NamedPlaces.{place_cmp}

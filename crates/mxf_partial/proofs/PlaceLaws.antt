@@ -6,8 +6,11 @@ use Rattle.mxf_views.proofs.Common.{Result, OnOk, cases_lt, IsTotalOrder, option
 use Rattle.mxf_views.proofs.Common.{IsAntisymmetric, nat_cmp-IsAntisymmetric, option_cmp, nat_cmp}
 use Rattle.mxf_views.proofs.Common.{on, then_cmp, Ordering, Less, nat_cmp_total, on_total}
 use Rattle.mxf_views.proofs.Common.{then_total, NoteParts, In, In-union, IsRising, union, In-at}
-use Rattle.mxf_views.proofs.Common.{In-end, In-map, Contains-from_In, lt_from_less, ties, RipEntry}
-use Rattle.mxf_views.proofs.Common.{RipAtParts, rip_view_of, One, Standing}
+use Rattle.mxf_views.proofs.Common.{In-end, In-map, Contains-from_In, lt_from_less, ties}
+use Rattle.mxf_views.proofs.Common.{RipAtParts, rip_view_of}
+use Rattle.mxf_sets.specs.declared.pack.random_index.RipEntry.{RipEntry}
+use Rattle.mxf_views.specs.declared.random_index.RipView.TheVariants.{One}
+use Rattle.mxf_views.specs.declared.random_index.Standing.{Standing}
 use Rattle.std.proofs.Common.{slice_get}
 use Rattle.mxf_restore.specs.declared.named.NamedPlace.{NamedPlace}
 use Rattle.mxf_partial.specs.InStreams.{HasNoneBelow, HasNoneFrom, IsFirstFrom, IsInOrder}

@@ -7,8 +7,10 @@ use Rattle.mxf_views.proofs.Common.{◌==◌, same_Some, result_ok, option_map_o
 use Rattle.mxf_views.proofs.Common.{greatest_end, In, In-union, same_from_members, union, In-append}
 use Rattle.mxf_views.proofs.Common.{In-filter_map, In-flat_map, In-map, all-In, found-In}
 use Rattle.mxf_views.proofs.Common.{none_found, drop_all, drop-cons, IsCover, union_of_runs}
-use Rattle.mxf_views.proofs.Common.{union_of_runs-IsUnion, Cover, LiesIn, Run, same_covers}
-use Rattle.mxf_views.proofs.Common.{option_to_list, slice_get, ltb-false}
+use Rattle.mxf_views.proofs.Common.{union_of_runs-IsUnion, LiesIn, same_covers, option_to_list}
+use Rattle.mxf_views.proofs.Common.{slice_get, ltb-false}
+use Rattle.mxf_catalogue.specs.declared.cover.Cover.{Cover}
+use Rattle.mxf_catalogue.specs.declared.run.Run.{Run}
 use Rattle.std.proofs.lemmas.Bool.{eq-eqb, eqb-true}
 use Rattle.mxf_places.specs.AtHand.{AtHandParts, KnownParts, LiesInRange, has_offset, lacking}
 use Rattle.mxf_places.specs.declared.at_hand.OffsetRange.{OffsetRange}

@@ -7,7 +7,8 @@ use Rattle.mxf_views.proofs.Common.{IsCatalogue, undisputed_notes, In-undisputed
 use Rattle.mxf_views.proofs.Common.{In, IsRising, all-In, find-only, found-In, lt_from_less}
 use Rattle.mxf_views.proofs.Common.{IsContent, place_cmp, drop_all, drop-cons, Less}
 use Rattle.mxf_views.proofs.Common.{nat_cmp-IsAntisymmetric, PartitionParts, in_numbers}
-use Rattle.mxf_views.proofs.Common.{partitions_of, StreamPlace}
+use Rattle.mxf_views.proofs.Common.{partitions_of}
+use Rattle.mxf_views.specs.declared.index.place.StreamPlace.{StreamPlace}
 use Rattle.std.proofs.Common.{nat_cmp}
 use Rattle.std.proofs.lemmas.Bool.{eq-eqb, eqb-true, lt-ltb, ltb-true}
 use Rattle.std.specs.Option.{option_and_then, option_map}

@@ -3,9 +3,13 @@ use Rattle.mxf_views.proofs.Common.{◌≡◌, ◌≢◌, ◌↔◌, ◌∙◌, 
 use Rattle.mxf_views.proofs.Common.{Option, Some, None, refl, sym, ap, subst, inl, inr, nat_lt}
 use Rattle.mxf_views.proofs.Common.{cond, map, option_map, lt-ltb, ltb-true, eq-eqb, eqb-true}
 use Rattle.mxf_views.proofs.Common.{and_from, and_parts, same_Some, NoteParts, In, In-append}
-use Rattle.mxf_views.proofs.Common.{In-filter_map, In-map, guarded, RipEntry, IsContent}
-use Rattle.mxf_views.proofs.Common.{PartitionParts, partitions_of, rip_view_of, RipView, Absent}
-use Rattle.mxf_views.proofs.Common.{Several, Unreadable, One, Standing}
+use Rattle.mxf_views.proofs.Common.{In-filter_map, In-map, guarded, IsContent, PartitionParts}
+use Rattle.mxf_views.proofs.Common.{partitions_of, rip_view_of}
+use Rattle.mxf_sets.specs.declared.pack.random_index.RipEntry.{RipEntry}
+use Rattle.mxf_views.specs.declared.random_index.RipView.{RipView}
+use Rattle.mxf_views.specs.declared.random_index.RipView.TheVariants.{Absent, Several, Unreadable}
+use Rattle.mxf_views.specs.declared.random_index.RipView.TheVariants.{One}
+use Rattle.mxf_views.specs.declared.random_index.Standing.{Standing}
 use Rattle.std.specs.List.{filter_map}
 use Rattle.mxf_places.specs.Claims.{claims_of, entry_claim, entry_claims, footer_claim, place_claim}
 use Rattle.mxf_places.specs.Claims.{previous_claim, stretch_claim, zone_claim, zone_of, zone_reason}

@@ -5,7 +5,8 @@ use Rattle.mxf_views.proofs.Common.{max, min, nat_le, nat_lt, inl, inr, refl, sy
 use Rattle.mxf_views.proofs.Common.{lt-ltb, ltb-true, and_from, and_left, and_parts, cases_lt}
 use Rattle.mxf_views.proofs.Common.{false_from_ne_true, false≢true, range_with_len, count_by-cons}
 use Rattle.mxf_views.proofs.Common.{range-all, range-le, range-none, range-same, range-split, tally}
-use Rattle.mxf_views.proofs.Common.{Run, is_between, AreMaximal, starts_above}
+use Rattle.mxf_views.proofs.Common.{is_between, AreMaximal, starts_above}
+use Rattle.mxf_catalogue.specs.declared.run.Run.{Run}
 use Rattle.std.proofs.Common.{leb-true, le-leb, ltb-false}
 use Rattle.mxf_places.specs.AtHand.{has_offset, outside_below}
 use Rattle.mxf_places.proofs.AtHandLaws.{has_offset-says}

@@ -6,8 +6,10 @@ use Rattle.mxf_views.proofs.Common.{lt-ltb, ltb-true, eqb-true, ◌==◌, and_fr
 use Rattle.mxf_views.proofs.Common.{or_left, or_right, same_Some, option_map_or, NoteParts}
 use Rattle.mxf_views.proofs.Common.{covered_end, end_of, greatest_end, found-In, list_any-In}
 use Rattle.mxf_views.proofs.Common.{not_true, not-true-false, clear_notes, In-clear_notes}
-use Rattle.mxf_views.proofs.Common.{clear_at-found, covers_first, RipAtParts, rip_view_of, RipView}
-use Rattle.mxf_views.proofs.Common.{Absent, Several, Unreadable, One}
+use Rattle.mxf_views.proofs.Common.{clear_at-found, covers_first, RipAtParts, rip_view_of}
+use Rattle.mxf_views.specs.declared.random_index.RipView.{RipView}
+use Rattle.mxf_views.specs.declared.random_index.RipView.TheVariants.{Absent, Several, Unreadable}
+use Rattle.mxf_views.specs.declared.random_index.RipView.TheVariants.{One}
 use Rattle.mxf_places.specs.Claims.{is_unknown}
 use Rattle.mxf_places.specs.Held.{IsEndOfFile, IsHeld, end_of_file, is_disputed_at, is_held}
 use Rattle.mxf_places.specs.Held.{is_in_file, reaches_past, rip_end_by}

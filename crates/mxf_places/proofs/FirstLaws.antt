@@ -6,7 +6,8 @@ use Rattle.mxf_views.proofs.Common.{option_map, ltb-true, lt-ltb, and_from, and_
 use Rattle.mxf_views.proofs.Common.{cons_option, NoteParts, In, In-append, In-filter_map, all-In}
 use Rattle.mxf_views.proofs.Common.{all_append, all_from_In, find-none, found-In, none_found}
 use Rattle.mxf_views.proofs.Common.{IsRisingBy, guarded, IsContent, PartitionParts, partitions_of}
-use Rattle.mxf_views.proofs.Common.{RipAtParts, rip_view_of, One, end_of}
+use Rattle.mxf_views.proofs.Common.{RipAtParts, rip_view_of, end_of}
+use Rattle.mxf_views.specs.declared.random_index.RipView.TheVariants.{One}
 use Rattle.std.proofs.Common.{leb-true, le-leb}
 use Rattle.std.specs.List.{filter_map}
 use Rattle.mxf_views.proofs.KeyedLists.{rise_by}

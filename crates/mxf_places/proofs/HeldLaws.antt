@@ -5,8 +5,9 @@ use Rattle.mxf_views.proofs.Common.{map, ltb-true, lt-ltb, Some, None, option_an
 use Rattle.mxf_views.proofs.Common.{ltb-false, and_parts, and_from, NoteParts, IsCovered}
 use Rattle.mxf_views.proofs.Common.{covered_end, end_of, In, In-filter, In-map, list_any-In}
 use Rattle.mxf_views.proofs.Common.{same_bool, IsDisputed, disputed_notes, is_disputed, rip_view_of}
-use Rattle.mxf_views.proofs.Common.{union_of_runs, Covers, covered_run, covers_all, LiesIn, Run}
+use Rattle.mxf_views.proofs.Common.{union_of_runs, Covers, covered_run, covers_all, LiesIn}
 use Rattle.mxf_views.proofs.Common.{is_disputed-IsDisputed, notes-disputed_notes, covers_first}
+use Rattle.mxf_catalogue.specs.declared.run.Run.{Run}
 use Rattle.std.proofs.Common.{leb-true, le-leb}
 use Rattle.mxf_places.specs.Held.{AreDisputed, IsDisputedAt, IsHeld, covers, is_disputed_at}
 use Rattle.mxf_places.specs.Held.{is_held, reaches_past, top_of, end_of_file, held_end, rip_end_by}

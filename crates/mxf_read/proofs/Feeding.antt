@@ -4,9 +4,11 @@ use Rattle.mxf_views.proofs.Common.{Option, None, Some, refl, sym, ap, subst, â—
 use Rattle.mxf_views.proofs.Common.{append_assoc, append-nil, LengthParts, NoteParts, packet_parts}
 use Rattle.mxf_views.proofs.Common.{size_of, BeginsWithKeyAndLength, HasNoKeyAndLength, note_of}
 use Rattle.mxf_views.proofs.Common.{end_of, end_after, notes_from, IsHeadOf, IsNoHead, IsOpen}
-use Rattle.mxf_views.proofs.Common.{packet_at, packets_in, rest_in, stop_of, Stop, Truncated}
-use Rattle.mxf_views.proofs.Common.{IsHeadNow, none_more, none_at_end, packets_in-none}
-use Rattle.mxf_views.proofs.Common.{rest_in-none, at_cut, stops, reduced_with, AreApart}
+use Rattle.mxf_views.proofs.Common.{packet_at, packets_in, rest_in, stop_of, IsHeadNow, none_more}
+use Rattle.mxf_views.proofs.Common.{none_at_end, packets_in-none, rest_in-none, at_cut, stops}
+use Rattle.mxf_views.proofs.Common.{reduced_with, AreApart}
+use Rattle.mxf_klv.specs.declared.piece.Stop.{Stop}
+use Rattle.mxf_klv.specs.declared.piece.Stop.TheVariants.{Truncated}
 use Rattle.std.specs.Prelude.{true, is_some}
 use Rattle.mxf_klv.proofs.MoreBytes.{few_without_head, head_now, one_more, stays, whole_value}
 use Rattle.mxf_klv.proofs.KeyAndLengthLaws.{no_head_short}

@@ -4,10 +4,12 @@ use Rattle.mxf_views.proofs.Common.{Option, None, Some, Result, Ok, Err, refl, s
 use Rattle.mxf_views.proofs.Common.{arith, inl, inr, ◌⊎◌, append-nil, append_assoc, length-append}
 use Rattle.mxf_views.proofs.Common.{IsAtEnd, take-append-add, take_at, take_all, NoteParts}
 use Rattle.mxf_views.proofs.Common.{head_parts, HasNoKeyAndLength, end_after, notes_from, IsOpen}
-use Rattle.mxf_views.proofs.Common.{heads_at, notes_in, packets_in, rest_in, stop_in, stop_of, Stop}
-use Rattle.mxf_views.proofs.Common.{End, NotUl, BadLength, TooFar, Truncated, NoStart, seam}
+use Rattle.mxf_views.proofs.Common.{heads_at, notes_in, packets_in, rest_in, stop_in, stop_of, seam}
 use Rattle.mxf_views.proofs.Common.{notes_from-append, at_cut, stops, heads_at-cut, reduced_union}
 use Rattle.mxf_views.proofs.Common.{reduced_with}
+use Rattle.mxf_klv.specs.declared.piece.Stop.{Stop}
+use Rattle.mxf_klv.specs.declared.piece.Stop.TheVariants.{End, NotUl, BadLength, TooFar, Truncated}
+use Rattle.mxf_klv.specs.declared.piece.Stop.TheVariants.{NoStart}
 use Rattle.std.specs.Prelude.{true, false, is_some, nat_eq, IfOk, IfSome}
 use Rattle.std.proofs.lemmas.Bool.{eqb-true}
 use Rattle.mxf_klv.proofs.MoreBytes.{stop_is, stop_stays}

@@ -8,16 +8,19 @@ use Rattle.mxf_views.proofs.Common.{cases_lt, cases_order, cases_Bool, cond-fals
 use Rattle.mxf_views.proofs.Common.{take_at, drop_at, drop-drop, take_all, length-drop, length-take}
 use Rattle.mxf_views.proofs.Common.{take-append-drop, LengthParts, packet_parts, begins_as_label}
 use Rattle.mxf_views.proofs.Common.{label_start, kind_of, BeginsWithKeyAndLength, greatest_end}
-use Rattle.mxf_views.proofs.Common.{size_of, IsHeadOf, IsNoHead, IsOpen, head_at, packet_at, Kind}
-use Rattle.mxf_views.proofs.Common.{Essence, Stop, Truncated, head-size, head-width, head_at-head}
-use Rattle.mxf_views.proofs.Common.{packet_at-given, at_cut, stops}
+use Rattle.mxf_views.proofs.Common.{size_of, IsHeadOf, IsNoHead, IsOpen, head_at, packet_at}
+use Rattle.mxf_views.proofs.Common.{head-size, head-width, head_at-head, packet_at-given, at_cut}
+use Rattle.mxf_views.proofs.Common.{stops}
+use Rattle.mxf_klv.specs.declared.kinds.Kind.{Kind}
+use Rattle.mxf_klv.specs.declared.kinds.Kind.TheVariants.{Essence, Header, Body, Footer, Primer}
+use Rattle.mxf_klv.specs.declared.kinds.Kind.TheVariants.{Segment, Rip, Preface, Identification}
+use Rattle.mxf_klv.specs.declared.kinds.Kind.TheVariants.{ContentStorage, MaterialPackage}
+use Rattle.mxf_klv.specs.declared.kinds.Kind.TheVariants.{SourcePackage, RawSet, Fill, Other}
+use Rattle.mxf_klv.specs.declared.piece.Stop.{Stop}
+use Rattle.mxf_klv.specs.declared.piece.Stop.TheVariants.{Truncated}
 use Rattle.std.specs.Option.{option_map}
 use Rattle.std.proofs.lemmas.Bool.{both_ways, cond-true}
 use Rattle.mxf_klv.specs.PieceReading.{end_with}
-use Rattle.mxf_klv.specs.declared.kinds.Kind.TheVariants.{Header, Body, Footer, Primer, Segment}
-use Rattle.mxf_klv.specs.declared.kinds.Kind.TheVariants.{Rip, Preface, Identification}
-use Rattle.mxf_klv.specs.declared.kinds.Kind.TheVariants.{ContentStorage, MaterialPackage}
-use Rattle.mxf_klv.specs.declared.kinds.Kind.TheVariants.{SourcePackage, RawSet, Fill, Other}
 use Rattle.mxf_klv.proofs.KeyAndLengthLaws.{head-begins, head-past_key, head-packet}
 use Rattle.mxf_klv.proofs.PieceLaws.{begins-test, head_at-stands, test-begins}
 use Rattle.memchr.specs.Find.{FindsNeedle, OccursAt}

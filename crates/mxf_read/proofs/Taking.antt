@@ -3,7 +3,8 @@ use Rattle.mxf_views.proofs.Common.{◌≡◌, ◌≢◌, ℕ, zero, suc, ◌+�
 use Rattle.mxf_views.proofs.Common.{Option, Some, refl, Result, Ok, Err, sym, ap, subst, ◌∙◌, arith}
 use Rattle.mxf_views.proofs.Common.{inl, inr, append_assoc, length-append, slice_get, IsSomeAnd}
 use Rattle.mxf_views.proofs.Common.{take_at, take_all, NoteParts, heads_at, notes_in, packets_in}
-use Rattle.mxf_views.proofs.Common.{stop_in, Stop, reduced_union, reduced_with, AreApart}
+use Rattle.mxf_views.proofs.Common.{stop_in, reduced_union, reduced_with, AreApart}
+use Rattle.mxf_klv.specs.declared.piece.Stop.{Stop}
 use Rattle.mxf_read.specs.declared.report.Report.{Report}
 use Rattle.mxf_read.specs.declared.report.AbsorbFault.{AbsorbFault}
 use Rattle.mxf_read.specs.declared.report.AbsorbFault.TheVariants.{OutOfMemory, ReadFault}

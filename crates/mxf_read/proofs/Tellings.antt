@@ -3,8 +3,9 @@ use Rattle.mxf_views.proofs.Common.{◌≡◌, ◌<◌, ℕ, List, [], ◌∷◌
 use Rattle.mxf_views.proofs.Common.{true, refl, sym, ap, subst, ◌∙◌, arith, append-nil}
 use Rattle.mxf_views.proofs.Common.{length-append, nil_from_length, head_parts}
 use Rattle.mxf_views.proofs.Common.{BeginsWithKeyAndLength, end_after, notes_from, heads_at}
-use Rattle.mxf_views.proofs.Common.{packet_at, rest_in, Stop, Truncated, heads_at-cut, none_more}
-use Rattle.mxf_views.proofs.Common.{at_cut, stops}
+use Rattle.mxf_views.proofs.Common.{packet_at, rest_in, heads_at-cut, none_more, at_cut, stops}
+use Rattle.mxf_klv.specs.declared.piece.Stop.{Stop}
+use Rattle.mxf_klv.specs.declared.piece.Stop.TheVariants.{Truncated}
 use Rattle.std.specs.Prelude.{is_some}
 use Rattle.std.proofs.lemmas.Bool.{ltb-true}
 use Rattle.mxf_klv.proofs.MoreBytes.{more_head}

@@ -3,7 +3,8 @@ use Rattle.mxf_views.proofs.Common.{◌≡◌, ◌⊎◌, ◌∙◌, ◌<◌, �
 use Rattle.mxf_views.proofs.Common.{min, List, [], ◌∷◌, Option, None, Some, filter, if◌then◌else◌}
 use Rattle.mxf_views.proofs.Common.{is_some, option_map, refl, sym, ap, subst, inl, inr, arith}
 use Rattle.mxf_views.proofs.Common.{ltb-true, cases_lt, same_Some, option_map_or, NoteParts}
-use Rattle.mxf_views.proofs.Common.{covered_end, In, In-append, In-filter, IsContent, Run}
+use Rattle.mxf_views.proofs.Common.{covered_end, In, In-append, In-filter, IsContent}
+use Rattle.mxf_catalogue.specs.declared.run.Run.{Run}
 use Rattle.mxf_places.specs.AtHand.{AtHandParts, LiesBetween, LiesInRange, lacking, some_range}
 use Rattle.mxf_places.specs.AtHand.{up_to_bound}
 use Rattle.mxf_places.specs.Claims.{claim_at}

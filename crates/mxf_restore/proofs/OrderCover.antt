@@ -5,9 +5,13 @@ use Rattle.mxf_views.proofs.Common.{Option, None, Some, find, is_some, option_an
 use Rattle.mxf_views.proofs.Common.{if◌then◌else◌, refl, ap, inl, inr, arith, lt-ltb, unwrap_or}
 use Rattle.mxf_views.proofs.Common.{eqb-true, and_parts, cases_lt, same_Some, option_map_or}
 use Rattle.mxf_views.proofs.Common.{NoteParts, covered_end, end_of, In, In-filter, In-flat_map}
-use Rattle.mxf_views.proofs.Common.{In-map, found-In, IsContent, clear_notes, IsWithin, Run}
+use Rattle.mxf_views.proofs.Common.{In-map, found-In, IsContent, clear_notes, IsWithin}
 use Rattle.mxf_views.proofs.Common.{In-clear_notes, covers_below_end, covers_first, IsGap, gaps_of}
-use Rattle.mxf_views.proofs.Common.{rip_view_of, RipView, Absent, Several, Unreadable, One, LiesIn}
+use Rattle.mxf_views.proofs.Common.{rip_view_of, LiesIn}
+use Rattle.mxf_catalogue.specs.declared.run.Run.{Run}
+use Rattle.mxf_views.specs.declared.random_index.RipView.{RipView}
+use Rattle.mxf_views.specs.declared.random_index.RipView.TheVariants.{Absent, Several, Unreadable}
+use Rattle.mxf_views.specs.declared.random_index.RipView.TheVariants.{One}
 use Rattle.mxf_places.specs.AtHand.{AtHandParts, LiesInRange, edge_of, lacking, runs_end}
 use Rattle.mxf_places.specs.AtHand.{up_to_bound}
 use Rattle.mxf_places.specs.Held.{IsHeld, end_of_file, held_end, reaches_past, rip_end_by, top_of}

@@ -8,7 +8,8 @@ use Rattle.mxf_views.proofs.Common.{IsContent, IsCover, clear-laid, is_whole, In
 use Rattle.mxf_views.proofs.Common.{IsContent-laid, PartitionParts, RipAtParts, is_rip, one_by_one}
 use Rattle.mxf_views.proofs.Common.{partitions_read, rip_read, EndsWithRandomIndex}
 use Rattle.mxf_views.proofs.Common.{IsRandomIndexPack, IsReadable, IsWellFormed, BeginsWithHeader}
-use Rattle.mxf_views.proofs.Common.{is_readable_as, Absent, One, end_up}
+use Rattle.mxf_views.proofs.Common.{is_readable_as, end_up}
+use Rattle.mxf_views.specs.declared.random_index.RipView.TheVariants.{Absent, One}
 use Rattle.mxf_views.specs.Records.{read_rip}
 use Rattle.mxf_views.proofs.KindLaws.{rip_kind}
 use Rattle.mxf_views.proofs.LaidRandomIndex.{random_index-laid}

@@ -1,6 +1,8 @@
 -- The kinds of partition packs, by their parts and statuses.
 use Rattle.mxf_klv.proofs.Common.{Bool, Err, List, Ok, Some, ap, cond, drop, false, is_some, length}
-use Rattle.mxf_klv.proofs.Common.{nat_le, refl, sym, true, ℕ, ◌∙◌, ◌≡◌, result_ok, Kind, Status}
+use Rattle.mxf_klv.proofs.Common.{nat_le, refl, sym, true, ℕ, ◌∙◌, ◌≡◌, result_ok}
+use Rattle.mxf_klv.specs.declared.kinds.Kind.{Kind}
+use Rattle.mxf_klv.specs.declared.kinds.Status.{Status}
 use Rattle.mxf_sets.specs.Fields.{is_batch}
 use Rattle.mxf_sets.specs.PackReadings.{pack_at, pack_in, pack_under, part_and_status}
 use Rattle.mxf_sets.specs.PartitionPack.{IsPartitionKind, PartitionPackParts, pack_kind}

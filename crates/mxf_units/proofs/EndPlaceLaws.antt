@@ -4,7 +4,7 @@ use Rattle.mxf_views.proofs.Common.{not, List, Option, None, Some, ap, arith, if
 use Rattle.mxf_views.proofs.Common.{inr, lt-ltb, ltb-true, nat_lt, option_and_then, refl, subst}
 use Rattle.mxf_views.proofs.Common.{sym, and_from, and_parts, cases_lt, le-ltb, option_map_or}
 use Rattle.mxf_views.proofs.Common.{NoteParts, list_any-In, IsGiven, SegmentAtParts, segments_of}
-use Rattle.mxf_views.proofs.Common.{StreamPlace}
+use Rattle.mxf_views.specs.declared.index.place.StreamPlace.{StreamPlace}
 use Rattle.mxf_units.specs.declared.essence_zone.EssenceZone.{EssenceZone}
 use Rattle.mxf_units.specs.Extents.{HasOffset, IsEndPlaceOf, IsExtentEnd, IsNextUnit, IsWithin}
 use Rattle.mxf_units.specs.Streams.{IsNext, IsNextOf, is_given, is_same_place, next_of}

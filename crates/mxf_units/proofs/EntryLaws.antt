@@ -4,7 +4,8 @@ use Rattle.mxf_views.proofs.Common.{Option, None, Some, refl, ap, arith, filter_
 use Rattle.mxf_views.proofs.Common.{inl, inr, ltb-true, nat_le, nat_lt, option_and_then, option_map}
 use Rattle.mxf_views.proofs.Common.{subst, sym, unsigned_abs, false_from_ne_true, leb-false}
 use Rattle.mxf_views.proofs.Common.{leb-true, ltb-false, NoteParts, In, In-filter_map, index_entry}
-use Rattle.mxf_views.proofs.Common.{IndexEntry, SegmentAtParts}
+use Rattle.mxf_views.proofs.Common.{SegmentAtParts}
+use Rattle.mxf_sets.specs.declared.segment.offset.IndexEntry.{IndexEntry}
 use Rattle.std.proofs.lemmas.Int.{ints}
 use Rattle.std.specs.Int.{is_negative}
 use Rattle.std.specs.Prelude.{ℤ, pos, negsuc}

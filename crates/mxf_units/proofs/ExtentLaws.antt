@@ -3,7 +3,7 @@ use Rattle.mxf_views.proofs.Common.{◌≡◌, ◌↔◌, ◌<◌, ◌≤◌, �
 use Rattle.mxf_views.proofs.Common.{Some, Result, Ok, Err, IsSome, ap, arith, if◌then◌else◌, inl}
 use Rattle.mxf_views.proofs.Common.{inr, is_some, option_map, refl, subst, cases_lt, same_Some}
 use Rattle.mxf_views.proofs.Common.{NoteParts, guarded, PartitionParts, IsOnlyPlace, segments_of}
-use Rattle.mxf_views.proofs.Common.{StreamPlace}
+use Rattle.mxf_views.specs.declared.index.place.StreamPlace.{StreamPlace}
 use Rattle.mxf_places.specs.AtHand.{KnownParts}
 use Rattle.mxf_units.specs.declared.standing.UnitStanding.{UnitStanding}
 use Rattle.mxf_units.specs.declared.essence_zone.EssenceZone.{EssenceZone}

@@ -2,8 +2,8 @@
 use Rattle.mxf_views.proofs.Common.{◌≡◌, ◌∙◌, ◌<◌, ◌+◌, ℕ, Bool, true, false, not, List, [], ◌∷◌}
 use Rattle.mxf_views.proofs.Common.{Option, None, Some, Result, Ok, Err, refl, sym, ap, subst}
 use Rattle.mxf_views.proofs.Common.{is_some, unwrap_or, if◌then◌else◌, ◌==◌, filter, filter_map}
-use Rattle.mxf_views.proofs.Common.{and_parts, ok_or, NoteParts, some_is, SegmentAtParts}
-use Rattle.mxf_views.proofs.Common.{StreamPlace, place_in}
+use Rattle.mxf_views.proofs.Common.{and_parts, ok_or, NoteParts, some_is, SegmentAtParts, place_in}
+use Rattle.mxf_views.specs.declared.index.place.StreamPlace.{StreamPlace}
 use Rattle.mxf_places.specs.AtHand.{KnownParts}
 use Rattle.mxf_units.specs.declared.standing.UnitStanding.{UnitStanding}
 use Rattle.mxf_units.specs.declared.essence_zone.EssenceZone.{EssenceZone}

@@ -8,7 +8,8 @@ use Rattle.mxf_views.proofs.Common.{ltb-false, filter_map-append, AllByRecursion
 use Rattle.mxf_views.proofs.Common.{cons_option, IsPartitionedBy, nat_cmp, Less, nat_cmp_total}
 use Rattle.mxf_views.proofs.Common.{nat_cmp-IsAntisymmetric, In, In-union, IsRising, SameMembers}
 use Rattle.mxf_views.proofs.Common.{less_in, union, In-at, In-filter_map, all-In, all_from_In}
-use Rattle.mxf_views.proofs.Common.{either, lt_from_less, place_cmp, IsBelow, StreamPlace}
+use Rattle.mxf_views.proofs.Common.{either, lt_from_less, place_cmp, IsBelow}
+use Rattle.mxf_views.specs.declared.index.place.StreamPlace.{StreamPlace}
 use Rattle.std.proofs.Common.{slice_get}
 use Rattle.std.specs.Option.{option_and_then}
 use Rattle.mxf_units.specs.Streams.{IsSmall, in_order, least_above, lesser, offset_in, offsets_in}

@@ -4,12 +4,15 @@ use Rattle.mxf_views.proofs.Common.{true, false, not, IsTrue, List, Option, None
 use Rattle.mxf_views.proofs.Common.{ap, subst, inl, inr, arith, eq-eqb, eqb-true, filter_map, find}
 use Rattle.mxf_views.proofs.Common.{if◌then◌else◌, is_some, lt-ltb, ltb-true, map, nat_lt}
 use Rattle.mxf_views.proofs.Common.{option_and_then, and_from, and_parts, ltb-false, or_cases}
-use Rattle.mxf_views.proofs.Common.{option_map_or, option_or, Kind, NoteParts, end_of, kind_of, In}
+use Rattle.mxf_views.proofs.Common.{option_map_or, option_or, NoteParts, end_of, kind_of, In}
 use Rattle.mxf_views.proofs.Common.{In-append, In-filter_map, In-map, find-only, found-In, either}
 use Rattle.mxf_views.proofs.Common.{IsContent, undisputed_notes, In-undisputed_notes}
 use Rattle.mxf_views.proofs.Common.{undisputed_at-found, PartitionParts, partitions_of, previous_of}
-use Rattle.mxf_views.proofs.Common.{segments_of, RipAtParts, rip_view_of, RipView, Absent, Several}
-use Rattle.mxf_views.proofs.Common.{Unreadable, One}
+use Rattle.mxf_views.proofs.Common.{segments_of, RipAtParts, rip_view_of}
+use Rattle.mxf_klv.specs.declared.kinds.Kind.{Kind}
+use Rattle.mxf_views.specs.declared.random_index.RipView.{RipView}
+use Rattle.mxf_views.specs.declared.random_index.RipView.TheVariants.{Absent, Several, Unreadable}
+use Rattle.mxf_views.specs.declared.random_index.RipView.TheVariants.{One}
 use Rattle.mxf_views.proofs.PartitionSearch.{one_partition}
 use Rattle.mxf_places.specs.Held.{IsDisputedAt, IsHeld, begins_clear_head, end_of_file}
 use Rattle.mxf_places.specs.Held.{is_disputed_at, is_held, is_in_file}

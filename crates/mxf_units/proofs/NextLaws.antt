@@ -8,7 +8,8 @@ use Rattle.mxf_views.proofs.Common.{and_from, and_parts, cases_lt, le-leb, leb-t
 use Rattle.mxf_views.proofs.Common.{In, NoteParts, In-append, In-filter, In-filter_map, In-flat_map}
 use Rattle.mxf_views.proofs.Common.{covers_constant, covers_entry, entry_offset, stream_offset}
 use Rattle.mxf_views.proofs.Common.{SegmentParts, entry_count, is_constant, SegmentAtParts}
-use Rattle.mxf_views.proofs.Common.{segments_of, StreamPlace, in_stream, place_in}
+use Rattle.mxf_views.proofs.Common.{segments_of, in_stream, place_in}
+use Rattle.mxf_views.specs.declared.index.place.StreamPlace.{StreamPlace}
 use Rattle.mxf_units.specs.Streams.{IsNextOf, IsStreamPlace, listed_in, next_of, offset_in}
 use Rattle.mxf_units.specs.Streams.{offsets_in, places_above, segments_for, sized_above}
 use Rattle.mxf_units.proofs.LeastLaws.{IsLeast, least-is, offset_in-says}

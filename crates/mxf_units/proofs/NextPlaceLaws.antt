@@ -9,8 +9,9 @@ use Rattle.mxf_views.proofs.Common.{IsPermutation-sym, AllByRecursion, cons_opti
 use Rattle.mxf_views.proofs.Common.{IsNonDecreasingBy, IsPermutation, In, SameMembers}
 use Rattle.mxf_views.proofs.Common.{Contains-from_In, In-append, In-filter_map, In-from_Contains}
 use Rattle.mxf_views.proofs.Common.{all-In, all_from_In, covers_constant, covers_entry}
-use Rattle.mxf_views.proofs.Common.{entry_offset, is_constant, SegmentNumbers, SegmentAtParts}
-use Rattle.mxf_views.proofs.Common.{in_stream, place_in, StreamPlace}
+use Rattle.mxf_views.proofs.Common.{entry_offset, is_constant, SegmentAtParts, in_stream, place_in}
+use Rattle.mxf_sets.specs.declared.segment.numbers.SegmentNumbers.{SegmentNumbers}
+use Rattle.mxf_views.specs.declared.index.place.StreamPlace.{StreamPlace}
 use Rattle.std.proofs.Common.{slice_get}
 use Rattle.std.specs.Option.{option_and_then}
 use Rattle.mxf_units.specs.NextPlaces.{AreNextPlaces, AreSized, constant_units, end_number}

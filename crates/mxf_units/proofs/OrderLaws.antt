@@ -2,7 +2,8 @@
 use Rattle.mxf_views.proofs.Common.{true, false, None, Some, List, [], refl, ap, IsTotalOrder}
 use Rattle.mxf_views.proofs.Common.{options_total, nat_cmp-IsAntisymmetric, Ordering, nat_cmp_total}
 use Rattle.mxf_views.proofs.Common.{on_total, then_total, bool_cmp, option_cmp, ties, IsRising}
-use Rattle.mxf_views.proofs.Common.{IsRising-union, place_cmp, StreamPlace}
+use Rattle.mxf_views.proofs.Common.{IsRising-union, place_cmp}
+use Rattle.mxf_views.specs.declared.index.place.StreamPlace.{StreamPlace}
 use Rattle.std.specs.Cmp.{bool_cmp_total}
 use Rattle.std.specs.FinMap.{IsAntisymmetric}
 use Rattle.mxf_units.specs.Streams.{in_order as places_in_order}

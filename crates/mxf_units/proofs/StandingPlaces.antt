@@ -3,7 +3,8 @@ use Rattle.mxf_views.proofs.Common.{◌≡◌, ◌≢◌, ◌∙◌, ◌==◌, �
 use Rattle.mxf_views.proofs.Common.{Err, sym, ap, inl, inr, filter_map, option_map, eq-eqb}
 use Rattle.mxf_views.proofs.Common.{eqb-true, subst, NoteParts, In, In-filter, In-filter_map}
 use Rattle.mxf_views.proofs.Common.{stream_offset, IsGiven, IsOnlyPlace, SegmentAtParts}
-use Rattle.mxf_views.proofs.Common.{segments_of, StreamPlace, in_stream, place_in}
+use Rattle.mxf_views.proofs.Common.{segments_of, in_stream, place_in}
+use Rattle.mxf_views.specs.declared.index.place.StreamPlace.{StreamPlace}
 use Rattle.mxf_units.specs.declared.standing.UnitStanding.{UnitStanding}
 use Rattle.mxf_units.specs.Streams.{place_of, segments_for}
 use Rattle.mxf_units.proofs.WalkLaws.{PlacesWalked, walk_places}

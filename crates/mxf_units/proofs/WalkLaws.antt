@@ -7,8 +7,10 @@ use Rattle.mxf_views.proofs.Common.{option_map, unsigned_abs, min, ltb-true, and
 use Rattle.mxf_views.proofs.Common.{false_from_ne_true, leb-true, cons_option, list_any}
 use Rattle.mxf_views.proofs.Common.{IsPermutation, option_map_or, In, SameMembers, list_any-In}
 use Rattle.mxf_views.proofs.Common.{same_bool, covers_constant, covers_entry, entry_offset}
-use Rattle.mxf_views.proofs.Common.{index_entry, entry_count, is_constant, IndexEntry}
-use Rattle.mxf_views.proofs.Common.{SegmentAtParts, in_stream, place_in, StreamPlace}
+use Rattle.mxf_views.proofs.Common.{index_entry, entry_count, is_constant, SegmentAtParts}
+use Rattle.mxf_views.proofs.Common.{in_stream, place_in}
+use Rattle.mxf_sets.specs.declared.segment.offset.IndexEntry.{IndexEntry}
+use Rattle.mxf_views.specs.declared.index.place.StreamPlace.{StreamPlace}
 use Rattle.std.specs.Cmp.{signed_Decides}
 use Rattle.std.specs.Ordering.{int_eq}
 use Rattle.mxf_klv.proofs.Tests.{not_both}

@@ -1,8 +1,10 @@
 -- Whether a later reading is of another recording.
 use Rattle.mxf_views.proofs.Common.{ap, subst, arith, cond, and_from, and_parts, false_from_ne_true}
-use Rattle.mxf_views.proofs.Common.{Kind, Essence, kind_of, note_total, note_cmp-IsAntisymmetric}
-use Rattle.mxf_views.proofs.Common.{NoteParts, In, same_from_members, IsContent, has_note}
-use Rattle.mxf_views.proofs.Common.{In-filter, length-filter_le, IsContent-filter}
+use Rattle.mxf_views.proofs.Common.{kind_of, note_total, note_cmp-IsAntisymmetric, NoteParts, In}
+use Rattle.mxf_views.proofs.Common.{same_from_members, IsContent, has_note, In-filter}
+use Rattle.mxf_views.proofs.Common.{length-filter_le, IsContent-filter}
+use Rattle.mxf_klv.specs.declared.kinds.Kind.{Kind}
+use Rattle.mxf_klv.specs.declared.kinds.Kind.TheVariants.{Essence}
 use Rattle.std.specs.Prelude.{◌≡◌, ◌↔◌, ◌+◌, ◌<◌, ◌≤◌, ◌&&◌, Bool, true, false, IsTrue, List, []}
 use Rattle.std.specs.Prelude.{◌∷◌, filter, length, refl}
 use Rattle.std.proofs.lemmas.Bool.{lt-ltb, ltb-true}

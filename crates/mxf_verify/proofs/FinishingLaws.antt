@@ -6,9 +6,9 @@ use Rattle.mxf_views.proofs.Common.{and_from, and_parts, le-leb, leb-true, or_ca
 use Rattle.mxf_views.proofs.Common.{or_right, take_more, map-map, list_any, IsCovered, covered_end}
 use Rattle.mxf_views.proofs.Common.{NoteParts, In, SameMembers, In-append, In-flat_map, list_any-In}
 use Rattle.mxf_views.proofs.Common.{not_true, not-true-false, same_bool, IsContent, union_of}
-use Rattle.mxf_views.proofs.Common.{AreMaximal, IsWithin, LiesIn, SameOffsets, run, Run}
-use Rattle.mxf_views.proofs.Common.{In-union_of, IsContent-union_of, LiesIn-with_run, with_run}
-use Rattle.mxf_views.proofs.Common.{Covers}
+use Rattle.mxf_views.proofs.Common.{AreMaximal, IsWithin, LiesIn, SameOffsets, run, In-union_of}
+use Rattle.mxf_views.proofs.Common.{IsContent-union_of, LiesIn-with_run, with_run, Covers}
+use Rattle.mxf_catalogue.specs.declared.run.Run.{Run}
 use Rattle.std.specs.List.{flat_map}
 use denote.Bor.{Bor}
 use Rattle.mxf_readings.specs.Readings.{is_held}

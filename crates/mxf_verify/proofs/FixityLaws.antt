@@ -1,7 +1,8 @@
 -- How bytes of an extent stand beside runs.
 use Rattle.mxf_views.proofs.Common.{◌≡◌, ◌↔◌, ◌⊎◌, ◌<◌, ◌≤◌, ◌+◌, ◌-◌, ℕ, zero, suc, Bool, IsTrue}
 use Rattle.mxf_views.proofs.Common.{List, None, Some, refl, subst, inl, inr, arith, min, unwrap_or}
-use Rattle.mxf_views.proofs.Common.{cases_lt, LiesIn, Run}
+use Rattle.mxf_views.proofs.Common.{cases_lt, LiesIn}
+use Rattle.mxf_catalogue.specs.declared.run.Run.{Run}
 use Rattle.mxf_units.specs.Units.{asked_end}
 use Rattle.mxf_units.specs.declared.unit.Extent.{Extent}
 use Rattle.mxf_verify.specs.Fixities.{IsFixityIn, LiesWholeIn, Meets}

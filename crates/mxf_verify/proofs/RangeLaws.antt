@@ -5,8 +5,9 @@ use Rattle.mxf_views.proofs.Common.{take, ◌&&◌, AllByRecursion, IsPermutatio
 use Rattle.mxf_views.proofs.Common.{cases_lt, le-leb, leb-true, take_more, greatest_end, In}
 use Rattle.mxf_views.proofs.Common.{In-append, all-In, all_append, all_from_In, list_any-In}
 use Rattle.mxf_views.proofs.Common.{some_above, IsCover, LiesIn-with_run, gaps_of_runs, with_run}
-use Rattle.mxf_views.proofs.Common.{IsWithin, LiesIn, SameOffsets, run, Run, gaps_by_definition}
+use Rattle.mxf_views.proofs.Common.{IsWithin, LiesIn, SameOffsets, run, gaps_by_definition}
 use Rattle.mxf_views.proofs.Common.{has_byte}
+use Rattle.mxf_catalogue.specs.declared.run.Run.{Run}
 use Rattle.std.proofs.lemmas.Bool.{lt-ltb, ltb-true}
 use Rattle.mxf_units.proofs.NextPlaceLaws.{permuted}
 use Rattle.mxf_verify.proofs.KnownLaws.{or_not}

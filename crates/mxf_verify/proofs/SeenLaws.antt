@@ -3,7 +3,8 @@ use Rattle.mxf_views.proofs.Common.{◌≡◌, ◌↔◌, ◌⊎◌, ◌+◌, �
 use Rattle.mxf_views.proofs.Common.{nat_lt, IsTrue, List, [], ◌∷◌, ◌++◌, length, map, refl, sym, ap}
 use Rattle.mxf_views.proofs.Common.{subst, inl, inr, arith, append_assoc, false≢true, map-append}
 use Rattle.mxf_views.proofs.Common.{AllByRecursion, NoteParts, In, all-In, In-append, IsWithin}
-use Rattle.mxf_views.proofs.Common.{LiesIn, run, Run}
+use Rattle.mxf_views.proofs.Common.{LiesIn, run}
+use Rattle.mxf_catalogue.specs.declared.run.Run.{Run}
 use Rattle.std.proofs.lemmas.Bool.{ltb-true, lt-ltb}
 use Rattle.std.proofs.lemmas.Bool.Decides.{Decides-or}
 use Rattle.std.proofs.lemmas.List.{append-nil}

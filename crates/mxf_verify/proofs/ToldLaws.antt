@@ -8,8 +8,9 @@ use Rattle.mxf_views.proofs.Common.{length-take, take-append-drop, take-map, map
 use Rattle.mxf_views.proofs.Common.{NoteParts, covered_end, note_cmp, In, IsRising, all-In}
 use Rattle.mxf_views.proofs.Common.{all_from_In, Contains-from_In, In-append, In-filter}
 use Rattle.mxf_views.proofs.Common.{In-from_Contains, In-map, list_any-In, not_true, not-true-false}
-use Rattle.mxf_views.proofs.Common.{same_bool, IsContent, Covers, LiesIn, Run}
-use Rattle.mxf_views.proofs.Common.{is_disputed-IsDisputed, is_disputed}
+use Rattle.mxf_views.proofs.Common.{same_bool, IsContent, Covers, LiesIn, is_disputed-IsDisputed}
+use Rattle.mxf_views.proofs.Common.{is_disputed}
+use Rattle.mxf_catalogue.specs.declared.run.Run.{Run}
 use denote.Bor.{Bor}
 use Rattle.std.proofs.Common.{Ordering, Less}
 use Rattle.std.proofs.lemmas.Bool.{lt-ltb, ltb-true}

@@ -3,7 +3,8 @@ use Rattle.mxf_views.proofs.Common.{◌≡◌, ◌↔◌, ◌⊎◌, ◌+◌, �
 use Rattle.mxf_views.proofs.Common.{◌++◌, length, map, refl, sym, ap, subst, inl, inr, arith}
 use Rattle.mxf_views.proofs.Common.{IsCovered, IsInSpan, IsNote, NoteParts, In, SameMembers, all-In}
 use Rattle.mxf_views.proofs.Common.{In-append, In-map, same_bool, IsCatalogue, SharesByte, LiesIn}
-use Rattle.mxf_views.proofs.Common.{Run, clear_same, same_content, covers_below_end, same_runs}
+use Rattle.mxf_views.proofs.Common.{clear_same, same_content, covers_below_end, same_runs}
+use Rattle.mxf_catalogue.specs.declared.run.Run.{Run}
 use Rattle.mxf_verify.specs.Comparing.{SharesHeldByte}
 use Rattle.mxf_verify.specs.Taking.{has_digest}
 use Rattle.mxf_verify.specs.Agreeing.{agrees_with}

@@ -1,6 +1,7 @@
 -- The bytes of verified units.
 use Rattle.mxf_views.proofs.Common.{◌≡◌, ◌+◌, ◌≤◌, ℕ, List, [], ◌∷◌, None, Some, inl, inr, refl}
-use Rattle.mxf_views.proofs.Common.{sym, subst, arith, NoteParts, In, LiesIn, Run}
+use Rattle.mxf_views.proofs.Common.{sym, subst, arith, NoteParts, In, LiesIn}
+use Rattle.mxf_catalogue.specs.declared.run.Run.{Run}
 use Rattle.mxf_units.specs.Units.{UnitsParts, unit_of}
 use Rattle.mxf_units.specs.declared.unit.EditUnit.{EditUnit}
 use Rattle.mxf_verify.specs.Fixities.{AreUnitRuns, AreVerifiedUnits, HasEachByte, IsFixityBy}

@@ -2,10 +2,12 @@
 use Rattle.mxf_views.proofs.Common.{◌≡◌, ◌≢◌, ◌↔◌, ◌+◌, ◌<◌, ◌≤◌, ◌∙◌, ℕ, true, List, [], ◌∷◌}
 use Rattle.mxf_views.proofs.Common.{length, refl, sym, ap, subst, inl, inr, arith, cond, cases_lt}
 use Rattle.mxf_views.proofs.Common.{AreBytes, IsCovered, IsNote, covered_end, end_of, greatest_end}
-use Rattle.mxf_views.proofs.Common.{NoteParts, notes_in, stop_in, In, End, all-In, Contains-from_In}
-use Rattle.mxf_views.proofs.Common.{AreApart, IsClear, clear_notes, AreMaximal, LiesIn, Run}
+use Rattle.mxf_views.proofs.Common.{NoteParts, notes_in, stop_in, In, all-In, Contains-from_In}
+use Rattle.mxf_views.proofs.Common.{AreApart, IsClear, clear_notes, AreMaximal, LiesIn}
 use Rattle.mxf_views.proofs.Common.{same_content, In-clear_notes, IsContent-clear_notes}
 use Rattle.mxf_views.proofs.Common.{AreApart-clear_notes}
+use Rattle.mxf_klv.specs.declared.piece.Stop.TheVariants.{End}
+use Rattle.mxf_catalogue.specs.declared.run.Run.{Run}
 use Rattle.mxf_verify.specs.VerificationLaws.{IsWholeReference, SaysWhole}
 use Rattle.mxf_verify.specs.Verifications.{AreRunsOf, IsCountOf, IsVerification, VerificationParts}
 use Rattle.mxf_verify.specs.Verifying.{DiffersIn, IsByteOf, IsDiffering, IsHeldBy, IsSameIn}

@@ -7,10 +7,11 @@ use Rattle.mxf_views.proofs.Common.{IsSpelledLength, length_bytes, AreBytes, IsC
 use Rattle.mxf_views.proofs.Common.{end_of, greatest_end, keeps, keeps_value, note_of}
 use Rattle.mxf_views.proofs.Common.{IsSpelledPacket, size_of, NoteParts, PacketParts, packet_parts}
 use Rattle.mxf_views.proofs.Common.{AreLaid, end_after, notes_from, head_at, heads_at, notes_in}
-use Rattle.mxf_views.proofs.Common.{packet_at, packets_in, rest_in, stop_in, stop_of, In, End}
+use Rattle.mxf_views.proofs.Common.{packet_at, packets_in, rest_in, stop_in, stop_of, In}
 use Rattle.mxf_views.proofs.Common.{spelled_len, ends_at, goes_on, length-spelled, none_at_end}
 use Rattle.mxf_views.proofs.Common.{packet_at-given, some_piece, length_bytes-spelled}
 use Rattle.mxf_views.proofs.Common.{spelled-length_bytes}
+use Rattle.mxf_klv.specs.declared.piece.Stop.TheVariants.{End}
 use Rattle.std.proofs.Math.ListN.{length-append, length-drop}
 use Rattle.std.proofs.lemmas.List.{append-nil}
 use Rattle.sha2.specs.Sha256.{sha256}

@@ -5,15 +5,15 @@ use Rattle.mxf_views.proofs.Common.{inr, arith, get_or, length, eqb-true, ◌==�
 use Rattle.mxf_views.proofs.Common.{if◌then◌else◌, cons_option, filter_map, option_and_then, ◌^◌}
 use Rattle.mxf_views.proofs.Common.{false_from_ne_true, sum_by-append, NoteParts, end_of, In}
 use Rattle.mxf_views.proofs.Common.{lies_in, is_in_one, union_of, clear_notes, In-clear_notes}
-use Rattle.mxf_views.proofs.Common.{AreApart-clear_notes, CopyInfo, CopiesRise, IsStart, copies_of}
-use Rattle.mxf_views.proofs.Common.{copy_from, copy_of, covered_of, has_metadata, is_preface_note}
-use Rattle.mxf_views.proofs.Common.{prefaces_of, zone_of, copy_by, MeetAt, clear_from}
-use Rattle.mxf_views.proofs.Common.{counted_above, PartitionParts, partition_at, partitions_of}
-use Rattle.mxf_views.proofs.Common.{sizes, length-filter_le, In-at, count_by-le-length, or_itself}
-use Rattle.mxf_views.proofs.Common.{EndsBy, IsOfNone, IsStarting, IsUnionAt, range-le, IsContent}
-use Rattle.mxf_views.proofs.Common.{IsNote, all-In, ltb-true, IsUnmet, SameOutside, slice_get}
-use Rattle.mxf_views.proofs.Common.{eqb-false, filter_map-append, get_or_from_slice_get}
-use Rattle.mxf_views.proofs.Common.{slice_get_within}
+use Rattle.mxf_views.proofs.Common.{AreApart-clear_notes, CopiesRise, IsStart, copies_of, copy_from}
+use Rattle.mxf_views.proofs.Common.{copy_of, covered_of, has_metadata, is_preface_note, prefaces_of}
+use Rattle.mxf_views.proofs.Common.{zone_of, copy_by, MeetAt, clear_from, counted_above}
+use Rattle.mxf_views.proofs.Common.{PartitionParts, partition_at, partitions_of, sizes}
+use Rattle.mxf_views.proofs.Common.{length-filter_le, In-at, count_by-le-length, or_itself, EndsBy}
+use Rattle.mxf_views.proofs.Common.{IsOfNone, IsStarting, IsUnionAt, range-le, IsContent, IsNote}
+use Rattle.mxf_views.proofs.Common.{all-In, ltb-true, IsUnmet, SameOutside, slice_get, eqb-false}
+use Rattle.mxf_views.proofs.Common.{filter_map-append, get_or_from_slice_get, slice_get_within}
+use Rattle.mxf_views.specs.declared.copy.CopyInfo.{CopyInfo}
 use Rattle.mxf_views.specs.Copies.{start_of}
 use Rattle.mxf_views.proofs.CopyLaws.{copy_there}
 use Rattle.mxf_views.proofs.CopyUpdates.{start_is_found, copies_by_notes, end-partition_at, or_of}

@@ -1,9 +1,10 @@
 -- The preferred copy of those seen so far.
 use Rattle.mxf_views.proofs.Common.{◌≡◌, ◌<◌, ◌⊎◌, true, false, List, [], ◌∷◌, ◌++◌, Option, Some}
 use Rattle.mxf_views.proofs.Common.{None, refl, cond, append_assoc, append-nil, subst, ◌∙◌, sym}
-use Rattle.mxf_views.proofs.Common.{inl, inr, arith, ℕ, ◌↔◌, ◌&&◌, is_some, In, CopyInfo, best_of}
+use Rattle.mxf_views.proofs.Common.{inl, inr, arith, ℕ, ◌↔◌, ◌&&◌, is_some, In, best_of}
 use Rattle.mxf_views.proofs.Common.{preferred_of, rank, better, is_candidate, IsBest, IsPreferred}
 use Rattle.mxf_views.proofs.Common.{In-end}
+use Rattle.mxf_views.specs.declared.copy.CopyInfo.{CopyInfo}
 use Rattle.mxf_views.specs.Copies.{is_above, IsNotAbove, IsCandidate}
 
 candidate_says : (c : CopyInfo) (o : Option ℕ) → c.start ≡ o → is_some o ≡ true → c.prefaces ≡ 1 → IsCandidate c

@@ -2,15 +2,18 @@
 use Rattle.mxf_views.proofs.Common.{◌≡◌, ◌<◌, ◌≤◌, Bool, true, false, List, [], ◌∷◌, refl, sym, ap}
 use Rattle.mxf_views.proofs.Common.{subst, ◌∙◌, inl, inr, arith, eqb-true, eq-eqb, ◌↔◌, ◌&&◌, ◌||◌}
 use Rattle.mxf_views.proofs.Common.{◌==◌, not, if◌then◌else◌, is_some, count_by, list_all, and_from}
-use Rattle.mxf_views.proofs.Common.{false_from_ne_true, and_parts, NoteParts, kind_of, In, PackPart}
+use Rattle.mxf_views.proofs.Common.{false_from_ne_true, and_parts, NoteParts, kind_of, In}
 use Rattle.mxf_views.proofs.Common.{part_and_status, IsContent, IsClear, clear_notes}
-use Rattle.mxf_views.proofs.Common.{In-clear_notes, First, Held, Whole, PartitionParts, AreInOrder}
-use Rattle.mxf_views.proofs.Common.{chain_of, is_footer, is_greatest, is_header, is_linked}
-use Rattle.mxf_views.proofs.Common.{is_no_unreadable_pack, link_of, partition_at, partitions_of}
-use Rattle.mxf_views.proofs.Common.{count_by-cons, tally, list_any-In, In-filter_map, all-In}
-use Rattle.mxf_views.proofs.Common.{In-list_all, not-true-false, clear-alone, IsPartitionKind, Link}
-use Rattle.mxf_views.proofs.Common.{StandsAt, IsLink, HangTogether, count-none, list_all-In}
-use Rattle.mxf_views.proofs.Common.{kind_says, kind_tells, some_is}
+use Rattle.mxf_views.proofs.Common.{In-clear_notes, PartitionParts, AreInOrder, chain_of, is_footer}
+use Rattle.mxf_views.proofs.Common.{is_greatest, is_header, is_linked, is_no_unreadable_pack}
+use Rattle.mxf_views.proofs.Common.{link_of, partition_at, partitions_of, count_by-cons, tally}
+use Rattle.mxf_views.proofs.Common.{list_any-In, In-filter_map, all-In, In-list_all, not-true-false}
+use Rattle.mxf_views.proofs.Common.{clear-alone, IsPartitionKind, StandsAt, IsLink, HangTogether}
+use Rattle.mxf_views.proofs.Common.{count-none, list_all-In, kind_says, kind_tells, some_is}
+use Rattle.mxf_sets.specs.declared.pack.part.PackPart.{PackPart}
+use Rattle.mxf_views.specs.declared.chain.Link.TheVariants.{First, Held}
+use Rattle.mxf_views.specs.declared.chain.Chain.TheVariants.{Whole}
+use Rattle.mxf_views.specs.declared.chain.Link.{Link}
 use Rattle.mxf_sets.specs.declared.pack.part.PackPart.TheVariants.{Header, Footer}
 use Rattle.mxf_views.specs.Partitions.{IsOnly, is_first, is_held, hang_together}
 use Rattle.mxf_views.proofs.PartitionLaws.{link_iff, offset-partition_at, partitions_rise}

@@ -38,15 +38,13 @@ pub use Rattle.mxf_catalogue.specs.History.{Absorb, Add, Cut, Hands, History, Ne
 pub use Rattle.mxf_catalogue.specs.NoteLists.{Covers, covered_run, run_of}
 pub use Rattle.mxf_catalogue.specs.ReducedLaws.{rising-filter}
 pub use Rattle.mxf_catalogue.specs.Runs.{AreMaximal, IsWithin, LiesIn, SameOffsets, run}
-pub use Rattle.mxf_catalogue.specs.declared.cover.Cover.{Cover}
-pub use Rattle.mxf_catalogue.specs.declared.run.Run.{Run}
 pub use Rattle.mxf_klv.proofs.Counts.{count-none, count_by-cons, range-all, range-full, range-le}
 pub use Rattle.mxf_klv.proofs.Counts.{range-none, range-same, range-split, tally}
 pub use Rattle.mxf_klv.proofs.CutHeads.{heads_at-cut}
 pub use Rattle.mxf_klv.proofs.HeadOrder.{same_note-Decides}
 pub use Rattle.mxf_klv.proofs.KeyAndLengthLaws.{head-size, head-width}
 pub use Rattle.mxf_klv.proofs.LengthLemmas.{spelled_len}
-pub use Rattle.mxf_klv.proofs.ListSteps.{next_changed}
+pub use Rattle.mxf_klv.proofs.ListSteps.{next_changed, next_unchanged}
 pub use Rattle.mxf_klv.proofs.Lists.{Contains-from_In, In-append, In-at, In-end, In-filter}
 pub use Rattle.mxf_klv.proofs.Lists.{In-filter_map, In-flat_map, In-from_Contains, In-list_all}
 pub use Rattle.mxf_klv.proofs.Lists.{In-map, all-In, all-filter, all_append, all_from_In, all_push}
@@ -84,13 +82,6 @@ unfoldable pub use Rattle.mxf_klv.specs.PieceReading.{stop_of}
 pub use Rattle.mxf_klv.specs.Rising.{In, In-union, IsPlaceOf, IsRising, IsRising-union, SameMembers}
 pub use Rattle.mxf_klv.specs.Rising.{less_in, same_from_members, union, with_one}
 pub use Rattle.mxf_klv.specs.Written.{Puts, Writes}
-pub use Rattle.mxf_klv.specs.declared.kinds.Kind.{Kind}
-pub use Rattle.mxf_klv.specs.declared.kinds.Kind.TheVariants.{Essence}
-pub use Rattle.mxf_klv.specs.declared.kinds.Status.{Status}
-pub use Rattle.mxf_klv.specs.declared.kinds.Status.TheVariants.{OpenIncomplete}
-pub use Rattle.mxf_klv.specs.declared.piece.Stop.{Stop}
-pub use Rattle.mxf_klv.specs.declared.piece.Stop.TheVariants.{BadLength, End, NoStart, NotUl}
-pub use Rattle.mxf_klv.specs.declared.piece.Stop.TheVariants.{TooFar, Truncated}
 pub use Rattle.mxf_sets.proofs.PackKinds.{kind_says, kind_tells}
 pub use Rattle.mxf_sets.proofs.TableLaws.{at_equal, at_other}
 pub use Rattle.mxf_sets.specs.Batch.{BatchParts}
@@ -104,11 +95,6 @@ pub use Rattle.mxf_sets.specs.PartitionPack.{IsPartitionKind, PartitionPackParts
 pub use Rattle.mxf_sets.specs.RandomIndexPack.{RipParts}
 pub use Rattle.mxf_sets.specs.Readable.{read_as}
 pub use Rattle.mxf_sets.specs.Segment.{SegmentParts, entry_count, is_constant, segment_at}
-pub use Rattle.mxf_sets.specs.declared.pack.part.PackPart.{PackPart}
-pub use Rattle.mxf_sets.specs.declared.pack.part.PackPart.TheVariants.{Body}
-pub use Rattle.mxf_sets.specs.declared.pack.random_index.RipEntry.{RipEntry}
-pub use Rattle.mxf_sets.specs.declared.segment.numbers.SegmentNumbers.{SegmentNumbers}
-pub use Rattle.mxf_sets.specs.declared.segment.offset.IndexEntry.{IndexEntry}
 pub use Rattle.mxf_views.specs.Changes.{IsUnmet, SameOutside}
 pub use Rattle.mxf_views.specs.Copies.{AreSoMany, CopiesRise, CountsZone, IsBest, IsCopy, IsFilled}
 pub use Rattle.mxf_views.specs.Copies.{IsPrefaceIn, IsPreferred, IsPrimerOf, IsSetKind, IsStart}
@@ -131,6 +117,8 @@ pub use Rattle.mxf_views.specs.Kept.{states_metadata, with_found, with_keyed}
 unfoldable pub use Rattle.mxf_views.specs.Kept.{can_bring_start}
 pub use Rattle.mxf_views.specs.KeptAbove.{EndsBy, IsOfNone, IsStarting, IsUnionAt, clear_from}
 pub use Rattle.mxf_views.specs.KeptAbove.{counted_above}
+pub use Rattle.mxf_views.specs.KeptNotes.{partition_in, random_index_pack_in, segment_in}
+pub use Rattle.mxf_views.specs.KeptNotes.{unreadable_pack_in}
 pub use Rattle.mxf_views.specs.Labels.{is_in_copy, primer_of, primer_there}
 unfoldable pub use Rattle.mxf_views.specs.Labels.{primer_for}
 pub use Rattle.mxf_views.specs.Partitions.{AreInOrder, HangTogether, IsGreatestBelow, IsLink}
@@ -163,16 +151,6 @@ pub use Rattle.mxf_views.specs.WellFormed.{IsHeaderPack, IsPartitionPack, IsPrim
 pub use Rattle.mxf_views.specs.WellFormed.{IsRandomIndexPack, IsReadable, IsWellFormed}
 pub use Rattle.mxf_views.specs.WellFormed.{is_readable_as, total_of}
 pub use Rattle.mxf_views.specs.WholeFile.{HasCopiesOf, HasIndexOf, HasPartitionsOf}
-pub use Rattle.mxf_views.specs.declared.chain.Chain.TheVariants.{Broken, Whole}
-pub use Rattle.mxf_views.specs.declared.chain.Link.{Link}
-pub use Rattle.mxf_views.specs.declared.chain.Link.TheVariants.{First, Held, Missing, Skips, Wrong}
-pub use Rattle.mxf_views.specs.declared.copy.CopyInfo.{CopyInfo}
-pub use Rattle.mxf_views.specs.declared.index.place.Place.TheVariants.{Ambiguous, At, NotIndexed}
-pub use Rattle.mxf_views.specs.declared.index.place.StreamPlace.{StreamPlace}
-pub use Rattle.mxf_views.specs.declared.random_index.RipView.{RipView}
-pub use Rattle.mxf_views.specs.declared.random_index.RipView.TheVariants.{Absent, One, Several}
-pub use Rattle.mxf_views.specs.declared.random_index.RipView.TheVariants.{Unreadable}
-pub use Rattle.mxf_views.specs.declared.random_index.Standing.{Standing}
 pub use Rattle.std.proofs.Common.{Bool, Err, Global, IfErr, IfOk, IfSome, IsSome, IsTrue, List}
 pub use Rattle.std.proofs.Common.{MatchOption, None, Ok, Option, Result, Some, Vec, [], ap}
 pub use Rattle.std.proofs.Common.{append-nil, append_assoc, arith, cond, count_by, drop, eq-eqb}

@@ -7,14 +7,15 @@ use Rattle.mxf_views.proofs.Common.{[], ◌∷◌, Option, Some, None, refl, sym
 use Rattle.mxf_views.proofs.Common.{inr, arith, eqb-true, ◌||◌, ◌==◌, nat_lt, find, filter, map}
 use Rattle.mxf_views.proofs.Common.{if◌then◌else◌, cons_option, filter_map, option_and_then}
 use Rattle.mxf_views.proofs.Common.{ltb-true, and_parts, NoteParts, kind_of, end_of, In, IsContent}
-use Rattle.mxf_views.proofs.Common.{reduced_with, IsClear, clear_notes, In-clear_notes, CopyInfo}
-use Rattle.mxf_views.proofs.Common.{CopiesRise, copies_of, copy_of, has_metadata, is_fill}
-use Rattle.mxf_views.proofs.Common.{is_fill_note, is_primer, is_readable_primer, IsHull}
-use Rattle.mxf_views.proofs.Common.{copies_followed, copy_by, has_some_metadata, states_metadata}
-use Rattle.mxf_views.proofs.Common.{is_outside, renewed, PartitionParts, partition_at}
-use Rattle.mxf_views.proofs.Common.{partitions_of, found-In, and_cases, IsContent-reduced_with}
-use Rattle.mxf_views.proofs.Common.{can_bring_start, or_itself, with_found, rises-map, rises-filter}
-use Rattle.mxf_views.proofs.Common.{IsNew, clear_after, IsUnmet, SameOutside, in_numbers}
+use Rattle.mxf_views.proofs.Common.{reduced_with, IsClear, clear_notes, In-clear_notes, CopiesRise}
+use Rattle.mxf_views.proofs.Common.{copies_of, copy_of, has_metadata, is_fill, is_fill_note}
+use Rattle.mxf_views.proofs.Common.{is_primer, is_readable_primer, IsHull, copies_followed, copy_by}
+use Rattle.mxf_views.proofs.Common.{has_some_metadata, states_metadata, is_outside, renewed}
+use Rattle.mxf_views.proofs.Common.{PartitionParts, partition_at, partitions_of, found-In}
+use Rattle.mxf_views.proofs.Common.{and_cases, IsContent-reduced_with, can_bring_start, or_itself}
+use Rattle.mxf_views.proofs.Common.{with_found, rises-map, rises-filter, IsNew, clear_after}
+use Rattle.mxf_views.proofs.Common.{IsUnmet, SameOutside, in_numbers}
+use Rattle.mxf_views.specs.declared.copy.CopyInfo.{CopyInfo}
 use Rattle.std.proofs.Common.{ltb-false}
 use Rattle.mxf_views.specs.Copies.{start_of}
 use Rattle.mxf_views.proofs.KeptItems.{kept_there, renewed_follow}

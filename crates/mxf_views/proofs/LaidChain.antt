@@ -3,11 +3,12 @@ use Rattle.mxf_views.proofs.Common.{◌≡◌, ℕ, ◌+◌, ◌<◌, ◌≤◌,
 use Rattle.mxf_views.proofs.Common.{nat_lt, List, [], ◌∷◌, ◌++◌, ◌⊎◌, find, count_by, Option, None}
 use Rattle.mxf_views.proofs.Common.{Some, is_some, refl, AllByRecursion, list_all, option_map, sym}
 use Rattle.mxf_views.proofs.Common.{◌∙◌, ap, subst, inl, inr, arith, eq-eqb, ltb-true, and_from}
-use Rattle.mxf_views.proofs.Common.{false_from_ne_true, sum_by-append, In, First, Held}
-use Rattle.mxf_views.proofs.Common.{PartitionParts, is_footer, is_greatest, is_header, is_linked}
-use Rattle.mxf_views.proofs.Common.{link_at, link_of, count_by-cons, tally, list_any-In}
-use Rattle.mxf_views.proofs.Common.{In-list_all, all-In, all_from_In, IsGreatestBelow, link_read_at}
-use Rattle.mxf_views.proofs.Common.{links_read, count-none, or_right, all_push}
+use Rattle.mxf_views.proofs.Common.{false_from_ne_true, sum_by-append, In, PartitionParts}
+use Rattle.mxf_views.proofs.Common.{is_footer, is_greatest, is_header, is_linked, link_at, link_of}
+use Rattle.mxf_views.proofs.Common.{count_by-cons, tally, list_any-In, In-list_all, all-In}
+use Rattle.mxf_views.proofs.Common.{all_from_In, IsGreatestBelow, link_read_at, links_read}
+use Rattle.mxf_views.proofs.Common.{count-none, or_right, all_push}
+use Rattle.mxf_views.specs.declared.chain.Link.TheVariants.{First, Held}
 use Rattle.mxf_views.specs.Partitions.{stands_above}
 use Rattle.mxf_views.specs.Reading.{ends_with_footer, link_read}
 use Rattle.mxf_views.specs.WellFormed.{NameTheOneBefore}

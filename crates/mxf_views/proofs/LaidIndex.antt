@@ -5,9 +5,10 @@ use Rattle.mxf_views.proofs.Common.{option_map_or, sym, ◌∙◌, ap, inl, inr,
 use Rattle.mxf_views.proofs.Common.{note_of, size_of, PacketParts, notes_from, In, with_one, union}
 use Rattle.mxf_views.proofs.Common.{stream_offset, segment_at, SegmentAtParts, is_segment}
 use Rattle.mxf_views.proofs.Common.{place_cmp, place_by, placed_segment, segments_of}
-use Rattle.mxf_views.proofs.Common.{place_by_segment, segments_read, Agree, IsWellFormed}
-use Rattle.mxf_views.proofs.Common.{StreamPlace, NotIndexed, At, Ambiguous, given_by, HasIndexOf}
-use Rattle.mxf_views.proofs.Common.{clear-laid, in_stream, place_in}
+use Rattle.mxf_views.proofs.Common.{place_by_segment, segments_read, Agree, IsWellFormed, given_by}
+use Rattle.mxf_views.proofs.Common.{HasIndexOf, clear-laid, in_stream, place_in}
+use Rattle.mxf_views.specs.declared.index.place.StreamPlace.{StreamPlace}
+use Rattle.mxf_views.specs.declared.index.place.Place.TheVariants.{NotIndexed, At, Ambiguous}
 use Rattle.mxf_views.specs.Places.{place_of}
 use Rattle.mxf_views.specs.Records.{read_segment}
 use Rattle.mxf_views.specs.declared.index.place.Place.{Place}

@@ -2,18 +2,21 @@
 use Rattle.mxf_views.proofs.Common.{◌≡◌, ℕ, ◌+◌, Bool, true, false, cond, max, not, ◌&&◌, ◌||◌}
 use Rattle.mxf_views.proofs.Common.{◌==◌, List, [], ◌∷◌, ◌++◌, count_by, length, None, Some, Option}
 use Rattle.mxf_views.proofs.Common.{is_some, refl, AllByRecursion, cons_option, list_all}
-use Rattle.mxf_views.proofs.Common.{option_map, result_ok, sym, ◌∙◌, ap, subst, arith, Kind, Status}
-use Rattle.mxf_views.proofs.Common.{kind_of, note_of, end_of, size_of, PacketParts, NoteParts}
-use Rattle.mxf_views.proofs.Common.{notes_from, PackPart, Body, pack_at, part_and_status}
-use Rattle.mxf_views.proofs.Common.{PartitionPackParts, Whole, Broken, PartitionParts, is_footer}
-use Rattle.mxf_views.proofs.Common.{is_greatest, is_header, is_linked, link_at}
+use Rattle.mxf_views.proofs.Common.{option_map, result_ok, sym, ◌∙◌, ap, subst, arith, kind_of}
+use Rattle.mxf_views.proofs.Common.{note_of, end_of, size_of, PacketParts, NoteParts, notes_from}
+use Rattle.mxf_views.proofs.Common.{pack_at, part_and_status, PartitionPackParts, PartitionParts}
+use Rattle.mxf_views.proofs.Common.{is_footer, is_greatest, is_header, is_linked, link_at}
 use Rattle.mxf_views.proofs.Common.{is_no_unreadable_pack, partition_at, partitions_of}
 use Rattle.mxf_views.proofs.Common.{partition_read, partitions_read, read_pack, EndsWithFooter}
 use Rattle.mxf_views.proofs.Common.{IsFooterPack, IsPartitionPack, IsWellFormed, is_readable_as}
 use Rattle.mxf_views.proofs.Common.{total_of, keeps, gaps_from, link_read_at, links_read}
 use Rattle.mxf_views.proofs.Common.{IsHeaderPack, HasPartitionsOf, clear-laid, all-right}
 use Rattle.mxf_views.proofs.Common.{BeginsWithHeader, IsReadable}
-use Rattle.mxf_sets.specs.declared.pack.part.PackPart.TheVariants.{Header, Footer}
+use Rattle.mxf_klv.specs.declared.kinds.Kind.{Kind}
+use Rattle.mxf_klv.specs.declared.kinds.Status.{Status}
+use Rattle.mxf_sets.specs.declared.pack.part.PackPart.{PackPart}
+use Rattle.mxf_sets.specs.declared.pack.part.PackPart.TheVariants.{Body, Header, Footer}
+use Rattle.mxf_views.specs.declared.chain.Chain.TheVariants.{Whole, Broken}
 use Rattle.mxf_sets.specs.PartitionPack.{pack_kind}
 use Rattle.std.proofs.Common.{le-ltb}
 use Rattle.mxf_views.specs.Reading.{chain_read}

@@ -6,9 +6,9 @@ use Rattle.mxf_views.proofs.Common.{arith, eq-eqb, kind_of, note_of, size_of, Pa
 use Rattle.mxf_views.proofs.Common.{NoteParts, notes_from, In, RipParts, PartitionParts}
 use Rattle.mxf_views.proofs.Common.{partitions_of, is_rip, is_rip_note, rips_of, standing_of}
 use Rattle.mxf_views.proofs.Common.{rip_view_among, rip_view_by, rip_view_of, partitions_read}
-use Rattle.mxf_views.proofs.Common.{IsWellFormed, is_readable_as, One, ne_eqb, EndsWithRandomIndex}
-use Rattle.mxf_views.proofs.Common.{IsRandomIndexPack, Absent, clear-laid, one_by_one, rip_read}
-use Rattle.mxf_views.proofs.Common.{IsReadable}
+use Rattle.mxf_views.proofs.Common.{IsWellFormed, is_readable_as, ne_eqb, EndsWithRandomIndex}
+use Rattle.mxf_views.proofs.Common.{IsRandomIndexPack, clear-laid, one_by_one, rip_read, IsReadable}
+use Rattle.mxf_views.specs.declared.random_index.RipView.TheVariants.{One, Absent}
 use Rattle.mxf_views.specs.Records.{read_rip}
 use Rattle.mxf_views.specs.RandomIndex.{standing_by, standings}
 use Rattle.mxf_views.specs.WellFormed.{entry_of}

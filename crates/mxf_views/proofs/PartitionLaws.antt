@@ -3,11 +3,13 @@ use Rattle.mxf_views.proofs.Common.{◌≡◌, ℕ, ◌<◌, Bool, true, false, 
 use Rattle.mxf_views.proofs.Common.{subst, ◌∙◌, inl, inr, arith, eqb-true, eq-eqb, ◌↔◌, ◌==◌, find}
 use Rattle.mxf_views.proofs.Common.{not, if◌then◌else◌, option_map, NoteParts, end_of, kind_of, In}
 use Rattle.mxf_views.proofs.Common.{pack_at, PartitionPackParts, IsContent, clear_notes}
-use Rattle.mxf_views.proofs.Common.{In-clear_notes, First, Held, PartitionParts, AreInOrder}
-use Rattle.mxf_views.proofs.Common.{pack_of, partition_at, partitions_of, link_of, link_at}
-use Rattle.mxf_views.proofs.Common.{list_any-In, found-In, find-only, In-filter_map, Link, Skips}
-use Rattle.mxf_views.proofs.Common.{Missing, Wrong, StandsAt, IsGreatestBelow, IsLink, stands_at}
-use Rattle.mxf_views.proofs.Common.{stands_between, one_by_key, part_and_status, previous_of}
+use Rattle.mxf_views.proofs.Common.{In-clear_notes, PartitionParts, AreInOrder, pack_of}
+use Rattle.mxf_views.proofs.Common.{partition_at, partitions_of, link_of, link_at, list_any-In}
+use Rattle.mxf_views.proofs.Common.{found-In, find-only, In-filter_map, StandsAt, IsGreatestBelow}
+use Rattle.mxf_views.proofs.Common.{IsLink, stands_at, stands_between, one_by_key, part_and_status}
+use Rattle.mxf_views.proofs.Common.{previous_of}
+use Rattle.mxf_views.specs.declared.chain.Link.TheVariants.{First, Held, Skips, Missing, Wrong}
+use Rattle.mxf_views.specs.declared.chain.Link.{Link}
 use Rattle.mxf_klv.proofs.Tests.{none_some}
 use Rattle.mxf_views.specs.Partitions.{IsReadablePack, IsPartition, IsLinkAt}
 use Rattle.mxf_views.proofs.KeptItems.{kept_rise}

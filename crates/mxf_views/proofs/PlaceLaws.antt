@@ -3,11 +3,12 @@ use Rattle.mxf_views.proofs.Common.{◌≡◌, ℕ, ◌⊎◌, true, false, cond
 use Rattle.mxf_views.proofs.Common.{sym, ap, subst, ◌∙◌, inl, inr, eqb-true, eq-eqb, ◌↔◌, ◌==◌}
 use Rattle.mxf_views.proofs.Common.{option_map, filter_map, nat_cmp_total, tied_itself, In}
 use Rattle.mxf_views.proofs.Common.{IsRising, with_one, In-union, IsRising-union, less_in}
-use Rattle.mxf_views.proofs.Common.{same_from_members, stream_offset, StreamPlace, NotIndexed, At}
-use Rattle.mxf_views.proofs.Common.{Ambiguous, SegmentAtParts, place_cmp, place_by, In-filter_map}
-use Rattle.mxf_views.proofs.Common.{given_by, places_with, ordering_then, IsTotalOrder}
-use Rattle.mxf_views.proofs.Common.{IsAntisymmetric, on_total, then_total, IsBelow, IsGiven}
-use Rattle.mxf_views.proofs.Common.{IsOnlyPlace, in_stream, place_in, lt_from_less, ties}
+use Rattle.mxf_views.proofs.Common.{same_from_members, stream_offset, SegmentAtParts, place_cmp}
+use Rattle.mxf_views.proofs.Common.{place_by, In-filter_map, given_by, places_with, ordering_then}
+use Rattle.mxf_views.proofs.Common.{IsTotalOrder, IsAntisymmetric, on_total, then_total, IsBelow}
+use Rattle.mxf_views.proofs.Common.{IsGiven, IsOnlyPlace, in_stream, place_in, lt_from_less, ties}
+use Rattle.mxf_views.specs.declared.index.place.StreamPlace.{StreamPlace}
+use Rattle.mxf_views.specs.declared.index.place.Place.TheVariants.{NotIndexed, At, Ambiguous}
 use Rattle.std.proofs.Common.{nat_cmp, Ordering, Less, Equal, Greater}
 use Rattle.std.specs.FinSet.{nat_cmp-IsAntisymmetric}
 use Rattle.mxf_views.specs.declared.index.place.Place.{Place}

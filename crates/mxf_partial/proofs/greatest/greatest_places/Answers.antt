@@ -1,5 +1,6 @@
-use Rattle.mxf_views.proofs.Common.{◌≡◌, ◌∙◌, ap, sym, subst, List, SegmentParts, SegmentNumbers}
-use Rattle.mxf_views.proofs.Common.{SegmentAtParts, segments_of}
+use Rattle.mxf_views.proofs.Common.{◌≡◌, ◌∙◌, ap, sym, subst, List, SegmentParts, SegmentAtParts}
+use Rattle.mxf_views.proofs.Common.{segments_of}
+use Rattle.mxf_sets.specs.declared.segment.numbers.SegmentNumbers.{SegmentNumbers}
 use Rattle.mxf_partial.specs.declared.greatest.GreatestPlace.{GreatestPlace}
 use Rattle.mxf_partial.proofs.GreatestLaws.{Passed, all_greatest, passed_more, passed_none}
 use Rattle.mxf_partial.proofs.GreatestLaws.{passed_other}

@@ -1,5 +1,6 @@
 -- What was added so far, with the runs to come.
-use Rattle.mxf_views.proofs.Common.{◌≡◌, ◌++◌, Some, flat_map, map, Run}
+use Rattle.mxf_views.proofs.Common.{◌≡◌, ◌++◌, Some, flat_map, map}
+use Rattle.mxf_catalogue.specs.declared.run.Run.{Run}
 use Rattle.mxf_places.specs.AtHand.{lacking}
 use Rattle.mxf_partial.specs.Orders.{unit_order}
 use Rattle.mxf_partial.proofs.plan.add_unit_orders.Given as goal

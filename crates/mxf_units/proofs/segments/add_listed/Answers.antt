@@ -1,6 +1,7 @@
 use Rattle.mxf_views.proofs.Common.{◌∙◌, ◌≡◌, ◌++◌, ◌+◌, ◌-◌, ◌<◌, List, [], ◌∷◌, ap, arith}
 use Rattle.mxf_views.proofs.Common.{filter_map, subst, sym, ℕ, AllByRecursion, range_with_len}
-use Rattle.mxf_views.proofs.Common.{all_push, place_in, StreamPlace}
+use Rattle.mxf_views.proofs.Common.{all_push, place_in}
+use Rattle.mxf_views.specs.declared.index.place.StreamPlace.{StreamPlace}
 use Rattle.mxf_units.specs.Streams.{IsSmall}
 use Rattle.mxf_units.proofs.RangeLaws.{placed-step, skipped-step}
 use Rattle.mxf_units.proofs.segments.add_listed.Goals.{in-Some+in_ok-push, in_default}

@@ -1,4 +1,5 @@
-use Rattle.mxf_views.proofs.Common.{List, subst, sym, AllByRecursion, StreamPlace}
+use Rattle.mxf_views.proofs.Common.{List, subst, sym, AllByRecursion}
+use Rattle.mxf_views.specs.declared.index.place.StreamPlace.{StreamPlace}
 use Rattle.mxf_units.specs.Streams.{IsSmall}
 use Rattle.mxf_units.proofs.LeastLaws.{small-in_order}
 use Rattle.mxf_units.proofs.segments.listed_places.Goals as goal

@@ -1,5 +1,6 @@
 use Rattle.mxf_views.proofs.Common.{ℕ, max, rules, YieldsList-from_slice, items_from_collect}
-use Rattle.mxf_views.proofs.Common.{YieldsList-from_scan, Run}
+use Rattle.mxf_views.proofs.Common.{YieldsList-from_scan}
+use Rattle.mxf_catalogue.specs.declared.run.Run.{Run}
 use Rattle.mxf_units.proofs.IntervalLaws.{greater}
 use Rattle.mxf_verify.proofs.ReachLaws.{scanned}
 use Rattle.mxf_verify.proofs.ranges.greatest_ends.Goals as goal

@@ -1,4 +1,5 @@
-use Rattle.mxf_views.proofs.Common.{◌↔◌, ℕ, List, IfOk-weaker, LiesIn, SameOffsets, Run}
+use Rattle.mxf_views.proofs.Common.{◌↔◌, ℕ, List, IfOk-weaker, LiesIn, SameOffsets}
+use Rattle.mxf_catalogue.specs.declared.run.Run.{Run}
 use Rattle.mxf_verify.proofs.RangeLaws.{rest-offsets}
 use Rattle.mxf_verify.proofs.ranges.rest_of.Goals as goal
 

@@ -1,5 +1,6 @@
 use Rattle.mxf_views.proofs.Common.{◌≡◌, ◌∙◌, [], List, ap, arith, map, subst, sym, drop_all}
-use Rattle.mxf_views.proofs.Common.{NoteParts, Run, union_of_runs, Covers, covered_run, covers_all}
+use Rattle.mxf_views.proofs.Common.{NoteParts, union_of_runs, Covers, covered_run, covers_all}
+use Rattle.mxf_catalogue.specs.declared.run.Run.{Run}
 use denote.Bor.{Bor}
 use Rattle.mxf_verify.specs.Telling.{notes_at}
 use Rattle.mxf_verify.proofs.told_bytes.held_by.Goals as goal

@@ -1,4 +1,5 @@
-use Rattle.mxf_views.proofs.Common.{◌↔◌, List, ap, subst, sym, In, Run, LiesIn}
+use Rattle.mxf_views.proofs.Common.{◌↔◌, List, ap, subst, sym, In, LiesIn}
+use Rattle.mxf_catalogue.specs.declared.run.Run.{Run}
 use Rattle.mxf_hand.specs.Differing.{AreCompared, IsOverlap}
 use Rattle.mxf_hand.specs.Given.{AreTold}
 use Rattle.mxf_hand.specs.Places.{GivenParts}

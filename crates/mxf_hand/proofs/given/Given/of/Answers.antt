@@ -1,4 +1,5 @@
-use Rattle.mxf_views.proofs.Common.{◌∙◌, [], List, ap, map, subst, sym, Run, union_of_runs, In}
+use Rattle.mxf_views.proofs.Common.{◌∙◌, [], List, ap, map, subst, sym, union_of_runs, In}
+use Rattle.mxf_catalogue.specs.declared.run.Run.{Run}
 use Rattle.mxf_hand.specs.Places.{ArePlaces, AreSpans, overlaps_below, places_above, run_of}
 use Rattle.mxf_hand.specs.declared.given.Extent.{Extent}
 use Rattle.mxf_hand.specs.declared.given.Place.{Place}

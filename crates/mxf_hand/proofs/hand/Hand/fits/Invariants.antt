@@ -1,5 +1,6 @@
 -- The bytes at hand so far are what the head says.
-use Rattle.mxf_views.proofs.Common.{◌≡◌, ◌≤◌, ◌<◌, ◌-◌, ◌⊎◌, ℕ, get_or, In, Run, LiesIn}
+use Rattle.mxf_views.proofs.Common.{◌≡◌, ◌≤◌, ◌<◌, ◌-◌, ◌⊎◌, ℕ, get_or, In, LiesIn}
+use Rattle.mxf_catalogue.specs.declared.run.Run.{Run}
 use Rattle.mxf_hand.specs.Hand.{AreToldIn, HandBytes}
 use Rattle.mxf_hand.proofs.hand.Hand.fits.Given as goal
 

@@ -1,4 +1,5 @@
-use Rattle.mxf_views.proofs.Common.{List, subst, sym, Run, LiesIn}
+use Rattle.mxf_views.proofs.Common.{List, subst, sym, LiesIn}
+use Rattle.mxf_catalogue.specs.declared.run.Run.{Run}
 use Rattle.mxf_hand.proofs.hand.Hand.into_at_hand.Goals as goal
 
 pub of-requires : goal.of-requires

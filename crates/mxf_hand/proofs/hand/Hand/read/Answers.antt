@@ -1,4 +1,5 @@
-use Rattle.mxf_views.proofs.Common.{◌≡◌, ◌∙◌, ◌<◌, ℕ, List, ap, subst, sym, Run}
+use Rattle.mxf_views.proofs.Common.{◌≡◌, ◌∙◌, ◌<◌, ℕ, List, ap, subst, sym}
+use Rattle.mxf_catalogue.specs.declared.run.Run.{Run}
 use Rattle.std.specs.Result.{IfOk}
 use Rattle.mxf_hand.specs.Given.{bytes_between}
 use Rattle.mxf_hand.specs.Noting.{IsReading}

@@ -1,5 +1,5 @@
 use Rattle.mxf_views.proofs.Common.{◌≡◌, ◌↔◌, ◌∙◌, List, arith, subst, NoteParts, Covers, LiesIn}
-use Rattle.mxf_views.proofs.Common.{Run}
+use Rattle.mxf_catalogue.specs.declared.run.Run.{Run}
 use Rattle.mxf_places.specs.AtHand.{KnownParts}
 use Rattle.mxf_map.specs.Extents.{standing_at}
 use Rattle.mxf_map.proofs.ExtentLaws.{standing-same}

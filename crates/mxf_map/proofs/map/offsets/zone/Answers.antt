@@ -1,5 +1,6 @@
 use Rattle.mxf_views.proofs.Common.{◌≡◌, ◌∙◌, [], List, ap, map, subst, sym, NoteParts}
-use Rattle.mxf_views.proofs.Common.{union_of_runs, clear_notes, run_of, Run}
+use Rattle.mxf_views.proofs.Common.{union_of_runs, clear_notes, run_of}
+use Rattle.mxf_catalogue.specs.declared.run.Run.{Run}
 use Rattle.mxf_map.specs.Layers.{AreOffsets, LiesInZone, zone_notes}
 use Rattle.mxf_map.proofs.LayerLaws.{zone_are}
 use Rattle.mxf_map.proofs.map.offsets.zone.Goals as goal

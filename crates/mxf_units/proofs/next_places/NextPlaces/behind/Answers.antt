@@ -1,5 +1,5 @@
 use Rattle.mxf_views.proofs.Common.{◌∙◌, ◌<◌, List, ap, arith, subst, sym, AllByRecursion}
-use Rattle.mxf_views.proofs.Common.{StreamPlace}
+use Rattle.mxf_views.specs.declared.index.place.StreamPlace.{StreamPlace}
 use Rattle.mxf_units.specs.Intervals.{IsAround}
 use Rattle.mxf_units.specs.NextPlaces.{AreSized, NextPlacesParts, end_number, first_number, next_by}
 use Rattle.mxf_units.specs.Streams.{least_above, lesser, offsets_in}

@@ -1,4 +1,5 @@
-use Rattle.mxf_views.proofs.Common.{List, flat_map, subst, sym, IsRising, place_cmp, StreamPlace}
+use Rattle.mxf_views.proofs.Common.{List, flat_map, subst, sym, IsRising, place_cmp}
+use Rattle.mxf_views.specs.declared.index.place.StreamPlace.{StreamPlace}
 use Rattle.mxf_units.specs.NextPlaces.{AreSized}
 use Rattle.mxf_units.specs.Streams.{listed_in}
 use Rattle.mxf_units.proofs.NextPlaceLaws.{all_permuted, next-of_segments}

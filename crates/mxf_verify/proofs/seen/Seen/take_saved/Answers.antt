@@ -1,4 +1,5 @@
-use Rattle.mxf_views.proofs.Common.{◌≤◌, inl, inr, refl, Run, all-In, greatest_end}
+use Rattle.mxf_views.proofs.Common.{◌≤◌, inl, inr, refl, all-In, greatest_end}
+use Rattle.mxf_catalogue.specs.declared.run.Run.{Run}
 use Rattle.mxf_verify.proofs.SeenLaws.{seen_saved, within_both}
 use Rattle.mxf_verify.proofs.seen.Seen.take_saved.Goals as goal
 

@@ -1,4 +1,5 @@
-use Rattle.mxf_views.proofs.Common.{List, subst, ℕ, Run, SameMembers}
+use Rattle.mxf_views.proofs.Common.{List, subst, ℕ, SameMembers}
+use Rattle.mxf_catalogue.specs.declared.run.Run.{Run}
 use Rattle.mxf_units.specs.Units.{unit_of}
 use Rattle.mxf_verify.specs.Fixities.{AreUnitRuns, IsFixityOf}
 use Rattle.mxf_verify.specs.declared.fixity.UnitFixity.{UnitFixity}

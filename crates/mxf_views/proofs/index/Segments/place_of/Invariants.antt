@@ -1,4 +1,5 @@
-use Rattle.mxf_views.proofs.Common.{◌≡◌, List, [], IsRising, StreamPlace, place_cmp, place_by, places_with}
+use Rattle.mxf_views.proofs.Common.{◌≡◌, List, [], IsRising, place_cmp, place_by, places_with}
+use Rattle.mxf_views.specs.declared.index.place.StreamPlace.{StreamPlace}
 use Rattle.mxf_views.proofs.index.Segments.place_of.Given as goal
 
 -- the places so far, and with those to come

@@ -1,6 +1,7 @@
-use Rattle.mxf_views.proofs.Common.{◌∙◌, ap, get_or, subst, sym, None, false, OpenIncomplete, In, CopyInfo}
-use Rattle.mxf_views.proofs.Common.{counted_above, In-at, set, next_changed}
-use Rattle.mxf_klv.proofs.ListSteps.{next_unchanged}
+use Rattle.mxf_views.proofs.Common.{◌∙◌, ap, get_or, subst, sym, None, false, In, counted_above}
+use Rattle.mxf_views.proofs.Common.{In-at, set, next_changed, next_unchanged}
+use Rattle.mxf_klv.specs.declared.kinds.Status.TheVariants.{OpenIncomplete}
+use Rattle.mxf_views.specs.declared.copy.CopyInfo.{CopyInfo}
 use Rattle.mxf_views.proofs.kept.above.count_above.Goals as goal
 
 pub counted_above-requires : goal.counted_above-requires

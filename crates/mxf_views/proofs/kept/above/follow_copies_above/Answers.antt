@@ -1,8 +1,9 @@
-use Rattle.mxf_views.proofs.Common.{◌≡◌, ◌<◌, ◌^◌, ◌∙◌, ◌++◌, ◌-◌, List, ap, arith, drop, get_or, length, map, subst}
-use Rattle.mxf_views.proofs.Common.{sym, take, AllWithin, length-map, NoteParts, In, clear_notes, CopyInfo}
-use Rattle.mxf_views.proofs.Common.{CopiesRise, clear_from, counted_above, IsOfNone, IsStarting}
-use Rattle.std.proofs.lemmas.List.{length-drop}
-use Rattle.mxf_views.proofs.Common.{◌≤◌, PartitionParts, copies_among, count_by, has_metadata}
+use Rattle.mxf_views.proofs.Common.{◌≡◌, ◌<◌, ◌^◌, ◌∙◌, ◌++◌, ◌-◌, List, ap, arith, drop, get_or}
+use Rattle.mxf_views.proofs.Common.{length, map, subst, sym, take, AllWithin, length-map, NoteParts}
+use Rattle.mxf_views.proofs.Common.{In, clear_notes, CopiesRise, clear_from, counted_above}
+use Rattle.mxf_views.proofs.Common.{IsOfNone, IsStarting, length-drop, ◌≤◌, PartitionParts}
+use Rattle.mxf_views.proofs.Common.{copies_among, count_by, has_metadata}
+use Rattle.mxf_views.specs.declared.copy.CopyInfo.{CopyInfo}
 use Rattle.mxf_views.proofs.AboveCopies.{copies_at, fits_at, stays_above}
 use Rattle.mxf_views.proofs.AboveKept.{ends_above_at}
 use Rattle.mxf_views.proofs.CopyUpdates.{counted_copies, kept_copies}

@@ -1,4 +1,5 @@
-use Rattle.mxf_views.proofs.Common.{◌∙◌, ap, map, subst, sym, CopiesRise, CopyInfo, renewed}
+use Rattle.mxf_views.proofs.Common.{◌∙◌, ap, map, subst, sym, CopiesRise, renewed}
+use Rattle.mxf_views.specs.declared.copy.CopyInfo.{CopyInfo}
 use Rattle.mxf_views.proofs.CopyUpdates.{kept_copies_rise}
 use Rattle.mxf_views.proofs.KeyedLists.{keys_never_fall}
 use Rattle.mxf_views.proofs.kept.copies.follow_copies.Goals as goal

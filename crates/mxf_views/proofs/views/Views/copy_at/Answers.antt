@@ -1,4 +1,5 @@
-use Rattle.mxf_views.proofs.Common.{◌∙◌, ap, subst, sym, CopyInfo, KeptParts, RiseBy}
+use Rattle.mxf_views.proofs.Common.{◌∙◌, ap, subst, sym, KeptParts, RiseBy}
+use Rattle.mxf_views.specs.declared.copy.CopyInfo.{CopyInfo}
 use Rattle.mxf_views.proofs.CopyLaws.{copies_rise}
 use Rattle.mxf_views.proofs.views.Views.copy_at.Goals as goal
 
