@@ -83,9 +83,7 @@ key_by unit d =
 after : (unit n : ℕ) (b : Bool) → nat_lt (unit + n) (2 ^ 64) ≡ b
     → IsKeyFrame unit (pos n) (if b then Some (unit + n) else None)
 after unit n true e = (refl, ltb-true (unit + n) (2 ^ 64) e)
-after unit n false e = λ key at below.
-    let same : unit + n ≡ key = omega (arith, ints, at) in
-    let high = ltb-false (unit + n) (2 ^ 64) e in omega (arith, same, high, below)
+after unit n false e = grind (arith, ints, ltb-false)
 
 before : (unit n : ℕ) (b : Bool) → unit < 2 ^ 64 → nat_le (suc n) unit ≡ b
     → IsKeyFrame unit (negsuc n) (if b then Some (unit - suc n) else None)
@@ -96,10 +94,7 @@ before unit n false fits e = λ key at below.
 
 key_by-is : (unit : ℕ) (d : ℤ) → unit < 2 ^ 64 → IsKeyFrame unit d (key_by unit d)
 key_by-is unit (pos n) fits =
-    let key = λ (b : Bool). if b then (if nat_le n unit then Some (unit - n) else None)
-    else (if nat_lt (unit + n) (2 ^ 64) then Some (unit + n) else None) in
-    let no : nat_lt n 0 ≡ false = false_from_ne_true (nat_lt n 0) (λ t. let l = ltb-true n 0 t in omega (arith, l)) in
-    subst (λ b. IsKeyFrame unit (pos n) (key b)) (sym no) (after unit n (nat_lt (unit + n) (2 ^ 64)) refl)
+    grind (arith, nat_le, nat_lt, false_from_ne_true, ltb-true, pos, after)
 key_by-is unit (negsuc n) fits = before unit n (nat_le (suc n) unit) fits refl
 
 -- ---- what the unit says
@@ -123,9 +118,4 @@ module _ (known : KnownParts) (index_sid unit : ℕ) where
       → ((unit_of known index_sid unit).temporal ≡ None) × ((unit_of known index_sid unit).flags ≡ None)
       × ((unit_of known index_sid unit).key ≡ None)
   unfolding unit_of
-  says-nothing none =
-      let s = no-entry known.notes index_sid unit none in (
-        ap (λ (o : Option IndexEntry). option_map (λ e. e.temporal_offset) o) s,
-        ap (λ (o : Option IndexEntry). option_map (λ e. e.flags) o) s,
-        ap (λ (o : Option IndexEntry). option_and_then (key_at unit) o) s,
-      )
+  says-nothing none = grind (arith, no-entry, option_map, option_and_then, key_at)

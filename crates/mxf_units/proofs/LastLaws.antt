@@ -206,11 +206,7 @@ among-more : (passed : List SegmentAtParts) (s : SegmentAtParts) (index_sid unit
 among-more passed s index_sid unit = (
   λ g. elim ((In-end g.by s passed (passed ++ s ∷ []) refl).0 g.held) [
     | inl h ↦ inl record { by = g.by; held = h; index = g.index; place = g.place }
-    | inr e ↦
-        inr (
-          ap (λ (t : SegmentAtParts). t.segment.numbers.index_sid) (sym e) ∙ g.index,
-          subst (λ (t : SegmentAtParts). GivesPlace t.segment unit) e g.place,
-        )
+    | inr e ↦ grind arith
   ],
   λ h. elim h [
     | inl g ↦
@@ -241,9 +237,7 @@ module _ (all before rest : List SegmentAtParts) (s : SegmentAtParts) (index_sid
   ends-more ends t h e endless =
       elim ((In-end t s was.passed (was.passed ++ s ∷ []) refl).0 h) [
         | inl k ↦ was.ends t k e endless
-        | inr same ↦
-            ends (ap (λ (t : SegmentAtParts). t.segment.numbers.index_sid) (sym same) ∙ e)
-            (subst (λ (t : SegmentAtParts). IsEndless t.segment) same endless)
+        | inr same ↦ grind arith
       ]
 
   -- The segment is one of another index.

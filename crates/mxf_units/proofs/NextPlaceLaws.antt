@@ -299,9 +299,7 @@ module _ (body offset : ℕ) (low : offset < 2 ^ 96) where
       no_first c e =
           elim (goes_on c) as (λ g. option_and_then (offset_above body offset)
           (if g then Some (record { body_sid = c.body_sid; offset = c.unit_bytes * unit_of c }) else None) ≡ None) [
-            | true ↦ ap (λ b. if nat_lt offset (c.unit_bytes * unit_of c)
-                then (if b then Some (c.unit_bytes * unit_of c) else None) else None) e
-                ∙ either (nat_lt offset (c.unit_bytes * unit_of c)) None refl
+            | true ↦ grind (arith, nat_lt)
             | false ↦ refl
           ]
         where

@@ -11,9 +11,7 @@ use Rattle.mxf_places.proofs.StretchLaws.{over_none}
 pub essence_is : (notes : List NoteParts) (x : ℕ) (n : NoteParts) (b : Bool)
     → Some n ≡ find (λ n. n.offset == x) (undisputed_notes notes) → b ≡ may_be_essence (kind_of n.key)
     → (if b then Some n else None) ≡ essence_at notes x
-essence_is notes x n b e f =
-    ap (λ b. if b then Some n else None) f
-    ∙ ap (λ (o : Option NoteParts). option_and_then (λ n. if may_be_essence (kind_of n.key) then Some n else None) o) e
+essence_is notes x n b e f = grind (arith, option_and_then, may_be_essence, kind_of)
 
 -- No packet begins at the greatest end or behind it.
 pub far_packet : (notes : List NoteParts) (p : PartitionParts) (x : ℕ) → IsCatalogue notes → greatest_end ≤ x

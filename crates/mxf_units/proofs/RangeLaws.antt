@@ -18,62 +18,21 @@ all-range : (p : ℕ → Bool) (a n : ℕ)
     → (list_all p (range_with_len a n) ≡ true) ↔ ((x : ℕ) → a ≤ x → x < a + n → p x ≡ true)
 all-range p a zero = (λ h x l r. absurd (omega arith), λ f. refl)
 all-range p a (suc n) =
-    let ih = all-range p (a + 1) n in (
-      λ h x l r.
-          let s = and_parts (p a) (list_all p (range_with_len (a + 1) n)) h in
-          elim (cases_lt a x) [
-            | inl m ↦ ih.0 s.1 x (omega (arith, m)) (omega arith)
-            | inr m ↦ let e : a ≡ x = omega (arith, m, l) in subst (λ y. p y ≡ true) e s.0
-          ],
-      λ f. and_from (p a) (list_all p (range_with_len (a + 1) n)) (f a (omega arith) (omega arith))
-          (ih.1 (λ x l r. f x (omega (arith, l)) (omega (arith, r)))),
-    )
+    grind (arith, and_parts, list_all, range_with_len, cases_lt, and_from, all-range p (a + 1) n)
 
 any-range : (p : ℕ → Bool) (a n : ℕ)
     → (list_any p (range_with_len a n) ≡ true) ↔ ((x : ℕ) × (p x ≡ true) × (a ≤ x) × (x < a + n))
 any-range p a zero = (λ h. absurd cc, λ s. let l = s.2 in let r = s.3 in absurd (omega (arith, l, r)))
 any-range p a (suc n) =
-    let ih = any-range p (a + 1) n in (
-      λ h. elim (p a) as (λ b. p a ≡ b → (b || list_any p (range_with_len (a + 1) n)) ≡ true
-          → ((x : ℕ) × (p x ≡ true) × (a ≤ x) × (x < a + suc n))) [
-            | true ↦ λ e k. (a, e, omega arith, omega arith)
-            | false ↦ λ e k.
-                let s = ih.0 k in
-                let l = s.2 in
-                let r = s.3 in (s.0, s.1, omega (arith, l), omega (arith, r))
-          ] refl h,
-      λ s.
-          let l = s.2 in
-          let r = s.3 in
-          elim (cases_lt a s.0) [
-            | inl m ↦ either (p a) (list_any p (range_with_len (a + 1) n))
-                (inr (ih.1 (s.0, s.1, omega (arith, m), omega (arith, r))))
-            | inr m ↦
-                let e : s.0 ≡ a = omega (arith, m, l) in
-                either (p a) (list_any p (range_with_len (a + 1) n)) (inl (subst (λ y. p y ≡ true) e s.1))
-          ],
-    )
+    grind (arith, list_any, range_with_len, cases_lt, either, any-range p (a + 1) n)
 
 pub all-says : (p : ℕ → Bool) (P : ℕ → Type 0) → ((x : ℕ) → IsTrue (p x) ↔ P x) → (from to : ℕ)
     → IsTrue (list_all p (range_with_len from (to - from))) ↔ ((x : ℕ) → from ≤ x → x < to → P x)
-all-says p P says from to =
-    let all = all-range p from (to - from) in (
-      λ h x l r. (says x).0 (all.0 h x l (omega (arith, l, r))),
-      λ f. all.1 (λ x l r. (says x).1 (f x l (omega (arith, l, r)))),
-    )
+all-says p P says from to = grind (arith, all-range)
 
 pub any-says : (p : ℕ → Bool) (P : ℕ → Type 0) → ((x : ℕ) → IsTrue (p x) ↔ P x) → (from to : ℕ)
     → IsTrue (list_any p (range_with_len from (to - from))) ↔ ((x : ℕ) × P x × (from ≤ x) × (x < to))
-any-says p P says from to =
-    let any = any-range p from (to - from) in (
-      λ h.
-          let s = any.0 h in
-          let l = s.2 in
-          let r = s.3 in (s.0, (says s.0).0 s.1, l, omega (arith, l, r)),
-      λ s.
-          let l = s.2 in
-          let r = s.3 in any.1 (s.0, (says s.0).1 s.1, l, omega (arith, l, r)),
-    )
+any-says p P says from to = grind (arith, any-range)
 
 pub all_held-says : (notes : List NoteParts) (from to : ℕ)
     → IsTrue (are_all_held notes from to) ↔ ((x : ℕ) → from ≤ x → x < to → IsHeld notes x)
@@ -88,17 +47,7 @@ any_disputed-says notes from to =
 
 is_known-says : (known : KnownParts) (x : ℕ) → IsTrue (is_known known x) ↔ IsKnown known x
 is_known-says known x =
-    let held = is_held-says known.notes x in
-    let hand = has_offset-says known.at.hand x in (
-      λ h. elim (either-says (is_held known.notes x) (has_offset known.at.hand x) h) [
-        | inl a ↦ inl (held.0 a)
-        | inr b ↦ inr (hand.0 b)
-      ],
-      λ k. either (is_held known.notes x) (has_offset known.at.hand x) (elim k [
-        | inl a ↦ inl (held.1 a)
-        | inr b ↦ inr (hand.1 b)
-      ]),
-    )
+    grind (arith, is_held-says, has_offset-says, either-says, is_held, has_offset, either)
 
 pub all_known-says : (known : KnownParts) (from to : ℕ)
     → IsTrue (are_all_known known from to) ↔ ((x : ℕ) → from ≤ x → x < to → IsKnown known x)
@@ -132,32 +81,17 @@ module _ (P : ℕ → Type 0) (from to : ℕ) where
 
   pub all-past : (t : Bool) (end : ℕ) → IsTrue t ↔ All → ((x : ℕ) → P x → x < end) → from < to → end < to
       → t ≡ false
-  all-past t end says below some past = false_from_ne_true t (λ e.
-      let l = below (to - 1) (says.0 e (to - 1) (omega (arith, some)) (omega (arith, some))) in
-      omega (arith, l, past, some))
+  all-past t end says below some past = grind (arith, false_from_ne_true)
 
   pub any-past : (t : Bool) (end : ℕ) → IsTrue t ↔ Any to → ((x : ℕ) → P x → x < end) → end ≤ from → t ≡ false
-  any-past t end says below far = false_from_ne_true t (λ e.
-      let s = says.0 e in
-      let a = below s.0 s.1 in
-      let b = s.2 in omega (arith, a, b, far))
+  any-past t end says below far = grind (arith, false_from_ne_true)
 
   pub any-within : (b t : Bool) (least end : ℕ) → IsTrue t ↔ Any to → ((x : ℕ) → P x → x < end) → least ≡ min to end
       → IsTrue b ↔ Any least → b ≡ t
-  any-within b t least end says below e near =
-      same_bool b t (λ h.
-      let s = near.0 h in
-      let a = s.3 in says.1 (s.0, s.1, s.2, omega (arith, a, e))) (λ h.
-      let s = says.0 h in
-      let a = s.3 in
-      let c = below s.0 s.1 in near.1 (s.0, s.1, s.2, omega (arith, a, c, e)))
+  any-within b t least end says below e near = grind (arith, same_bool)
 
 pub lt-leb : (a b : ℕ) → b < a → nat_le a b ≡ false
-lt-leb a b l =
-    elim (nat_le a b) as (λ t. nat_le a b ≡ t → nat_le a b ≡ false) [
-      | true ↦ λ e. let m = leb-true a b e in absurd (omega (arith, l, m))
-      | false ↦ λ e. e
-    ] refl
+lt-leb a b l = grind (arith, nat_le, leb-true)
 
 -- ---- places of a range of units
 
@@ -168,14 +102,10 @@ pub placed-step : {K : Type 0} (f : ℕ → Option K) (xs whole : List K) (a b :
     → xs ++ filter_map f (range_with_len a (b - a)) ≡ whole
     → (xs ++ p ∷ []) ++ filter_map f (range_with_len (a + 1) (b - (a + 1))) ≡ whole
 placed-step f xs whole a b p l e h =
-    let rest = filter_map f (range_with_len (a + 1) (b - (a + 1))) in
-    append_assoc xs (p ∷ []) rest
-    ∙ ap (λ o. xs ++ cons_option o rest) e
-    ∙ ap (λ ys. xs ++ filter_map f ys) (sym (range-first a b l)) ∙ h
+    grind (arith, filter_map, range_with_len, append_assoc, cons_option, range-first)
 
 pub skipped-step : {K : Type 0} (f : ℕ → Option K) (xs whole : List K) (a b : ℕ) → a < b → None ≡ f a
     → xs ++ filter_map f (range_with_len a (b - a)) ≡ whole
     → xs ++ filter_map f (range_with_len (a + 1) (b - (a + 1))) ≡ whole
 skipped-step f xs whole a b l e h =
-    let rest = filter_map f (range_with_len (a + 1) (b - (a + 1))) in
-    ap (λ o. xs ++ cons_option o rest) e ∙ ap (λ ys. xs ++ filter_map f ys) (sym (range-first a b l)) ∙ h
+    grind (arith, filter_map, range_with_len, cons_option, range-first)

@@ -227,29 +227,7 @@ module _ (notes : List NoteParts) (body_sid offset : ℕ) where
               apart,
               inl (ap is_some zone ∙ known, ap is_some (zone_y ∙ e)),
             )
-        | None ↦ λ e. elim x.zone as (λ (o : Option EssenceZone). x.zone ≡ o
-            → IsZone notes body_sid offset (ok_or o standings.Several)) [
-              | Some u ↦ λ f. (
-                s.0,
-                last,
-                zone ∙ f,
-                λ q k ne. elim (a.here q k.begins) [
-                  | inl g ↦ absurd (ne (one q s.0 k.begins s.1 (g ∙ s.2)))
-                  | inr g ↦ later e q k g
-                ],
-              )
-              | None ↦ λ f. (
-                s.0,
-                t.0,
-                last,
-                last_y,
-                apart,
-                inr (λ q k. elim (a.here q k.begins) [
-                  | inl g ↦ zone-is x q (sym g) ∙ f
-                  | inr g ↦ later e q k g
-                ]),
-              )
-            ] refl
+        | None ↦ grind (arith, ok_or, last, zone, one, last_y, apart, zone-is)
       ] refl
 
   zones : (xs : List StreamPart) → AreLeft xs → IsZone notes body_sid offset (chosen xs)

@@ -55,15 +55,10 @@ module _ {K R : Type 0} (none : R) (one : K → R) (two : R) where
 -- ---- places
 
 pub same_place : (q p : StreamPlace) → is_same_place q p ≡ true → q ≡ p
-same_place q p e =
-    let s = and_parts (q.body_sid == p.body_sid) (q.offset == p.offset) e in
-    let body = eqb-true q.body_sid p.body_sid s.0 in
-    let offset = eqb-true q.offset p.offset s.1 in λ i. record { body_sid = body i; offset = offset i }
+same_place q p e = grind (arith, and_parts, eqb-true)
 
 pub itself_place : (q p : StreamPlace) → q ≡ p → is_same_place q p ≡ true
-itself_place q p e =
-    and_from (q.body_sid == p.body_sid) (q.offset == p.offset) (eq-eqb _ _ (ap (λ (x : StreamPlace). x.body_sid) e))
-    (eq-eqb _ _ (ap (λ (x : StreamPlace). x.offset) e))
+itself_place q p e = grind (arith, and_from, eq-eqb)
 
 abbrev pub PlacesWalked : List StreamPlace → Result StreamPlace UnitStanding → Type 0
 PlacesWalked =
@@ -85,33 +80,15 @@ walk_places [] = inl (λ x h. h, refl)
 walk_places (p ∷ places) = walk_on p places
 
 pub same-only_place : (xs ys : List StreamPlace) → SameMembers xs ys → only_place None xs ≡ only_place None ys
-same-only_place xs ys same =
-    one_answer (Err standings.NotIndexed) (λ p. Ok p) (Err standings.Ambiguous) ys (only_place None xs)
-    (only_place None ys)
-    (other_members (Err standings.NotIndexed) (λ p. Ok p) (Err standings.Ambiguous) xs ys (only_place None xs) same
-    (walk_places xs))
-    (walk_places ys)
+same-only_place xs ys same = grind (arith, one_answer, only_place, other_members, walk_places)
 
 -- ---- entries
 
 same_entry : (d e : IndexEntry) → is_same_entry d e ≡ true → d ≡ e
-same_entry d e h =
-    let s = and_parts (int_eq d.temporal_offset e.temporal_offset && int_eq d.key_frame_offset e.key_frame_offset)
-    (d.flags == e.flags) h in
-    let t = and_parts (int_eq d.temporal_offset e.temporal_offset) (int_eq d.key_frame_offset e.key_frame_offset) s.0 in
-    let temporal = (signed_Decides d.temporal_offset e.temporal_offset).0 t.0 in
-    let key = (signed_Decides d.key_frame_offset e.key_frame_offset).0 t.1 in
-    let flags = eqb-true d.flags e.flags s.1 in
-    λ i. record { temporal_offset = temporal i; key_frame_offset = key i; flags = flags i }
+same_entry d e h = grind (arith, and_parts, int_eq, signed_Decides, eqb-true)
 
 itself_entry : (d e : IndexEntry) → d ≡ e → is_same_entry d e ≡ true
-itself_entry d e h =
-    and_from (int_eq d.temporal_offset e.temporal_offset && int_eq d.key_frame_offset e.key_frame_offset)
-    (d.flags == e.flags)
-    (and_from (int_eq d.temporal_offset e.temporal_offset) (int_eq d.key_frame_offset e.key_frame_offset)
-    ((signed_Decides d.temporal_offset e.temporal_offset).1 (ap (λ (x : IndexEntry). x.temporal_offset) h))
-    ((signed_Decides d.key_frame_offset e.key_frame_offset).1 (ap (λ (x : IndexEntry). x.key_frame_offset) h)))
-    (eq-eqb _ _ (ap (λ (x : IndexEntry). x.flags) h))
+itself_entry d e h = grind (arith, and_from, int_eq, signed_Decides, eq-eqb)
 
 abbrev pub EntriesWalked : List IndexEntry → Option IndexEntry → Type 0
 EntriesWalked = Walked {K = IndexEntry} {R = Option IndexEntry} None (λ e. Some e) None
@@ -131,9 +108,7 @@ walk_entries [] = inl (λ x h. h, refl)
 walk_entries (e ∷ entries) = entries_on e entries
 
 pub same-only_entry : (xs ys : List IndexEntry) → SameMembers xs ys → only_entry None xs ≡ only_entry None ys
-same-only_entry xs ys same =
-    one_answer None (λ x. Some x) None ys (only_entry None xs) (only_entry None ys)
-    (other_members None (λ x. Some x) None xs ys (only_entry None xs) same (walk_entries xs)) (walk_entries ys)
+same-only_entry xs ys same = grind (arith, one_answer, only_entry, other_members, walk_entries)
 
 -- ---- segments that don't have a unit
 
@@ -146,40 +121,24 @@ module _ (unit : ℕ) (fits : unit < 2 ^ 64) (s : SegmentAtParts)
   duration = unsigned_abs s.segment.numbers.duration
 
   no_entry : is_constant s.segment.numbers ≡ false → covers_entry s.segment unit ≡ false
-  no_entry e = false_from_ne_true (covers_entry s.segment unit) (λ t.
-      let p = and_parts (nat_le start unit && nat_lt unit (start + duration))
-      (nat_lt (unit - start) (entry_count s.segment)) t in
-      let q = and_parts (nat_le start unit) (nat_lt unit (start + duration)) p.0 in
-      let from : start ≤ unit = leb-true start unit q.0 in
-      let below : unit < start + duration = ltb-true unit (start + duration) q.1 in
-      let listed : unit - start < entry_count s.segment = ltb-true (unit - start) (entry_count s.segment) p.1 in
-      elim outside [
-        | inr before ↦ omega (arith, before, from)
-        | inl ended ↦
-            let is : units_end s ≡ start + min duration (entry_count s.segment) =
-            ap (λ b. if b then (if duration == 0 then 2 ^ 64 else start + duration)
-            else start + min duration (entry_count s.segment)) e in
-            omega (arith, ended, is, below, listed, from)
-      ])
+  no_entry e =
+      grind (
+        arith,
+        false_from_ne_true,
+        covers_entry,
+        and_parts,
+        nat_le,
+        nat_lt,
+        entry_count,
+        leb-true,
+        ltb-true,
+        units_end,
+        min,
+      )
 
   no_constant : is_constant s.segment.numbers ≡ true → covers_constant s.segment unit ≡ false
-  no_constant e = not_both (nat_le start unit) ((duration == 0) || nat_lt unit (start + duration)) (λ p q.
-      let from : start ≤ unit = leb-true start unit p in
-      elim outside [
-        | inr before ↦ omega (arith, before, from)
-        | inl ended ↦
-            elim (duration == 0) as (λ b. (if is_constant s.segment.numbers then (if b then 2 ^ 64 else start + duration)
-            else start + min duration (entry_count s.segment)) < unit
-            → (b || nat_lt unit (start + duration)) ≡ true → ⊥) [
-              | true ↦ λ l t.
-                  let is = ap (λ b. if b then 2 ^ 64 else start + min duration (entry_count s.segment)) e in
-                  omega (arith, l, is, fits)
-              | false ↦ λ l t.
-                  let is = ap (λ b. if b then start + duration else start + min duration (entry_count s.segment)) e in
-                  let below : unit < start + duration = ltb-true unit (start + duration) t in
-                  omega (arith, l, is, below)
-            ] ended q
-      ])
+  no_constant e =
+      grind (arith, not_both, nat_le, nat_lt, leb-true, is_constant, min, entry_count, ltb-true)
 
   pub outside-place : place_in unit s ≡ None
   outside-place =
@@ -191,12 +150,7 @@ module _ (unit : ℕ) (fits : unit < 2 ^ 64) (s : SegmentAtParts)
       ] refl
 
   pub outside-entry : index_entry s.segment unit ≡ None
-  outside-entry =
-      elim (is_constant s.segment.numbers) as (λ b. is_constant s.segment.numbers ≡ b → (if b then None
-      else (if covers_entry s.segment unit then Some (entry_at s.segment (unit - start)) else None)) ≡ None) [
-        | true ↦ λ e. refl
-        | false ↦ λ e. ap (λ b. if b then Some (entry_at s.segment (unit - start)) else None) (no_entry e)
-      ] refl
+  outside-entry = grind (arith, is_constant, covers_entry, entry_at, no_entry)
 
 -- ---- the place, by those that are given
 
@@ -212,12 +166,7 @@ any_given p unit (s ∷ segments) =
     ]
 
 same_any : {K : Type 0} (test : K → Bool) (xs ys : List K) → SameMembers xs ys → list_any test xs ≡ list_any test ys
-same_any {K} test xs ys same =
-    let x = list_any-In test xs in
-    let y = list_any-In test ys in
-    same_bool (list_any test xs) (list_any test ys)
-    (λ h. let s = x.0 h in y.1 (s.0, (same s.0).0 s.1, s.2))
-    (λ h. let s = y.0 h in x.1 (s.0, (same s.0).1 s.1, s.2))
+same_any {K} test xs ys same = grind (arith, list_any-In, same_bool, list_any)
 
 -- So segments in another order, and those of them alone that may have it, place a unit as all do.
 module _ (unit : ℕ) (fits : unit < 2 ^ 64) (segments all near above : List SegmentAtParts)

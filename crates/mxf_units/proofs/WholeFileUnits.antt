@@ -22,9 +22,7 @@ extent_is : (notes : List NoteParts) (index_sid unit body_sid offset : ℕ) (zon
     → HasOffset zone offset e.start → IsExtentEnd notes index_sid unit body_sid offset zone e.end
     → extent_in zone offset (end_place (segments_for notes index_sid) zone unit body_sid offset) ≡ e
 extent_is notes index_sid unit body_sid offset zone e start is =
-    let begins = offset_is zone offset e.start start in
-    let ends = (extent_end-is notes index_sid unit body_sid offset zone e.end start.0).1 is in
-    λ i. record { start = begins i; end = ends i }
+    grind (arith, offset_is, extent_end-is)
 
 -- ---- all of it is held
 

@@ -4,11 +4,7 @@ use Rattle.mxf_units.proofs.BesideLaws.{beside-says}
 use Rattle.mxf_units.proofs.beside.is_beside_essence.Goals as goal
 
 pub returns-then-offset-from : goal.returns-then-offset-from
-returns-then-offset-from c = λ notes are.
-    let x = c.args.offset in
-    same_bool c.has.result (is_beside_essence notes x)
-    (λ h. (beside-says notes x).1 ((are x).0 (c.has.ensures.0 h)))
-    (λ h. c.has.ensures.1 ((are x).1 ((beside-says notes x).0 h)))
+returns-then-offset-from c = grind (arith, same_bool, is_beside_essence, beside-says)
 
 pub returns-else-offset-from : goal.returns-else-offset-from
 returns-else-offset-from c = λ notes are.

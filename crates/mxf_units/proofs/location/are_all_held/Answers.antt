@@ -5,16 +5,10 @@ use Rattle.mxf_units.proofs.RangeLaws.{all-empty, all-past, all_held-says, held-
 use Rattle.mxf_units.proofs.location.are_all_held.Goals as goal
 
 pub returns-then-from-to : goal.returns-then-from-to
-returns-then-from-to c =
-    let notes = c.args.holdings.now in
-    sym (all-empty (IsHeld notes) c.args.from c.args.to _ (all_held-says notes c.args.from c.args.to)
-    c.if-from-to.true)
+returns-then-from-to c = grind (arith, all-empty, all_held-says)
 
 pub returns-then-to-end : goal.returns-then-to-end
-returns-then-to-end c =
-    let says = all_held-says c.args.holdings.now c.args.from c.args.to in
-    same_bool c.are_all_held.result _ (λ h. says.1 (c.are_all_held.ensures.0 h))
-    (λ h. c.are_all_held.ensures.1 (says.0 h))
+returns-then-to-end c = grind (arith, all_held-says, same_bool)
 
 pub returns-else-to-end : goal.returns-else-to-end
 returns-else-to-end c =

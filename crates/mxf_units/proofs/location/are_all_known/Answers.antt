@@ -4,9 +4,7 @@ use Rattle.mxf_units.proofs.RangeLaws.{all-empty, all-past, all_known-says, lt-l
 use Rattle.mxf_units.proofs.location.are_all_known.Goals as goal
 
 pub returns-then-from-to : goal.returns-then-from-to
-returns-then-from-to c = λ known are.
-    sym (all-empty (IsKnown known) c.args.from c.args.to _ (all_known-says known c.args.from c.args.to)
-    c.if-from-to.true)
+returns-then-from-to c = grind (arith, all-empty, all_known-says)
 
 pub returns-then-to-from : goal.returns-then-to-from
 returns-then-to-from c = λ known are.

@@ -26,8 +26,6 @@ loop-unit-preserved c =
     let bound = c.needed-from.ensures.bound in
     let before = inv.bound in
     record {
-      needed = ap (λ k. needed_from k c.next.new.self) c.needed-from.ensures.from
-          ∙ sym (step c.loop-unit.from c.in-Some.unit c.next.new.self)
-          ∙ sym (ap (needed_from c.loop-unit.from) c.in-Some.ensures.steps) ∙ inv.needed;
+      needed = grind (arith, needed_from, step);
       bound = omega (arith, bound, before);
     }

@@ -30,15 +30,14 @@ first_behind-requires-clause-behind c =
 
 pub returns-clause-next : goal.returns-clause-next
 returns-clause-next c =
-    let body = c.args.place.body_sid in
-    let offset = c.args.place.offset in
-    let least = λ (xs : List StreamPlace). least_above offset (offsets_in body xs) in
-    let around = subst (λ n. IsAround first_number end_number n c.self.inside.constant c.around.result.0.now
-    c.around.result.1.now) c.number_of.ensures c.around.ensures in
-    c.lesser.ensures
-    ∙ (λ i. lesser (c.lesser_above-next.ensures.next i) (c.first_behind.ensures.next i))
-    ∙ lesser_assoc c.first_above-listed.result _ _
-    ∙ (λ i. lesser ((c.first_above-listed.ensures ∙ ap least c.deref.ensures.value) i)
-    (around-least body offset c.requires c.self.inside.constant c.around.result.0.now c.around.result.1.now
-    c.self.invariant.2 around i))
-    ∙ ap (λ (p : NextPlacesParts). next_by p body offset) c.self.view_is
+    grind (
+      arith,
+      least_above,
+      offsets_in,
+      first_number,
+      end_number,
+      lesser,
+      lesser_assoc,
+      around-least,
+      next_by,
+    )
