@@ -1,36 +1,31 @@
 //! Telling what of the sources doesn't go together.
-use crate::offsets::{is_contradicted, tell_offsets, views_of};
+use crate::offsets::{is_contradicted, tell_offsets};
 use crate::telling::tell_on_screen;
 use mxf_catalogue::Catalogue;
-use mxf_findings::{Target, resolved};
-use mxf_forms::hex_text;
 use mxf_klv::Stop;
 use mxf_read::PieceReport;
 use mxf_saving::Source;
-use mxf_sets::{PackPart, Package};
+use mxf_sets::PackPart;
 use mxf_views::{RipView, Views};
 use std::alloc::{AllocError, Global};
 use std::fmt;
 use std::rt::Files;
 
 /// Tells what of the sources doesn't go together: those that begin elsewhere by their partition packs, a second header
-/// partition, those that begin elsewhere by the packet before them or by the end of the recording, or those that are of
-/// another recording. Or else it tells that packets are disputed.
+/// partition, those that begin elsewhere by the packet before them or by the end of the recording. Whether it is left to
+/// tell that packets of several sources are disputed.
 pub fn tell_apart<R: Files + Eprint + AllocGlobal>(
     rt: &R,
     sources: &[Source<'_>],
     reports: &[PieceReport],
     views: &Views,
-) -> Result<(), AllocError> {
+) -> Result<bool, AllocError> {
     let is_told = is_contradicted(views) && tell_offsets(rt, sources)?;
     if is_told || tell_headers(rt, views)? {
-        return Ok(());
+        return Ok(false);
     }
     tell_places(rt, sources, reports, views)?;
-    if sources.len() > 1 && views.catalogue().disputed().next().is_some() {
-        return tell_disputes(rt, sources);
-    }
-    Ok(())
+    Ok(sources.len() > 1 && views.catalogue().disputed().next().is_some())
 }
 
 /// Tells that packets are disputed, if they are, and what tells readings apart that one source has.
@@ -183,73 +178,4 @@ fn range_beside<'a>(
         return None;
     }
     Some(Misplaced::Beside { source, end, first })
-}
-
-/// A source, and the identifier of the first package that it describes, in hexadecimal digits.
-#[derive(Drop)]
-struct Described<'a> {
-    source: Source<'a>,
-    package: String,
-}
-
-/// Tells that packets are disputed: since sources are of two recordings, if the packages that they describe say so.
-fn tell_disputes<R: Files + Eprint + AllocGlobal>(
-    rt: &R,
-    sources: &[Source<'_>],
-) -> Result<(), AllocError> {
-    let described = describing(rt, sources)?;
-    if let Some((first, others)) = described.split_first() {
-        for other in others {
-            if other.package.as_str() != first.package.as_str() {
-                return tell_two(rt, first, other);
-            }
-        }
-    }
-    tell_on_screen(
-        rt,
-        &"hint: packets are in dispute: sources says which source has which reading",
-    )
-}
-
-/// Tells that two sources describe other packages.
-fn tell_two<R: Eprint + AllocGlobal>(
-    rt: &R,
-    one: &Described<'_>,
-    other: &Described<'_>,
-) -> Result<(), AllocError> {
-    let (a, b) = (one.source, other.source);
-    let (of_a, of_b) = (one.package.as_str(), other.package.as_str());
-    let line = format!(in rt.alloc();
-        "hint: these are two recordings: {a} describes the package {of_a}, and {b} the package {of_b}"
-    )?;
-    tell_on_screen(rt, &line.as_str())
-}
-
-/// The sources that describe a package, in their order.
-fn describing<'a, R: Files + AllocGlobal>(
-    rt: &R,
-    sources: &[Source<'a>],
-) -> Result<Vec<Described<'a>>, AllocError> {
-    let mut described = Vec::new(rt.alloc());
-    for source in sources {
-        if let Some(package) = package_of(rt, source) {
-            let source = *source;
-            described.push(Described { source, package })?;
-        }
-    }
-    Ok(described)
-}
-
-/// The identifier of the first package that a source describes, in its front or in its catalogue; none without memory.
-fn package_of<R: Files + AllocGlobal>(rt: &R, source: &Source<'_>) -> Option<String> {
-    let views = views_of(rt, source)?;
-    let resolved = resolved(rt.alloc(), &views).ok()??;
-    let packages = resolved.packages.as_slice().iter();
-    let mut offsets = packages.filter_map(|package| match package.target {
-        Target::Found(offset) => Some(offset),
-        _ => None,
-    });
-    let note = views.catalogue().clear_at(offsets.next()?)?;
-    let uid = Package::read(note.value()?).ok()?.package_uid();
-    hex_text(rt.alloc(), &uid).ok()
 }

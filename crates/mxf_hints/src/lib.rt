@@ -38,7 +38,7 @@ pub use contents::{Contents, gather_each, gather_one};
 pub use exit::Exit;
 pub use fault::{IndexSids, RunFault};
 pub use index::{only_index, tell_index};
-pub use offsets::{is_contradicted, tell_offsets};
+pub use offsets::{is_contradicted, tell_offsets, views_of};
 pub use part::part_of;
 pub use refusal::RefusalHint;
 pub use shift::{Shift, shift_of};

@@ -1,5 +1,6 @@
 //! The run of the program: its arguments, its files, its lines, and its exit status.
 mod beside;
+mod disputing;
 mod finding;
 mod renewing;
 mod verifying;
@@ -8,13 +9,14 @@ use crate::answered::exit_of_answer;
 use beside::print_beside;
 use clap::ArgMatches;
 use clap::error::ErrorKind;
+use disputing::tell_together;
 use finding::print_found_in;
 use mxf_asked::{Ask, AskedUnits, BadLastUnit, Grid, Hints, Request, Saving, Task, Told};
 use mxf_commands::{command, hints_of, request_of, signed_number, units_of, unreadable_argument};
 use mxf_forms::Form;
 use mxf_hints::{
-    Exit, RefusalHint, RunFault, Telling, only_index, range_of, tell, tell_apart, tell_index,
-    tell_on_screen, tell_stops, tell_unsettled,
+    Exit, RefusalHint, RunFault, Telling, only_index, range_of, tell, tell_index, tell_on_screen,
+    tell_stops, tell_unsettled,
 };
 use mxf_lines::{
     AnswerFault, Searched, Verified, answer, print_found, print_map, print_renewed, print_sources,
@@ -307,7 +309,7 @@ fn told_held<'a, R: System>(
     let Gathered { views, reports } = &held.gathered;
     let reports = reports.as_slice();
     let has_hints = inputs.telling.has_hints;
-    if has_hints && tell_apart(rt, inputs.sources, reports, views).is_err() {
+    if has_hints && tell_together(rt, inputs.sources, reports, views).is_err() {
         return Err(RunFault::OutOfMemory);
     }
     told(rt, has_hints, inputs.sources, reports, with_stops, exit)
