@@ -1,7 +1,7 @@
 -- Contents as sets of notes.
-use Rattle.mxf_klv.proofs.Common.{subst, sym, inl, inr, NoteParts, IsNote, note_total}
-use Rattle.mxf_klv.proofs.Common.{note_cmp-IsAntisymmetric, In, SameMembers, same_from_members}
-use Rattle.mxf_klv.proofs.Common.{In-with_one, In-union, IsRising-with_one, IsRising-union}
+use Rattle.mxf_klv.proofs.Common.{subst, sym, inl, inr, NoteParts, IsNote, note_total, note_cmp-IsAntisymmetric, In}
+use Rattle.mxf_klv.proofs.Common.{SameMembers, same_from_members, In-with_one, In-union, IsRising-with_one}
+use Rattle.mxf_klv.proofs.Common.{IsRising-union}
 use Rattle.std.specs.Prelude.{◌≡◌, ◌↔◌, ◌⊎◌, List}
 use Rattle.mxf_catalogue.specs.Content.{IsContent, IsCatalogue, with_note, union_of}
 use Rattle.mxf_klv.proofs.Lists.{all_from_In, all-In}

@@ -1,16 +1,14 @@
 -- Runs that touch a run, and offsets in runs, by their places in a cover.
-use Rattle.mxf_klv.proofs.Common.{max, slice_set, AllByRecursion, AllWithin, IsNonDecreasingBy}
-use Rattle.mxf_klv.proofs.Common.{Decides, ◌==◌, ◌&&◌, eqb-true, eq-eqb, ap, subst, inl, inr, arith}
-use Rattle.mxf_klv.proofs.Common.{get_or, ltb-true, ltb-false, slice_get, get_or_from_slice_get}
-use Rattle.mxf_klv.proofs.Common.{slice_get_within, In}
-use Rattle.std.specs.Prelude.{◌≡◌, ℕ, suc, zero, ◌+◌, ◌<◌, ◌≤◌, nat_lt, true, false, ◌↔◌, ◌⊎◌, List}
-use Rattle.std.specs.Prelude.{[], ◌∷◌, ◌++◌, length, take, drop, refl, ◌-◌, None, Some}
+use Rattle.mxf_klv.proofs.Common.{max, slice_set, AllByRecursion, AllWithin, IsNonDecreasingBy, Decides, ◌==◌, ◌&&◌}
+use Rattle.mxf_klv.proofs.Common.{eqb-true, eq-eqb, ap, subst, inl, inr, arith, get_or, ltb-true, ltb-false, slice_get}
+use Rattle.mxf_klv.proofs.Common.{get_or_from_slice_get, slice_get_within, In}
+use Rattle.std.specs.Prelude.{◌≡◌, ℕ, suc, zero, ◌+◌, ◌<◌, ◌≤◌, nat_lt, true, false, ◌↔◌, ◌⊎◌, List, [], ◌∷◌, ◌++◌}
+use Rattle.std.specs.Prelude.{length, take, drop, refl, ◌-◌, None, Some}
 use Rattle.std.proofs.lemmas.Option.{slice_get-get_or}
 use Rattle.mxf_catalogue.specs.declared.run.Run.{Run}
 use Rattle.mxf_catalogue.specs.Runs.{AreMaximal, IsWithin, LiesIn, SameOffsets, run}
-use Rattle.mxf_catalogue.specs.Covers.{IsCover, IsRun, both, spanned, with_run, union_of_runs}
-use Rattle.mxf_catalogue.specs.Covers.{gaps_from, gaps_of_runs, IsBetween, AreGapsOf, LiesIn-first}
-use Rattle.mxf_catalogue.specs.Covers.{with_run_cases}
+use Rattle.mxf_catalogue.specs.Covers.{IsCover, IsRun, both, spanned, with_run, union_of_runs, gaps_from, gaps_of_runs}
+use Rattle.mxf_catalogue.specs.Covers.{IsBetween, AreGapsOf, LiesIn-first, with_run_cases}
 use Rattle.mxf_catalogue.proofs.RunLaws.{same_runs, AreMaximal-lower, at_or_above}
 use Rattle.mxf_klv.proofs.Lists.{Contains-from_In, In-at}
 

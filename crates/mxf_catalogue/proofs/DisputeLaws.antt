@@ -1,15 +1,12 @@
 -- The tests of disputes say what the relations say.
-use Rattle.mxf_klv.proofs.Common.{find, max, sym, ◌∙◌, ap, subst, inl, inr, arith, eqb-true, eq-eqb}
-use Rattle.mxf_klv.proofs.Common.{and_from, and_parts, or_cases, or_left, or_right, ltb-true}
-use Rattle.mxf_klv.proofs.Common.{lt-ltb, NoteParts, end_of, In}
-use Rattle.std.specs.Prelude.{◌≡◌, ◌≢◌, ◌↔◌, ◌⊎◌, ◌+◌, ◌<◌, ◌≤◌, ℕ, Bool, true, false, not, nat_lt}
-use Rattle.std.specs.Prelude.{◌==◌, List, [], ◌∷◌, filter, map, Some, None, IsTrue, refl}
+use Rattle.mxf_klv.proofs.Common.{find, max, sym, ◌∙◌, ap, subst, inl, inr, arith, eqb-true, eq-eqb, and_from}
+use Rattle.mxf_klv.proofs.Common.{and_parts, or_cases, or_left, or_right, ltb-true, lt-ltb, NoteParts, end_of, In}
+use Rattle.std.specs.Prelude.{◌≡◌, ◌≢◌, ◌↔◌, ◌⊎◌, ◌+◌, ◌<◌, ◌≤◌, ℕ, Bool, true, false, not, nat_lt, ◌==◌, List, [], ◌∷◌}
+use Rattle.std.specs.Prelude.{filter, map, Some, None, IsTrue, refl}
 use Rattle.mxf_catalogue.specs.Content.{IsContent}
-use Rattle.mxf_catalogue.specs.Disputes.{SharesByte, SharesOffset, Overlaps, IsDisputed, IsClear}
-use Rattle.mxf_catalogue.specs.Disputes.{DisputedParts, IsDisputedOf, disputed_parts, clear_notes}
-use Rattle.mxf_catalogue.specs.Disputes.{disputed_notes, undisputed_notes, is_same_note}
-use Rattle.mxf_catalogue.specs.Disputes.{is_byte_shared, is_offset_shared, is_overlapped}
-use Rattle.mxf_catalogue.specs.Disputes.{is_disputed}
+use Rattle.mxf_catalogue.specs.Disputes.{SharesByte, SharesOffset, Overlaps, IsDisputed, IsClear, DisputedParts}
+use Rattle.mxf_catalogue.specs.Disputes.{IsDisputedOf, disputed_parts, clear_notes, disputed_notes, undisputed_notes}
+use Rattle.mxf_catalogue.specs.Disputes.{is_same_note, is_byte_shared, is_offset_shared, is_overlapped, is_disputed}
 use Rattle.mxf_klv.proofs.HeadOrder.{same_note-Decides}
 use Rattle.mxf_klv.proofs.Lists.{list_any-In, In-filter, all-filter, In-map, find-none, find-only}
 use Rattle.mxf_klv.proofs.Tests.{not_true, not-true-false, same_bool}

@@ -1,20 +1,17 @@
 -- The bytes of a file by their parts.
-use Rattle.mxf_klv.proofs.Common.{◌≡◌, ℕ, zero, suc, ◌+◌, ◌^◌, ◌<◌, List, [], ◌∷◌, ◌++◌, length}
-use Rattle.mxf_klv.proofs.Common.{get_or, refl, sym, ap, ◌∙◌, arith, inl, inr, append_assoc}
-use Rattle.mxf_klv.proofs.Common.{length-append, append-nil, take_at, drop_at, flat_map-append, w64}
-use Rattle.mxf_klv.proofs.Common.{from_be_bytes, flat_map, IsTotalOrder, Ordering, Less, NoteParts}
-use Rattle.mxf_klv.proofs.Common.{IsNote, IsRising, less_in}
+use Rattle.mxf_klv.proofs.Common.{◌≡◌, ℕ, zero, suc, ◌+◌, ◌^◌, ◌<◌, List, [], ◌∷◌, ◌++◌, length, get_or, refl, sym, ap}
+use Rattle.mxf_klv.proofs.Common.{◌∙◌, arith, inl, inr, append_assoc, length-append, append-nil, take_at, drop_at}
+use Rattle.mxf_klv.proofs.Common.{flat_map-append, w64, from_be_bytes, flat_map, IsTotalOrder, Ordering, Less}
+use Rattle.mxf_klv.proofs.Common.{NoteParts, IsNote, IsRising, less_in}
 use Rattle.std.proofs.lemmas.Nat.{be_bytes_8, from_be_bytes-to_be_bytes_8}
 use Rattle.std.specs.Prelude.{Bool}
 use Rattle.mxf_catalogue.specs.declared.catalogue.file.fixed_part.FixedPart.{FixedPart}
 use Rattle.mxf_catalogue.specs.Content.{AreReduced, IsContent}
 use Rattle.mxf_catalogue.specs.declared.catalogue.file.start.Version.{Version}
-use Rattle.mxf_catalogue.specs.CatalogueFile.{number_bytes, IsFixedPart, fixed_bytes, CanBeNoted}
-use Rattle.mxf_catalogue.specs.CatalogueFile.{held_length, fixed_part_of, note_bytes, start_bytes}
-use Rattle.mxf_catalogue.specs.CatalogueFile.{IsFileOfVersion, BeginsWithNote, IsCutNote, IsBadNote}
-use Rattle.mxf_catalogue.specs.CatalogueFile.{IsFront, place_after, CanHave, IsMarkIn}
-use Rattle.mxf_catalogue.specs.CatalogueFile.{BeginsWithParts, CanBeMarked, length_ahead}
-use Rattle.mxf_catalogue.specs.CatalogueFile.{mark_bytes, mark_of}
+use Rattle.mxf_catalogue.specs.CatalogueFile.{number_bytes, IsFixedPart, fixed_bytes, CanBeNoted, held_length}
+use Rattle.mxf_catalogue.specs.CatalogueFile.{fixed_part_of, note_bytes, start_bytes, IsFileOfVersion, BeginsWithNote}
+use Rattle.mxf_catalogue.specs.CatalogueFile.{IsCutNote, IsBadNote, IsFront, place_after, CanHave, IsMarkIn}
+use Rattle.mxf_catalogue.specs.CatalogueFile.{BeginsWithParts, CanBeMarked, length_ahead, mark_bytes, mark_of}
 use Rattle.mxf_klv.proofs.Lists.{all_push, all_last, In-at}
 
 -- ---- parts of a text

@@ -1,36 +1,30 @@
 -- Bytes are the file of a content, or there is a cause in them why they are none.
-use Rattle.mxf_klv.proofs.Common.{◌≡◌, ◌≢◌, ℕ, zero, suc, ◌+◌, ◌-◌, ◌^◌, ◌<◌, ◌≤◌, Bool, List, []}
-use Rattle.mxf_klv.proofs.Common.{◌∷◌, ◌++◌, length, get_or, take, drop, Option, None, Some, refl}
-use Rattle.mxf_klv.proofs.Common.{sym, ap, subst, ◌∙◌, arith, inl, inr, ◌⊎◌, append_assoc}
-use Rattle.mxf_klv.proofs.Common.{length-append, cases_lt, length-drop, length-take}
-use Rattle.mxf_klv.proofs.Common.{bytes_eq-Decides, Decides, w64, from_be_bytes, AllByRecursion}
-use Rattle.mxf_klv.proofs.Common.{IsSomeAnd, IfSome, bytes_eq, Ordering, Less, AreBytes, IsLabel}
-use Rattle.mxf_klv.proofs.Common.{head_note, note_cmp, CanSpell, NoteParts, IsRising}
+use Rattle.mxf_klv.proofs.Common.{◌≡◌, ◌≢◌, ℕ, zero, suc, ◌+◌, ◌-◌, ◌^◌, ◌<◌, ◌≤◌, Bool, List, [], ◌∷◌, ◌++◌, length}
+use Rattle.mxf_klv.proofs.Common.{get_or, take, drop, Option, None, Some, refl, sym, ap, subst, ◌∙◌, arith, inl, inr}
+use Rattle.mxf_klv.proofs.Common.{◌⊎◌, append_assoc, length-append, cases_lt, length-drop, length-take}
+use Rattle.mxf_klv.proofs.Common.{bytes_eq-Decides, Decides, w64, from_be_bytes, AllByRecursion, IsSomeAnd, IfSome}
+use Rattle.mxf_klv.proofs.Common.{bytes_eq, Ordering, Less, AreBytes, IsLabel, head_note, note_cmp, CanSpell, NoteParts}
+use Rattle.mxf_klv.proofs.Common.{IsRising}
 use Rattle.std.proofs.Common.{take-append-drop}
 use Rattle.std.proofs.lemmas.Bool.Decides.{Decides-eqb}
 use Rattle.std.specs.List.{slice_get}
 use Rattle.std.specs.Prelude.{◌==◌}
 use Rattle.mxf_catalogue.specs.declared.catalogue.file.FileFault.{FileFault}
-use Rattle.mxf_catalogue.specs.declared.catalogue.file.FileFault.TheVariants.{BadMagic, BadVersion}
-use Rattle.mxf_catalogue.specs.declared.catalogue.file.FileFault.TheVariants.{Truncated, BadNote}
-use Rattle.mxf_catalogue.specs.declared.catalogue.file.FileFault.TheVariants.{NotReduced, NotSorted}
-use Rattle.mxf_catalogue.specs.declared.catalogue.file.FileFault.TheVariants.{Trailing, OutOfMemory}
+use Rattle.mxf_catalogue.specs.declared.catalogue.file.FileFault.TheVariants.{BadMagic, BadVersion, Truncated, BadNote}
+use Rattle.mxf_catalogue.specs.declared.catalogue.file.FileFault.TheVariants.{NotReduced, NotSorted, Trailing}
+use Rattle.mxf_catalogue.specs.declared.catalogue.file.FileFault.TheVariants.{OutOfMemory}
 use Rattle.mxf_catalogue.specs.declared.catalogue.file.fixed_part.FixedPart.{FixedPart}
 use Rattle.mxf_catalogue.specs.declared.catalogue.file.start.Version.{Version}
 use Rattle.mxf_catalogue.specs.declared.catalogue.file.start.Version.TheVariants.{One, Two}
-use Rattle.mxf_catalogue.specs.CatalogueFile.{magic, number_bytes, start_bytes, fixed_bytes}
-use Rattle.mxf_catalogue.specs.CatalogueFile.{held_length, CanBeMarked, CanBeNoted, CanHave}
-use Rattle.mxf_catalogue.specs.CatalogueFile.{IsFileOf, IsFront, IsRefused, IsCutNote, BeginsAsFile}
-use Rattle.mxf_catalogue.specs.CatalogueFile.{BeginsWithFixedPart, BeginsWithMark, BeginsWithNote}
-use Rattle.mxf_catalogue.specs.CatalogueFile.{BeginsWithParts, IsHeadLast, IsKnownVersion, IsMarkIn}
-use Rattle.mxf_catalogue.specs.CatalogueFile.{IsUnknownVersion, length_ahead, mark_bytes, mark_of}
-use Rattle.mxf_catalogue.specs.CatalogueFile.{place_after}
-use Rattle.mxf_catalogue.proofs.FileBytes.{front_begins, front_next, front_whole}
-use Rattle.mxf_catalogue.proofs.FileBytes.{length-fixed_bytes, length-parts}
+use Rattle.mxf_catalogue.specs.CatalogueFile.{magic, number_bytes, start_bytes, fixed_bytes, held_length, CanBeMarked}
+use Rattle.mxf_catalogue.specs.CatalogueFile.{CanBeNoted, CanHave, IsFileOf, IsFront, IsRefused, IsCutNote}
+use Rattle.mxf_catalogue.specs.CatalogueFile.{BeginsAsFile, BeginsWithFixedPart, BeginsWithMark, BeginsWithNote}
+use Rattle.mxf_catalogue.specs.CatalogueFile.{BeginsWithParts, IsHeadLast, IsKnownVersion, IsMarkIn, IsUnknownVersion}
+use Rattle.mxf_catalogue.specs.CatalogueFile.{length_ahead, mark_bytes, mark_of, place_after}
+use Rattle.mxf_catalogue.proofs.FileBytes.{front_begins, front_next, front_whole, length-fixed_bytes, length-parts}
 use Rattle.mxf_catalogue.proofs.FileLaws.{if_some}
 use Rattle.mxf_catalogue.proofs.HeadLaws.{AreReduced-push, same_note}
-use Rattle.mxf_catalogue.proofs.FileParts.{at_front_of_rest, fixed_part_split, number_split}
-use Rattle.mxf_catalogue.proofs.FileParts.{parts_begin, start_split}
+use Rattle.mxf_catalogue.proofs.FileParts.{at_front_of_rest, fixed_part_split, number_split, parts_begin, start_split}
 use Rattle.mxf_klv.proofs.RoundTrips.{AreBytes-drop, AreBytes-take}
 
 -- ---- what can be decided

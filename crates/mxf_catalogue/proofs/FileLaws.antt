@@ -1,7 +1,6 @@
 -- Bytes are the file of one content, or are refused for one fault.
-use Rattle.std.proofs.Common.{◌≡◌, ◌≢◌, ℕ, ◌<◌, ◌≤◌, List, [], ◌∷◌, ◌++◌, length, drop, Result, Ok, Err, Option}
-use Rattle.std.proofs.Common.{Some, refl, sym, ap, subst, ◌∙◌, arith, inl, inr, ◌⊎◌, append_assoc, length-append}
-use Rattle.std.proofs.Common.{append-nil}
+use Rattle.std.proofs.Common.{◌≡◌, ◌≢◌, ℕ, ◌<◌, ◌≤◌, List, [], ◌∷◌, ◌++◌, length, drop, Result, Ok, Err, Option, Some}
+use Rattle.std.proofs.Common.{refl, sym, ap, subst, ◌∙◌, arith, inl, inr, ◌⊎◌, append_assoc, length-append, append-nil}
 use Rattle.std.specs.List.{flat_map, AllByRecursion, slice_get}
 use Rattle.std.specs.Prelude.{IsSomeAnd, IfSome, IsTrue, ◌↔◌, ◌^◌}
 use Rattle.mxf_klv.specs.Parts.{NoteParts}
@@ -12,16 +11,14 @@ use Rattle.mxf_catalogue.specs.declared.catalogue.file.FileFault.TheVariants.{Ba
 use Rattle.mxf_catalogue.specs.declared.catalogue.file.FileFault.TheVariants.{NotSorted, NotReduced, Trailing}
 use Rattle.mxf_catalogue.specs.declared.catalogue.file.FileFault.TheVariants.{OutOfMemory}
 use Rattle.mxf_catalogue.specs.Content.{AreReduced, IsCatalogue, IsContent}
-use Rattle.mxf_catalogue.specs.CatalogueFile.{IsUnreducedNote}
+use Rattle.mxf_catalogue.specs.CatalogueFile.{IsUnreducedNote, number_bytes, note_bytes, start_bytes, version_byte}
+use Rattle.mxf_catalogue.specs.CatalogueFile.{IsFileOf, BeginsWithNote, CanHave, IsKnownVersion, IsUnknownVersion}
+use Rattle.mxf_catalogue.specs.CatalogueFile.{IsCutNote, IsBadNote, IsUnsortedNote, IsFront, place_after, BeginsAsFile}
+use Rattle.mxf_catalogue.specs.CatalogueFile.{IsFileOfVersion, IsHeadLast, IsRefused, ReadsFile, StopsAt, file_bytes}
 use Rattle.mxf_catalogue.proofs.HeadLaws.{AreReduced-part, not-AreReduced-push}
 use Rattle.mxf_catalogue.proofs.Fronts.{rising_front}
 use Rattle.mxf_catalogue.specs.declared.catalogue.file.start.Version.{Version}
 use Rattle.mxf_catalogue.specs.declared.catalogue.file.start.Version.TheVariants.{One, Two}
-use Rattle.mxf_catalogue.specs.CatalogueFile.{number_bytes, note_bytes, start_bytes, version_byte, IsFileOf}
-use Rattle.mxf_catalogue.specs.CatalogueFile.{BeginsWithNote}
-use Rattle.mxf_catalogue.specs.CatalogueFile.{CanHave, IsKnownVersion, IsUnknownVersion}
-use Rattle.mxf_catalogue.specs.CatalogueFile.{IsCutNote, IsBadNote, IsUnsortedNote, IsFront, place_after, BeginsAsFile}
-use Rattle.mxf_catalogue.specs.CatalogueFile.{IsFileOfVersion, IsHeadLast, IsRefused, ReadsFile, StopsAt, file_bytes}
 use Rattle.mxf_catalogue.proofs.FileBytes.{same_number, same_note, same_beginning, note_uncut, note_good, cut_good}
 use Rattle.mxf_catalogue.proofs.FileBytes.{length-start_bytes}
 use Rattle.mxf_klv.proofs.Lists.{In-append, all-In, all_last}

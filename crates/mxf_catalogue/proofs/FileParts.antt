@@ -1,13 +1,11 @@
 -- What the readers and writers of a file's parts come to.
-use Rattle.mxf_klv.proofs.Common.{◌≡◌, ℕ, zero, suc, ◌+◌, ◌-◌, ◌^◌, ◌<◌, ◌≤◌, Bool, true, false}
-use Rattle.mxf_klv.proofs.Common.{cond, List, [], ◌∷◌, ◌++◌, length, take, drop, get_or, Result, Ok}
-use Rattle.mxf_klv.proofs.Common.{Option, Some, sym, ap, subst, ◌∙◌, arith, ◌↔◌, append_assoc}
-use Rattle.mxf_klv.proofs.Common.{append-nil, length-append, cases_lt, drop_at, take_all}
-use Rattle.mxf_klv.proofs.Common.{length-take, get_or-take, get_or-drop, get_or_past}
-use Rattle.mxf_klv.proofs.Common.{take-append-le, flat_map-append, get_or_from_slice_get}
-use Rattle.mxf_klv.proofs.Common.{slice_get_within, w64, from_be_bytes, to_be_bytes, flat_map}
-use Rattle.mxf_klv.proofs.Common.{ordering_index, Ordering, Less, Appends, NoteParts, keeps}
-use Rattle.mxf_klv.proofs.Common.{note_cmp, note_parts, note_total, StopsIn, WritesPart, counted}
+use Rattle.mxf_klv.proofs.Common.{◌≡◌, ℕ, zero, suc, ◌+◌, ◌-◌, ◌^◌, ◌<◌, ◌≤◌, Bool, true, false, cond, List, [], ◌∷◌}
+use Rattle.mxf_klv.proofs.Common.{◌++◌, length, take, drop, get_or, Result, Ok, Option, Some, sym, ap, subst, ◌∙◌}
+use Rattle.mxf_klv.proofs.Common.{arith, ◌↔◌, append_assoc, append-nil, length-append, cases_lt, drop_at, take_all}
+use Rattle.mxf_klv.proofs.Common.{length-take, get_or-take, get_or-drop, get_or_past, take-append-le, flat_map-append}
+use Rattle.mxf_klv.proofs.Common.{get_or_from_slice_get, slice_get_within, w64, from_be_bytes, to_be_bytes, flat_map}
+use Rattle.mxf_klv.proofs.Common.{ordering_index, Ordering, Less, Appends, NoteParts, keeps, note_cmp, note_parts}
+use Rattle.mxf_klv.proofs.Common.{note_total, StopsIn, WritesPart, counted}
 use Rattle.mxf_klv.specs.declared.writing.WriteFault.{WriteFault}
 use Rattle.std.proofs.Common.{take-append-drop}
 use Rattle.std.specs.Prelude.{IsTrue, ◌==◌}
@@ -18,14 +16,12 @@ use Rattle.mxf_catalogue.specs.declared.catalogue.file.fixed_part.FixedPart.{Fix
 use Rattle.mxf_catalogue.specs.Content.{IsContent}
 use Rattle.mxf_catalogue.specs.declared.catalogue.file.start.Version.{Version}
 use Rattle.mxf_catalogue.specs.declared.catalogue.file.start.Version.TheVariants.{Two}
-use Rattle.mxf_catalogue.specs.CatalogueFile.{version_byte, number_bytes, CanBeNoted, note_bytes}
-use Rattle.mxf_catalogue.specs.CatalogueFile.{start_bytes, BeginsAsFile, BeginsWithFixedPart}
-use Rattle.mxf_catalogue.specs.CatalogueFile.{BeginsWithMark, BeginsWithNote, BeginsWithParts}
-use Rattle.mxf_catalogue.specs.CatalogueFile.{IsRefused, IsFront, StopsAt, CanHave, IsMarkIn}
-use Rattle.mxf_catalogue.specs.CatalogueFile.{mark_of}
+use Rattle.mxf_catalogue.specs.CatalogueFile.{version_byte, number_bytes, CanBeNoted, note_bytes, start_bytes}
+use Rattle.mxf_catalogue.specs.CatalogueFile.{BeginsAsFile, BeginsWithFixedPart, BeginsWithMark, BeginsWithNote}
+use Rattle.mxf_catalogue.specs.CatalogueFile.{BeginsWithParts, IsRefused, IsFront, StopsAt, CanHave, IsMarkIn, mark_of}
 use Rattle.mxf_catalogue.specs.FileReading.{NoteBehindMark, RefusesNote}
-use Rattle.mxf_catalogue.proofs.FileBytes.{front_place, number_in, regrouped, length-number_bytes}
-use Rattle.mxf_catalogue.proofs.FileBytes.{rising_push, rising_last}
+use Rattle.mxf_catalogue.proofs.FileBytes.{front_place, number_in, regrouped, length-number_bytes, rising_push}
+use Rattle.mxf_catalogue.proofs.FileBytes.{rising_last}
 
 -- ---- reading
 

@@ -3,14 +3,12 @@ use Rattle.mxf_klv.proofs.Common.{sym, ◌∙◌, ap, subst, inl, inr, NoteParts
 use Rattle.mxf_klv.proofs.Common.{note_cmp-IsAntisymmetric, In, SameMembers}
 use Rattle.std.specs.Prelude.{◌≡◌, ◌≢◌, ◌↔◌, ◌⊎◌, List, [], ◌∷◌, ◌++◌, refl}
 use Rattle.mxf_klv.proofs.HeadOrder.{head_note-once, head_note-below, head_note-between}
-use Rattle.mxf_catalogue.specs.Content.{AreReduced, IsContent, IsLocated, IsReplaced, has_note}
-use Rattle.mxf_catalogue.specs.Content.{reduced, reduced_union, reduced_with, reduced_union-IsUnion}
-use Rattle.mxf_catalogue.specs.Content.{union_of, with_note}
+use Rattle.mxf_catalogue.specs.Content.{AreReduced, IsContent, IsLocated, IsReplaced, has_note, reduced, reduced_union}
+use Rattle.mxf_catalogue.specs.Content.{reduced_with, reduced_union-IsUnion, union_of, with_note}
 use Rattle.mxf_catalogue.specs.Reduced.{IsKnown}
 use Rattle.mxf_catalogue.proofs.ContentLaws.{In-with_note, IsContent-union_of, IsContent-with_note}
-use Rattle.mxf_catalogue.specs.ReducedLaws.{Has-reduce, Has-union, Has-with_one, In-reduce}
-use Rattle.mxf_catalogue.specs.ReducedLaws.{In-untold, IsReduced-reduce, IsRising-reduce}
-use Rattle.mxf_catalogue.specs.ReducedLaws.{one_from_has, reduce-reduced, same_or_not, reduce-union}
+use Rattle.mxf_catalogue.specs.ReducedLaws.{Has-reduce, Has-union, Has-with_one, In-reduce, In-untold, IsReduced-reduce}
+use Rattle.mxf_catalogue.specs.ReducedLaws.{IsRising-reduce, one_from_has, reduce-reduced, same_or_not, reduce-union}
 use Rattle.mxf_catalogue.specs.ReducedLaws.{same_from_has}
 use Rattle.mxf_catalogue.proofs.ReducedPlaces.{next_tells, reduced_push, swap_is, unreduced_push}
 

@@ -1,6 +1,6 @@
 -- Which heads are replaced, in the words of their fields.
-use Rattle.mxf_klv.proofs.Common.{◌≡◌, ◌↔◌, ℕ, false, List, [], ◌∷◌, length, refl, arith}
-use Rattle.mxf_klv.proofs.Common.{AllByRecursion, NoteParts, IsNote, head_note, In}
+use Rattle.mxf_klv.proofs.Common.{◌≡◌, ◌↔◌, ℕ, false, List, [], ◌∷◌, length, refl, arith, AllByRecursion, NoteParts}
+use Rattle.mxf_klv.proofs.Common.{IsNote, head_note, In}
 use Rattle.mxf_catalogue.specs.Content.{IsOfPacket, IsReplaced}
 use Rattle.mxf_klv.proofs.Lists.{all-In}
 

@@ -1,7 +1,7 @@
 -- Heads in a list that is searched.
-use Rattle.mxf_klv.proofs.Common.{◌≡◌, ◌↔◌, ℕ, zero, suc, ◌<◌, ◌≤◌, List, [], ◌∷◌, ◌++◌, length}
-use Rattle.mxf_klv.proofs.Common.{take, drop, get_or, refl, sym, ap, subst, ◌∙◌, arith, inl, inr}
-use Rattle.mxf_klv.proofs.Common.{slice_set, get_or-drop, NoteParts, head_note, In}
+use Rattle.mxf_klv.proofs.Common.{◌≡◌, ◌↔◌, ℕ, zero, suc, ◌<◌, ◌≤◌, List, [], ◌∷◌, ◌++◌, length, take, drop, get_or}
+use Rattle.mxf_klv.proofs.Common.{refl, sym, ap, subst, ◌∙◌, arith, inl, inr, slice_set, get_or-drop, NoteParts}
+use Rattle.mxf_klv.proofs.Common.{head_note, In}
 use Rattle.std.proofs.Common.{take-append-drop, length-drop}
 use Rattle.mxf_catalogue.specs.Content.{AreReduced, IsContent, IsPlace, has_note, reduced_with}
 use Rattle.mxf_catalogue.proofs.ContentLaws.{IsContent-with_note}

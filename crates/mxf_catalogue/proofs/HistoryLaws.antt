@@ -4,12 +4,10 @@ use Rattle.std.specs.Prelude.{◌≡◌, ◌↔◌, ◌⊎◌, refl, take}
 use Rattle.mxf_klv.specs.PieceReading.{notes_in}
 use Rattle.mxf_catalogue.specs.Content.{AreReduced, IsContent, IsLocated, has_note, with_note}
 use Rattle.mxf_catalogue.specs.Reduced.{IsKnown}
-use Rattle.mxf_catalogue.specs.History.{Hands, HandsSame, content, History, New, Add, Join, Read}
-use Rattle.mxf_catalogue.specs.History.{Absorb, Cut, Of}
+use Rattle.mxf_catalogue.specs.History.{Hands, HandsSame, content, History, New, Add, Join, Read, Absorb, Cut, Of}
 use Rattle.mxf_catalogue.proofs.ContentLaws.{same_content}
-use Rattle.mxf_catalogue.proofs.HeadLaws.{AreReduced-reduced, AreReduced-reduced_union}
-use Rattle.mxf_catalogue.proofs.HeadLaws.{IsContent-reduced_union, IsContent-reduced_with}
-use Rattle.mxf_catalogue.proofs.HeadLaws.{In-located, has-reduced_union, has-reduced_with}
+use Rattle.mxf_catalogue.proofs.HeadLaws.{AreReduced-reduced, AreReduced-reduced_union, IsContent-reduced_union}
+use Rattle.mxf_catalogue.proofs.HeadLaws.{IsContent-reduced_with, In-located, has-reduced_union, has-reduced_with}
 use Rattle.mxf_catalogue.proofs.HeadLaws.{one_reduced}
 use Rattle.mxf_klv.proofs.HeadOrder.{head_note-once}
 

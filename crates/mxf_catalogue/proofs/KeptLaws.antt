@@ -1,28 +1,23 @@
 -- What a catalogue keeps, once a note is there.
-use Rattle.mxf_klv.proofs.Common.{max, ◌∙◌, arith, ap, sym, subst, inl, inr, refl, NoteParts, Less}
-use Rattle.mxf_klv.proofs.Common.{Greater, lt-ltb, IsInSpan, IsNote, end_of, head_note, note_cmp}
-use Rattle.mxf_klv.proofs.Common.{note_total, In}
+use Rattle.mxf_klv.proofs.Common.{max, ◌∙◌, arith, ap, sym, subst, inl, inr, refl, NoteParts, Less, Greater, lt-ltb}
+use Rattle.mxf_klv.proofs.Common.{IsInSpan, IsNote, end_of, head_note, note_cmp, note_total, In}
 use Rattle.std.specs.Prelude.{◌≡◌, ◌↔◌, ℕ, ◌+◌, ◌-◌, ◌<◌, ◌≤◌, List, [], ◌∷◌, ◌++◌, map}
 use Rattle.mxf_catalogue.specs.declared.run.Run.{Run}
-use Rattle.mxf_catalogue.specs.Content.{AreReduced, IsCatalogue, has_note, reduced_with, union_of}
-use Rattle.mxf_catalogue.specs.Content.{with_note}
+use Rattle.mxf_catalogue.specs.Content.{AreReduced, IsCatalogue, has_note, reduced_with, union_of, with_note}
 use Rattle.mxf_catalogue.specs.Covers.{IsRun, spanned, with_run}
 use Rattle.mxf_catalogue.specs.Disputes.{SharesByte, whole_notes}
-use Rattle.mxf_catalogue.specs.NoteLists.{AreNoteLists, Covers, AreKeptLists, AreCatalogueFields}
-use Rattle.mxf_catalogue.specs.NoteLists.{Spans, away_from, covered_run, disputed_with, moved_by}
-use Rattle.mxf_catalogue.specs.NoteLists.{run_of, touching}
+use Rattle.mxf_catalogue.specs.NoteLists.{AreNoteLists, Covers, AreKeptLists, AreCatalogueFields, Spans, away_from}
+use Rattle.mxf_catalogue.specs.NoteLists.{covered_run, disputed_with, moved_by, run_of, touching}
 use Rattle.mxf_catalogue.specs.Runs.{LiesIn}
 use Rattle.mxf_catalogue.proofs.ContentLaws.{In-union_of, IsCatalogue-union_of}
 use Rattle.mxf_catalogue.proofs.CoverLaws.{IsCover-with_run}
-use Rattle.mxf_catalogue.proofs.PartLaws.{In-disputed_with, In-touching, parts_with_clear}
-use Rattle.mxf_catalogue.proofs.PartLaws.{parts_with_disputed, some_member, view_with_clear}
-use Rattle.mxf_catalogue.proofs.PartLaws.{view_with_disputed, parts_swap_clear, moved_part}
-use Rattle.mxf_catalogue.proofs.PartLaws.{no_members, parts_swap_disputed, view_swap_clear}
+use Rattle.mxf_catalogue.proofs.PartLaws.{In-disputed_with, In-touching, parts_with_clear, parts_with_disputed}
+use Rattle.mxf_catalogue.proofs.PartLaws.{some_member, view_with_clear, view_with_disputed, parts_swap_clear}
+use Rattle.mxf_catalogue.proofs.PartLaws.{moved_part, no_members, parts_swap_disputed, view_swap_clear}
 use Rattle.mxf_catalogue.proofs.PartLaws.{view_swap_disputed}
-use Rattle.mxf_catalogue.proofs.HeadLaws.{AreReduced-reduced, AreReduced-with_note, In-reduced_with}
-use Rattle.mxf_catalogue.proofs.HeadLaws.{AreReduced-part, same_note}
-use Rattle.mxf_catalogue.proofs.SpanCovers.{Covers-with, Spans-with_all, met_note, run_of-IsRun}
-use Rattle.mxf_catalogue.proofs.SpanCovers.{spanned-IsRun}
+use Rattle.mxf_catalogue.proofs.HeadLaws.{AreReduced-reduced, AreReduced-with_note, In-reduced_with, AreReduced-part}
+use Rattle.mxf_catalogue.proofs.HeadLaws.{same_note}
+use Rattle.mxf_catalogue.proofs.SpanCovers.{Covers-with, Spans-with_all, met_note, run_of-IsRun, spanned-IsRun}
 use Rattle.mxf_klv.proofs.Lists.{all-In}
 
 -- nothing is kept

@@ -1,13 +1,12 @@
 -- The notes of packets that are laid one after another.
-use Rattle.mxf_klv.proofs.Common.{List, [], ap, arith, filter, map, refl, ℕ, ◌++◌, ◌+◌, ◌<◌, ◌↔◌}
-use Rattle.mxf_klv.proofs.Common.{◌∷◌, ◌≡◌, ◌≤◌, lt-leb, AllByRecursion, end_of, note_cmp, note_of}
-use Rattle.mxf_klv.proofs.Common.{size_of, NoteParts, PacketParts, notes_from}
+use Rattle.mxf_klv.proofs.Common.{List, [], ap, arith, filter, map, refl, ℕ, ◌++◌, ◌+◌, ◌<◌, ◌↔◌, ◌∷◌, ◌≡◌, ◌≤◌, lt-leb}
+use Rattle.mxf_klv.proofs.Common.{AllByRecursion, end_of, note_cmp, note_of, size_of, NoteParts, PacketParts}
+use Rattle.mxf_klv.proofs.Common.{notes_from}
 use Rattle.std.proofs.Common.{Less}
 use Rattle.mxf_catalogue.proofs.ClearLaws.{not_disputed}
 use Rattle.mxf_catalogue.proofs.SpanLaws.{less_by_offset}
 use Rattle.mxf_catalogue.specs.Content.{IsContent}
-use Rattle.mxf_catalogue.specs.Disputes.{IsClear, disputed_notes, disputed_parts, is_disputed}
-use Rattle.mxf_catalogue.specs.Disputes.{lies_in}
+use Rattle.mxf_catalogue.specs.Disputes.{IsClear, disputed_notes, disputed_parts, is_disputed, lies_in}
 use Rattle.mxf_klv.proofs.Lists.{filter_none}
 use Rattle.mxf_klv.proofs.Tests.{not-true-false}
 

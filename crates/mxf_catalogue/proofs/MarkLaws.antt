@@ -1,13 +1,12 @@
 -- How a note is disputed, told from its neighbours and from how far the notes before it reach.
-use Rattle.mxf_klv.proofs.Common.{max, AllWithin, Less, sym, ap, subst, inl, inr, arith, get_or}
-use Rattle.mxf_klv.proofs.Common.{append_assoc, ◌∙◌, ltb-true, ltb-false, or_cases, or_left}
-use Rattle.mxf_klv.proofs.Common.{or_right, get_or_default, NoteParts, end_of, note_cmp, note_total}
-use Rattle.mxf_klv.proofs.Common.{In, less_in}
-use Rattle.std.specs.Prelude.{◌≡◌, ◌≢◌, ℕ, ◌+◌, ◌-◌, ◌<◌, ◌≤◌, nat_lt, ◌||◌, Bool, true, false}
-use Rattle.std.specs.Prelude.{List, [], ◌∷◌, ◌++◌, length, ◌⊎◌, refl}
+use Rattle.mxf_klv.proofs.Common.{max, AllWithin, Less, sym, ap, subst, inl, inr, arith, get_or, append_assoc, ◌∙◌}
+use Rattle.mxf_klv.proofs.Common.{ltb-true, ltb-false, or_cases, or_left, or_right, get_or_default, NoteParts, end_of}
+use Rattle.mxf_klv.proofs.Common.{note_cmp, note_total, In, less_in}
+use Rattle.std.specs.Prelude.{◌≡◌, ◌≢◌, ℕ, ◌+◌, ◌-◌, ◌<◌, ◌≤◌, nat_lt, ◌||◌, Bool, true, false, List, [], ◌∷◌, ◌++◌}
+use Rattle.std.specs.Prelude.{length, ◌⊎◌, refl}
 use Rattle.mxf_catalogue.specs.Content.{IsContent}
-use Rattle.mxf_catalogue.specs.Disputes.{DisputedParts, SharesOffset, Overlaps, disputed_parts}
-use Rattle.mxf_catalogue.specs.Disputes.{is_offset_shared, is_overlapped}
+use Rattle.mxf_catalogue.specs.Disputes.{DisputedParts, SharesOffset, Overlaps, disputed_parts, is_offset_shared}
+use Rattle.mxf_catalogue.specs.Disputes.{is_overlapped}
 use Rattle.mxf_catalogue.specs.Reach.{IsLeft, IsReach, StandsIn}
 use Rattle.mxf_catalogue.proofs.DisputeLaws.{is_offset_shared-SharesOffset, is_overlapped-Overlaps}
 use Rattle.mxf_catalogue.proofs.Ranges.{offsets_rise}

@@ -1,6 +1,5 @@
 -- The notes that a new note moves.
-use Rattle.mxf_klv.proofs.Common.{AllByRecursion, nat_cmp, Less, arith, NoteParts, end_of, In}
-use Rattle.mxf_klv.proofs.Common.{IsRising}
+use Rattle.mxf_klv.proofs.Common.{AllByRecursion, nat_cmp, Less, arith, NoteParts, end_of, In, IsRising}
 use Rattle.std.specs.Prelude.{◌≡◌, ◌↔◌, ◌<◌, ℕ, List, [], ◌∷◌, map}
 use Rattle.mxf_catalogue.specs.Content.{IsContent, reduced_with}
 use Rattle.mxf_catalogue.specs.Disputes.{AreApart, IsClear, IsDisputed, clear_notes, is_disputed}

@@ -1,27 +1,21 @@
 -- The two parts of a content, and what a new note does to them.
-use Rattle.mxf_klv.proofs.Common.{◌==◌, eqb-true, eq-eqb, sym, ◌∙◌, ap, subst, inl, inr, arith}
-use Rattle.mxf_klv.proofs.Common.{is_lt, is_eq, Less, Equal, Greater, tied_itself, NoteParts}
-use Rattle.mxf_klv.proofs.Common.{IsNote, note_cmp, note_total, note_cmp-IsAntisymmetric, In}
-use Rattle.mxf_klv.proofs.Common.{SameMembers, less_in, head_note}
-use Rattle.std.specs.Prelude.{◌≡◌, ◌≢◌, ◌+◌, Bool, true, false, cond, not, List, [], ◌∷◌, length}
-use Rattle.std.specs.Prelude.{◌⊎◌, ◌↔◌, filter, map, refl}
-use Rattle.mxf_catalogue.specs.Content.{AreReduced, IsContent, IsCatalogue, has_note, reduced_with}
-use Rattle.mxf_catalogue.specs.Content.{with_note, union_of}
-use Rattle.mxf_catalogue.specs.Disputes.{SharesByte, IsDisputed, is_byte_shared, is_offset_shared}
-use Rattle.mxf_catalogue.specs.Disputes.{is_overlapped, is_disputed, clear_notes, disputed_parts}
-use Rattle.mxf_catalogue.specs.Disputes.{disputed_notes, undisputed_notes, whole_notes}
-use Rattle.mxf_catalogue.specs.NoteLists.{AreNoteLists, StandApart, touching, away_from}
-use Rattle.mxf_catalogue.specs.NoteLists.{disputed_with, moved_by, moved_notes}
-use Rattle.mxf_catalogue.proofs.ContentLaws.{same_content, In-with_note, In-union_of}
-use Rattle.mxf_catalogue.proofs.ContentLaws.{IsContent-with_note, IsContent-union_of}
-use Rattle.mxf_catalogue.proofs.ContentLaws.{IsCatalogue-with_note, IsCatalogue-union_of}
-use Rattle.mxf_catalogue.proofs.DisputeLaws.{is_byte_shared-SharesByte}
-use Rattle.mxf_catalogue.proofs.DisputeLaws.{is_offset_shared-SharesOffset, is_overlapped-Overlaps}
-use Rattle.mxf_catalogue.proofs.DisputeLaws.{SharesByte-same_offset, SharesByte-symmetric}
-use Rattle.mxf_catalogue.proofs.DisputeLaws.{is_disputed-IsDisputed, IsContent-filter}
-use Rattle.mxf_catalogue.proofs.DisputeLaws.{In-undisputed_notes}
-use Rattle.mxf_catalogue.proofs.HeadLaws.{AreReduced-part, In-reduced_with, IsContent-reduced_with}
-use Rattle.mxf_catalogue.proofs.HeadLaws.{same_note}
+use Rattle.mxf_klv.proofs.Common.{◌==◌, eqb-true, eq-eqb, sym, ◌∙◌, ap, subst, inl, inr, arith, is_lt, is_eq, Less}
+use Rattle.mxf_klv.proofs.Common.{Equal, Greater, tied_itself, NoteParts, IsNote, note_cmp, note_total}
+use Rattle.mxf_klv.proofs.Common.{note_cmp-IsAntisymmetric, In, SameMembers, less_in, head_note}
+use Rattle.std.specs.Prelude.{◌≡◌, ◌≢◌, ◌+◌, Bool, true, false, cond, not, List, [], ◌∷◌, length, ◌⊎◌, ◌↔◌, filter, map}
+use Rattle.std.specs.Prelude.{refl}
+use Rattle.mxf_catalogue.specs.Content.{AreReduced, IsContent, IsCatalogue, has_note, reduced_with, with_note, union_of}
+use Rattle.mxf_catalogue.specs.Disputes.{SharesByte, IsDisputed, is_byte_shared, is_offset_shared, is_overlapped}
+use Rattle.mxf_catalogue.specs.Disputes.{is_disputed, clear_notes, disputed_parts, disputed_notes, undisputed_notes}
+use Rattle.mxf_catalogue.specs.Disputes.{whole_notes}
+use Rattle.mxf_catalogue.specs.NoteLists.{AreNoteLists, StandApart, touching, away_from, disputed_with, moved_by}
+use Rattle.mxf_catalogue.specs.NoteLists.{moved_notes}
+use Rattle.mxf_catalogue.proofs.ContentLaws.{same_content, In-with_note, In-union_of, IsContent-with_note}
+use Rattle.mxf_catalogue.proofs.ContentLaws.{IsContent-union_of, IsCatalogue-with_note, IsCatalogue-union_of}
+use Rattle.mxf_catalogue.proofs.DisputeLaws.{is_byte_shared-SharesByte, is_offset_shared-SharesOffset}
+use Rattle.mxf_catalogue.proofs.DisputeLaws.{is_overlapped-Overlaps, SharesByte-same_offset, SharesByte-symmetric}
+use Rattle.mxf_catalogue.proofs.DisputeLaws.{is_disputed-IsDisputed, IsContent-filter, In-undisputed_notes}
+use Rattle.mxf_catalogue.proofs.HeadLaws.{AreReduced-part, In-reduced_with, IsContent-reduced_with, same_note}
 use Rattle.mxf_klv.proofs.Lists.{all-In, all_from_In, In-filter, all-filter}
 use Rattle.mxf_klv.proofs.Tests.{not_true, not-true-false, same_bool}
 

@@ -1,13 +1,11 @@
 -- Where what tells an element stands in a rising list: directly behind its place.
-use Rattle.mxf_klv.proofs.Common.{IsTotalOrder, IsAntisymmetric, Ordering, Less, Equal, Greater}
-use Rattle.mxf_klv.proofs.Common.{sym, ◌∙◌, ap, subst, inl, inr, In, IsRising, with_one, less_in}
-use Rattle.mxf_klv.proofs.Common.{less_back, IsRising-with_one}
+use Rattle.mxf_klv.proofs.Common.{IsTotalOrder, IsAntisymmetric, Ordering, Less, Equal, Greater, sym, ◌∙◌, ap, subst}
+use Rattle.mxf_klv.proofs.Common.{inl, inr, In, IsRising, with_one, less_in, less_back, IsRising-with_one}
 use Rattle.std.specs.Prelude.{◌≡◌, ◌≢◌, ◌↔◌, ◌⊎◌, List, [], ◌∷◌, ◌++◌, refl}
 use Rattle.mxf_klv.specs.Rising.{not_less_itself}
 use Rattle.mxf_catalogue.specs.Reduced.{IsReduced, reduce}
-use Rattle.mxf_catalogue.specs.ReducedLaws.{Has-reduce, Has-with_one, IsReduced-reduce}
-use Rattle.mxf_catalogue.specs.ReducedLaws.{IsRising-reduce, one_from_has, same_or_not}
-use Rattle.mxf_catalogue.specs.ReducedLaws.{teller_untold}
+use Rattle.mxf_catalogue.specs.ReducedLaws.{Has-reduce, Has-with_one, IsReduced-reduce, IsRising-reduce, one_from_has}
+use Rattle.mxf_catalogue.specs.ReducedLaws.{same_or_not, teller_untold}
 use Rattle.mxf_klv.proofs.Lists.{In-append, all_from_In, all_append, all_parts}
 
 module _ {K : Type 0} {R : K → K → Ordering} (o : IsTotalOrder R) (same : IsAntisymmetric R) where

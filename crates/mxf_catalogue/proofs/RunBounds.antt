@@ -1,6 +1,6 @@
 -- Where maximal runs and what notes cover begin and end.
-use Rattle.mxf_klv.proofs.Common.{List, [], ap, arith, inl, inr, length, refl, subst, sym, ℕ, ◌+◌}
-use Rattle.mxf_klv.proofs.Common.{◌<◌, ◌∙◌, ◌∷◌, ◌≡◌, ◌≤◌, ◌⊎◌, end_of, NoteParts, In}
+use Rattle.mxf_klv.proofs.Common.{List, [], ap, arith, inl, inr, length, refl, subst, sym, ℕ, ◌+◌, ◌<◌, ◌∙◌, ◌∷◌, ◌≡◌}
+use Rattle.mxf_klv.proofs.Common.{◌≤◌, ◌⊎◌, end_of, NoteParts, In}
 use Rattle.mxf_catalogue.specs.Runs.{AreMaximal, LiesIn}
 use Rattle.mxf_catalogue.specs.declared.run.Run.{Run}
 use Rattle.mxf_klv.specs.Note.{covered_end}

@@ -1,8 +1,7 @@
 -- Clear notes share no byte, so each ends before the next begins.
-use Rattle.mxf_klv.proofs.Common.{◌≡◌, ◌≢◌, ℕ, ◌<◌, ◌≤◌, Bool, List, [], ◌∷◌, refl, inl, inr, arith}
-use Rattle.mxf_klv.proofs.Common.{eqb-true, ltb-true, ltb-false, nat_cmp, ordering_then, Ordering}
-use Rattle.mxf_klv.proofs.Common.{Less, tied_itself, NoteParts, end_of, note_cmp, note_total, In}
-use Rattle.mxf_klv.proofs.Common.{less_in}
+use Rattle.mxf_klv.proofs.Common.{◌≡◌, ◌≢◌, ℕ, ◌<◌, ◌≤◌, Bool, List, [], ◌∷◌, refl, inl, inr, arith, eqb-true, ltb-true}
+use Rattle.mxf_klv.proofs.Common.{ltb-false, nat_cmp, ordering_then, Ordering, Less, tied_itself, NoteParts, end_of}
+use Rattle.mxf_klv.proofs.Common.{note_cmp, note_total, In, less_in}
 use Rattle.std.specs.Prelude.{nat_lt, filter}
 use Rattle.mxf_klv.proofs.Tests.{less_from_lt}
 use Rattle.mxf_catalogue.specs.Content.{IsContent}

@@ -2,8 +2,7 @@
 -- notes, then the notes, each above the one before. A note is a fixed part of 33 bytes, a mark of one byte and what the
 -- note holds. Version 1 has no marks, and so no heads.
 use Rattle.std.specs.Prelude.{◌≡◌, ◌≢◌, ◌==◌, ℕ, ◌+◌, ◌^◌, ◌<◌, ◌≤◌, ◌⊎◌, Bool, if◌then◌else◌, List, [], ◌∷◌, ◌++◌}
-use Rattle.std.specs.Prelude.{length, take}
-use Rattle.std.specs.Prelude.{flat_map, slice_get, IsSomeAnd, IfSome, IsTrue, Result, Ok, Err}
+use Rattle.std.specs.Prelude.{length, take, flat_map, slice_get, IsSomeAnd, IfSome, IsTrue, Result, Ok, Err}
 use Rattle.std.specs.List.{AllByRecursion}
 use Rattle.std.specs.Int.{w64, to_be_bytes}
 use Rattle.mxf_klv.specs.Parts.{CanSpell, NoteParts}

@@ -11,7 +11,8 @@ use Rattle.mxf_klv.proofs.Lists.{all-In, list_any-In}
 use Rattle.mxf_klv.proofs.Tests.{same_bool}
 use Rattle.mxf_catalogue.specs.Content.{AreReduced, has_note}
 use Rattle.mxf_catalogue.proofs.HeadWords.{own_head}
-use Rattle.mxf_find.specs.Agreeing.{agrees, agrees_as_head, agrees_as_head_at, agrees_at, is_there, moved_place, moved_to}
+use Rattle.mxf_find.specs.Agreeing.{agrees, agrees_as_head, agrees_as_head_at, agrees_at, is_there, moved_place}
+use Rattle.mxf_find.specs.Agreeing.{moved_to}
 use Rattle.mxf_find.specs.Packets.{front_of, is_same_length, is_same_packet, packet_of}
 use Rattle.mxf_find.specs.Votes.{FragmentParts, place}
 use Rattle.mxf_find.proofs.TellerLaws.{all_true, both_true, either_false, or_false}

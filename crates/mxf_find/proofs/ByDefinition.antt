@@ -1,16 +1,15 @@
 -- Which notes tell, by their fields.
-use Rattle.mxf_klv.proofs.Common.{◌≡◌, ◌↔◌, ◌==◌, ◌∙◌, true, List, IsTrue, length, not, ap, arith}
-use Rattle.mxf_klv.proofs.Common.{eq-eqb, refl, sym, kind_of, NoteParts, head_parts, In}
+use Rattle.mxf_klv.proofs.Common.{◌≡◌, ◌↔◌, ◌==◌, ◌∙◌, true, List, IsTrue, length, not, ap, arith, eq-eqb, refl, sym}
+use Rattle.mxf_klv.proofs.Common.{kind_of, NoteParts, head_parts, In}
 use Rattle.mxf_klv.specs.declared.kinds.Kind.{Kind}
 use Rattle.mxf_klv.proofs.Tests.{not-true-false, not_true}
 use Rattle.mxf_catalogue.specs.Content.{IsCatalogue, IsContent}
 use Rattle.mxf_catalogue.specs.Disputes.{is_disputed}
 use Rattle.mxf_catalogue.proofs.DisputeLaws.{is_disputed-IsDisputed}
 use Rattle.mxf_find.specs.Packets.{front_of, packet_of}
-use Rattle.mxf_find.specs.Telling.{IsSound, IsTellingByLength, IsTellingByValue, is_fill, is_sound}
-use Rattle.mxf_find.specs.Telling.{tells_by_length, tells_by_value}
-use Rattle.mxf_find.proofs.TellerLaws.{all_true, both_true, length_teller, length_told}
-use Rattle.mxf_find.proofs.TellerLaws.{value_teller, value_told}
+use Rattle.mxf_find.specs.Telling.{IsSound, IsTellingByLength, IsTellingByValue, is_fill, is_sound, tells_by_length}
+use Rattle.mxf_find.specs.Telling.{tells_by_value}
+use Rattle.mxf_find.proofs.TellerLaws.{all_true, both_true, length_teller, length_told, value_teller, value_told}
 use Rattle.mxf_find.proofs.TellingLaws.{alike, alone, same, same_says, says_same}
 use Rattle.mxf_find.proofs.VoteLaws.{filter_only}
 use Rattle.mxf_klv.specs.declared.kinds.Kind.TheVariants as kinds

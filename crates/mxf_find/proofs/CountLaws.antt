@@ -1,8 +1,7 @@
 -- How often numbers stand in a list.
-use Rattle.mxf_klv.proofs.Common.{◌≡◌, ◌∙◌, ◌+◌, ◌≤◌, ◌<◌, ◌==◌, ℕ, zero, suc, Bool, true, false}
-use Rattle.mxf_klv.proofs.Common.{cond, List, [], ◌∷◌, ◌++◌, append_assoc, map, refl, ap, subst}
-use Rattle.mxf_klv.proofs.Common.{sym, arith, count_by, get_or, length, nat_le, nat_lt, eqb-true}
-use Rattle.mxf_klv.proofs.Common.{eq-eqb, inl, inr, AllWithin, IsNonDecreasing, IsPermutation}
+use Rattle.mxf_klv.proofs.Common.{◌≡◌, ◌∙◌, ◌+◌, ◌≤◌, ◌<◌, ◌==◌, ℕ, zero, suc, Bool, true, false, cond, List, [], ◌∷◌}
+use Rattle.mxf_klv.proofs.Common.{◌++◌, append_assoc, map, refl, ap, subst, sym, arith, count_by, get_or, length}
+use Rattle.mxf_klv.proofs.Common.{nat_le, nat_lt, eqb-true, eq-eqb, inl, inr, AllWithin, IsNonDecreasing, IsPermutation}
 use Rattle.mxf_klv.proofs.Common.{cases_Bool, cases_lt, nat_tests, sum_by-IsPermutation, In}
 use Rattle.std.proofs.Common.{flat_map}
 use Rattle.mxf_klv.proofs.Counts.{count_by-cons, tally}

@@ -1,7 +1,6 @@
 -- A note that is moved.
-use Rattle.mxf_klv.proofs.Common.{◌≡◌, ◌∙◌, ℕ, List, Bool, ap, length, subst, sym, true, Option}
-use Rattle.mxf_klv.proofs.Common.{None, Some, is_some, IfNone, true≢false, CanNote, IsNote, keeps}
-use Rattle.mxf_klv.proofs.Common.{NoteParts, note_parts}
+use Rattle.mxf_klv.proofs.Common.{◌≡◌, ◌∙◌, ℕ, List, Bool, ap, length, subst, sym, true, Option, None, Some, is_some}
+use Rattle.mxf_klv.proofs.Common.{IfNone, true≢false, CanNote, IsNote, keeps, NoteParts, note_parts}
 use Rattle.std.proofs.Common.{if◌then◌else◌}
 use Rattle.mxf_klv.specs.Note.{keeps_value}
 use Rattle.mxf_find.specs.Agreeing.{moved_to}

@@ -1,12 +1,10 @@
 -- Packets in their order: which notes they are, and where those of one kind stand.
-use Rattle.mxf_klv.proofs.Common.{◌≡◌, ◌+◌, ◌≤◌, ◌<◌, ◌&&◌, ◌∙◌, ℕ, zero, suc, true, false, List}
-use Rattle.mxf_klv.proofs.Common.{[], ◌∷◌, IsTrue, refl, sym, ap, subst, inl, inr, arith, get_or}
-use Rattle.mxf_klv.proofs.Common.{length, min, nat_le, nat_lt, drop, filter, take, IsTotalOrder}
-use Rattle.mxf_klv.proofs.Common.{AllWithin, IsNonDecreasingBy, IsPartitionedBy, IsSortedByKey}
-use Rattle.mxf_klv.proofs.Common.{slice_cmp, bool_cmp, nat_cmp, is_lt, ordering_index}
-use Rattle.mxf_klv.proofs.Common.{ordering_reverse, ordering_then, tied_itself, IsPartitionedBy-ltb}
-use Rattle.mxf_klv.proofs.Common.{searchable_from_sorted, NoteParts, note_cmp, note_total}
-use Rattle.mxf_klv.proofs.Common.{note_cmp-IsAntisymmetric, In, In-union, IsRising, less_in, union}
+use Rattle.mxf_klv.proofs.Common.{◌≡◌, ◌+◌, ◌≤◌, ◌<◌, ◌&&◌, ◌∙◌, ℕ, zero, suc, true, false, List, [], ◌∷◌, IsTrue, refl}
+use Rattle.mxf_klv.proofs.Common.{sym, ap, subst, inl, inr, arith, get_or, length, min, nat_le, nat_lt, drop, filter}
+use Rattle.mxf_klv.proofs.Common.{take, IsTotalOrder, AllWithin, IsNonDecreasingBy, IsPartitionedBy, IsSortedByKey}
+use Rattle.mxf_klv.proofs.Common.{slice_cmp, bool_cmp, nat_cmp, is_lt, ordering_index, ordering_reverse, ordering_then}
+use Rattle.mxf_klv.proofs.Common.{tied_itself, IsPartitionedBy-ltb, searchable_from_sorted, NoteParts, note_cmp}
+use Rattle.mxf_klv.proofs.Common.{note_total, note_cmp-IsAntisymmetric, In, In-union, IsRising, less_in, union}
 use Rattle.std.proofs.Common.{Ordering, Less, Equal, Greater}
 use Rattle.mxf_klv.proofs.Lists.{In-at, filter_alike}
 use Rattle.mxf_klv.proofs.Tests.{same_bool}

@@ -1,9 +1,8 @@
 -- The first of a list in its order, of which only the first were kept.
-use Rattle.mxf_klv.proofs.Common.{◌≡◌, ◌∙◌, ◌++◌, ℕ, zero, suc, cond, List, [], ◌∷◌, take, ap}
-use Rattle.mxf_klv.proofs.Common.{append-nil, append_assoc, inl, inr, refl, sym, IsTotalOrder}
-use Rattle.mxf_klv.proofs.Common.{IsAntisymmetric, is_eq, is_lt, In-union, In-with_one, IsRising}
-use Rattle.mxf_klv.proofs.Common.{IsRising-union, IsRising-with_one, SameMembers, same_from_members}
-use Rattle.mxf_klv.proofs.Common.{union, with_one, AllByRecursion}
+use Rattle.mxf_klv.proofs.Common.{◌≡◌, ◌∙◌, ◌++◌, ℕ, zero, suc, cond, List, [], ◌∷◌, take, ap, append-nil, append_assoc}
+use Rattle.mxf_klv.proofs.Common.{inl, inr, refl, sym, IsTotalOrder, IsAntisymmetric, is_eq, is_lt, In-union}
+use Rattle.mxf_klv.proofs.Common.{In-with_one, IsRising, IsRising-union, IsRising-with_one, SameMembers}
+use Rattle.mxf_klv.proofs.Common.{same_from_members, union, with_one, AllByRecursion}
 use Rattle.std.proofs.Common.{Ordering, Less, Equal, Greater}
 use Rattle.mxf_klv.proofs.Lists.{In-append}
 use Rattle.mxf_find.specs.RankOrder.{rank_cmp-IsAntisymmetric, rank_total}

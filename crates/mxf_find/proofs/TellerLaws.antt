@@ -1,6 +1,6 @@
 -- What looking up one that tells gives.
-use Rattle.std.proofs.Common.{◌≡◌, ◌↔◌, ◌&&◌, ◌==◌, ◌∙◌, Bool, true, false, List, IsTrue, Option, None, Some}
-use Rattle.std.proofs.Common.{sym, ap, subst, arith, filter, length}
+use Rattle.std.proofs.Common.{◌≡◌, ◌↔◌, ◌&&◌, ◌==◌, ◌∙◌, Bool, true, false, List, IsTrue, Option, None, Some, sym, ap}
+use Rattle.std.proofs.Common.{subst, arith, filter, length}
 use Rattle.mxf_klv.specs.Parts.{NoteParts}
 use Rattle.mxf_klv.specs.Rising.{In}
 use Rattle.mxf_klv.proofs.Tests.{same_bool}

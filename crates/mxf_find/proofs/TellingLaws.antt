@@ -1,8 +1,7 @@
 -- Notes that tell: one at most is told by another, and votes by it.
-use Rattle.mxf_klv.proofs.Common.{◌≡◌, ◌==◌, ◌∙◌, Bool, true, List, [], ◌∷◌, IsTrue, Option, None}
-use Rattle.mxf_klv.proofs.Common.{Some, refl, sym, ap, subst, inl, inr, arith, eq-eqb, eqb-true}
-use Rattle.mxf_klv.proofs.Common.{filter, length, IsTotalOrder, tied_itself, NoteParts, note_cmp}
-use Rattle.mxf_klv.proofs.Common.{note_total, note_cmp-IsAntisymmetric, In, IsRising, SameMembers}
+use Rattle.mxf_klv.proofs.Common.{◌≡◌, ◌==◌, ◌∙◌, Bool, true, List, [], ◌∷◌, IsTrue, Option, None, Some, refl, sym, ap}
+use Rattle.mxf_klv.proofs.Common.{subst, inl, inr, arith, eq-eqb, eqb-true, filter, length, IsTotalOrder, tied_itself}
+use Rattle.mxf_klv.proofs.Common.{NoteParts, note_cmp, note_total, note_cmp-IsAntisymmetric, In, IsRising, SameMembers}
 use Rattle.std.proofs.Common.{Ordering, Less}
 use Rattle.mxf_klv.proofs.Lists.{In-filter, filter_alike}
 use Rattle.mxf_klv.proofs.Tests.{same_bool}

@@ -1,17 +1,16 @@
 -- Votes: a note has one at most in a recording.
-use Rattle.mxf_klv.proofs.Common.{◌≡◌, ◌&&◌, ◌∙◌, Bool, true, false, List, [], ◌∷◌, IsTrue, Option}
-use Rattle.mxf_klv.proofs.Common.{None, Some, is_some, refl, sym, ap, subst, arith, filter, inl}
-use Rattle.mxf_klv.proofs.Common.{inr, not, IfNone, option_copied, option_to_list, cases_Bool}
-use Rattle.mxf_klv.proofs.Common.{false_from_ne_true, NoteParts, head_parts, note_cmp, note_total}
-use Rattle.mxf_klv.proofs.Common.{note_cmp-IsAntisymmetric, In, same_from_members}
+use Rattle.mxf_klv.proofs.Common.{◌≡◌, ◌&&◌, ◌∙◌, Bool, true, false, List, [], ◌∷◌, IsTrue, Option, None, Some, is_some}
+use Rattle.mxf_klv.proofs.Common.{refl, sym, ap, subst, arith, filter, inl, inr, not, IfNone, option_copied}
+use Rattle.mxf_klv.proofs.Common.{option_to_list, cases_Bool, false_from_ne_true, NoteParts, head_parts, note_cmp}
+use Rattle.mxf_klv.proofs.Common.{note_total, note_cmp-IsAntisymmetric, In, same_from_members}
 use Rattle.std.proofs.Common.{Bor}
 use Rattle.std.specs.Option.{IfSome}
 use Rattle.mxf_klv.proofs.Lists.{In-filter, filter_none}
 use Rattle.mxf_catalogue.specs.Content.{IsContent}
 use Rattle.mxf_catalogue.specs.ReducedLaws.{rising-filter}
 use Rattle.mxf_find.specs.Packets.{front_of, is_same_length, is_same_packet, packet_of}
-use Rattle.mxf_find.specs.Telling.{IsNoneOf, IsOneOf, is_teller_by_length, is_teller_by_value}
-use Rattle.mxf_find.specs.Telling.{tells_by_length, tells_by_value}
+use Rattle.mxf_find.specs.Telling.{IsNoneOf, IsOneOf, is_teller_by_length, is_teller_by_value, tells_by_length}
+use Rattle.mxf_find.specs.Telling.{tells_by_value}
 use Rattle.mxf_find.specs.Votes.{voted_by}
 use Rattle.mxf_find.specs.declared.recording.Tells.{Tells}
 use Rattle.mxf_find.proofs.TellerLaws.{all_true, both_true, length_told, value_told}

@@ -1,9 +1,8 @@
 -- A fragment all of whose notes a recording has is found there.
-use Rattle.mxf_klv.proofs.Common.{◌≡◌, ◌≢◌, ◌∙◌, ◌-◌, ◌≤◌, ◌&&◌, ◌||◌, ℕ, Bool, true, false, List}
-use Rattle.mxf_klv.proofs.Common.{[], ◌∷◌, IsTrue, Option, None, Some, ap, arith, count_by, eq-eqb}
-use Rattle.mxf_klv.proofs.Common.{filter, inl, inr, length, map, not, refl, subst, sym, cases_Bool}
-use Rattle.mxf_klv.proofs.Common.{true≢false, kind_of, IsNote, greatest_end, head_note, NoteParts}
-use Rattle.mxf_klv.proofs.Common.{head_parts, In}
+use Rattle.mxf_klv.proofs.Common.{◌≡◌, ◌≢◌, ◌∙◌, ◌-◌, ◌≤◌, ◌&&◌, ◌||◌, ℕ, Bool, true, false, List, [], ◌∷◌, IsTrue}
+use Rattle.mxf_klv.proofs.Common.{Option, None, Some, ap, arith, count_by, eq-eqb, filter, inl, inr, length, map, not}
+use Rattle.mxf_klv.proofs.Common.{refl, subst, sym, cases_Bool, true≢false, kind_of, IsNote, greatest_end, head_note}
+use Rattle.mxf_klv.proofs.Common.{NoteParts, head_parts, In}
 use Rattle.mxf_klv.proofs.Counts.{count_by-cons, tally}
 use Rattle.mxf_klv.proofs.Lists.{all-In, In-at, In-filter, In-flat_map, In-map, list_any-In}
 use Rattle.mxf_catalogue.specs.Content.{AreReduced, IsCatalogue}
@@ -14,8 +13,8 @@ use Rattle.mxf_catalogue.proofs.HeadLaws.{same_note}
 use Rattle.mxf_find.specs.Agreeing.{agrees, agrees_at, agreeing, is_there, moved_place}
 use Rattle.mxf_find.specs.Found.{IsFound, offset_of}
 use Rattle.mxf_find.specs.Packets.{front_of, is_same_length, is_same_packet, packet_of}
-use Rattle.mxf_find.specs.Telling.{IsSound, IsTellingByLength, IsTellingByValue, tells_by_length}
-use Rattle.mxf_find.specs.Telling.{tells_by_value, tells_in}
+use Rattle.mxf_find.specs.Telling.{IsSound, IsTellingByLength, IsTellingByValue, tells_by_length, tells_by_value}
+use Rattle.mxf_find.specs.Telling.{tells_in}
 use Rattle.mxf_find.specs.Votes.{FragmentParts, is_vote, place, shift, votes}
 use Rattle.mxf_find.specs.Wholly.{LiesWholly, StandsFor, TellsFor}
 use Rattle.mxf_find.specs.declared.found.Match.{Match}
@@ -24,8 +23,7 @@ use Rattle.mxf_find.proofs.ByDefinition.{by_length, by_value}
 use Rattle.mxf_find.proofs.CountLaws.{placed}
 use Rattle.mxf_find.proofs.TellerLaws.{all_true, both_true, either_false, length_told, value_told}
 use Rattle.mxf_find.proofs.TellingLaws.{alone, same_says, says_same}
-use Rattle.mxf_find.proofs.VoteLaws.{length_parts, length_vote, packet_front, packet_whole}
-use Rattle.mxf_find.proofs.VoteLaws.{value_parts, value_vote}
+use Rattle.mxf_find.proofs.VoteLaws.{length_parts, length_vote, packet_front, packet_whole, value_parts, value_vote}
 
 count-all : (test : NoteParts → Bool) (notes : List NoteParts) → ((p : NoteParts) → In p notes → test p ≡ true)
     → count_by test notes ≡ length notes

@@ -1,6 +1,5 @@
 -- Where a fragment lies in a recording (this project's profile).
-use Rattle.std.specs.Prelude.{◌≡◌, ℕ, List, [], Option, Some, None}
-use Rattle.std.specs.Prelude.{ℤ, pos, ◌-ℤ◌}
+use Rattle.std.specs.Prelude.{◌≡◌, ℕ, List, [], Option, Some, None, ℤ, pos, ◌-ℤ◌}
 use Rattle.mxf_klv.specs.Note.{greatest_end}
 use Rattle.mxf_klv.specs.Parts.{NoteParts}
 use Rattle.mxf_find.specs.Agreeing.{agreeing, agreeing_as_heads}

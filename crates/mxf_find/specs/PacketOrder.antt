@@ -8,9 +8,8 @@ use Rattle.std.specs.declared.cmp.Ordering.TheVariants.{Less, Equal, Greater}
 use Rattle.std.proofs.Common.{refl}
 use Rattle.std.proofs.lemmas.Cmp.{on_total, then_total, nat_cmp_total, eq_by_cmp_equiv}
 use Rattle.mxf_klv.specs.Parts.{NoteParts}
-use Rattle.mxf_klv.specs.NoteOrder.{note_total, note_cmp-IsAntisymmetric}
+use Rattle.mxf_klv.specs.NoteOrder.{note_total, note_cmp-IsAntisymmetric, ties}
 use Rattle.mxf_find.specs.Packets.{packet_cmp, packet_of}
-use Rattle.mxf_klv.specs.NoteOrder.{ties}
 
 pub packet_total : IsTotalOrder packet_cmp
 packet_total = then_total (on_total packet_of note_total) (on_total (λ n. n.offset) nat_cmp_total)

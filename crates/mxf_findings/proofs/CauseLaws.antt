@@ -1,13 +1,13 @@
 -- The cause of each code is met at the offsets that are found of it, and at no others.
-use Rattle.mxf_findings.proofs.Common.{◌≡◌, ℕ, ◌+◌, ◌-◌, ◌<◌, ◌≤◌, ◌⊎◌, Bool, true, false, List, refl, sym}
-use Rattle.mxf_findings.proofs.Common.{ap, ◌∙◌, inl, inr, arith, eqb-true, eq-eqb, ◌↔◌, ◌&&◌, ◌||◌, ◌==◌, nat_lt, not}
-use Rattle.mxf_findings.proofs.Common.{is_some, filter, map, ltb-false, ltb-true, or_cases, and_from, and_parts, Status}
+use Rattle.mxf_findings.proofs.Common.{◌≡◌, ℕ, ◌+◌, ◌-◌, ◌<◌, ◌≤◌, ◌⊎◌, Bool, true, false, List, refl, sym, ap, ◌∙◌}
+use Rattle.mxf_findings.proofs.Common.{inl, inr, arith, eqb-true, eq-eqb, ◌↔◌, ◌&&◌, ◌||◌, ◌==◌, nat_lt, not, is_some}
+use Rattle.mxf_findings.proofs.Common.{filter, map, ltb-false, ltb-true, or_cases, and_from, and_parts, Status}
 use Rattle.mxf_findings.proofs.Common.{NoteParts, end_of, kind_of, In, PartitionPackParts, pack_at, part_and_status}
-use Rattle.mxf_findings.proofs.Common.{Footer, Run, IsContent, IsClear, clear_notes, In-clear_notes}
-use Rattle.mxf_findings.proofs.Common.{PartitionParts, is_footer, is_no_unreadable_pack, link_of, pack_of, partition_at}
-use Rattle.mxf_findings.proofs.Common.{partitions_of, gaps_of, IsReadable, AtClear, In-map, list_any-In, either}
-use Rattle.mxf_findings.proofs.Common.{not-true-false, not_true, IsPartitionKind, disputed_notes, disputed_parts}
-use Rattle.mxf_findings.proofs.Common.{footer_stands_at, In-chosen, not_equal, has_byte, kind_says, kind_tells}
+use Rattle.mxf_findings.proofs.Common.{Footer, Run, IsContent, IsClear, clear_notes, In-clear_notes, PartitionParts}
+use Rattle.mxf_findings.proofs.Common.{is_footer, is_no_unreadable_pack, link_of, pack_of, partition_at, partitions_of}
+use Rattle.mxf_findings.proofs.Common.{gaps_of, IsReadable, AtClear, In-map, list_any-In, either, not-true-false}
+use Rattle.mxf_findings.proofs.Common.{not_true, IsPartitionKind, disputed_notes, disputed_parts, footer_stands_at}
+use Rattle.mxf_findings.proofs.Common.{In-chosen, not_equal, has_byte, kind_says, kind_tells}
 use Rattle.mxf_catalogue.specs.Disputes.{DisputedParts, IsDisputedOf, Overlaps, SharesOffset}
 use Rattle.mxf_catalogue.proofs.DisputeLaws.{In-disputed_notes, IsDisputed-two_ways, is_offset_shared-SharesOffset}
 use Rattle.mxf_catalogue.proofs.DisputeLaws.{is_overlapped-Overlaps}

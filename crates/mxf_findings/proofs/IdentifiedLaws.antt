@@ -2,12 +2,12 @@
 use Rattle.mxf_findings.proofs.Common.{◌≡◌, ℕ, zero, suc, ◌+◌, ◌<◌, ◌≤◌, true, false, cond, List, [], ◌∷◌, Ok, Err}
 use Rattle.mxf_findings.proofs.Common.{Some, None, refl, sym, ap, subst, ◌∙◌, inl, inr, arith, get_or, length, ◌&&◌}
 use Rattle.mxf_findings.proofs.Common.{filter, if◌then◌else◌, map, AllWithin, cons_option, filter_map}
-use Rattle.mxf_findings.proofs.Common.{IsNonDecreasingBy, nat_cmp-IsAntisymmetric, option_map, result_ok, nat_cmp}
-use Rattle.mxf_findings.proofs.Common.{Less, Equal, Greater, false_from_ne_true, tied_itself, bytes_eq-Decides}
-use Rattle.mxf_findings.proofs.Common.{NoteParts, keeps_value, In, found_among, has_uid, In-filter}
-use Rattle.mxf_findings.proofs.Common.{Contains-from_In, eqb-true, eq-eqb, cases_lt, IsPermutation, bytes_eq}
-use Rattle.mxf_findings.proofs.Common.{ordering_index, Contains-permutation, instance_uid_at, Found, Several, is_below}
-use Rattle.mxf_findings.proofs.Common.{is_of, with_uid, reads_uid, In-from_Contains, length-filter}
+use Rattle.mxf_findings.proofs.Common.{IsNonDecreasingBy, nat_cmp-IsAntisymmetric, option_map, result_ok, nat_cmp, Less}
+use Rattle.mxf_findings.proofs.Common.{Equal, Greater, false_from_ne_true, tied_itself, bytes_eq-Decides, NoteParts}
+use Rattle.mxf_findings.proofs.Common.{keeps_value, In, found_among, has_uid, In-filter, Contains-from_In, eqb-true}
+use Rattle.mxf_findings.proofs.Common.{eq-eqb, cases_lt, IsPermutation, bytes_eq, ordering_index, Contains-permutation}
+use Rattle.mxf_findings.proofs.Common.{instance_uid_at, Found, Several, is_below, is_of, with_uid, reads_uid}
+use Rattle.mxf_findings.proofs.Common.{In-from_Contains, length-filter}
 use Rattle.std.specs.List.Sorted.{IsPartitionedBy}
 use Rattle.std.specs.Cmp.Lexicographic.{lists_agrees, nat_list_cmp_total, slice_cmp, slice_partial_cmp}
 use Rattle.std.specs.FinSet.{slice_cmp-IsAntisymmetric}

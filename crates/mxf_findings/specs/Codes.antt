@@ -8,8 +8,8 @@ use Rattle.std.specs.declared.cmp.Ordering.{Ordering}
 use Rattle.std.proofs.Common.{get_or, sym, ◌∙◌, ap}
 use Rattle.std.proofs.lemmas.Cmp.{on_total, then_total, nat_cmp_total, eq_by_cmp_equiv}
 use Rattle.mxf_findings.specs.declared.finding.Code.{Code}
-use Rattle.mxf_findings.specs.declared.finding.Code.TheVariants.{F01, F02, F03, F04, F05, F06, F07}
-use Rattle.mxf_findings.specs.declared.finding.Code.TheVariants.{F08, F09, F10, F11, F12, F13, F14}
+use Rattle.mxf_findings.specs.declared.finding.Code.TheVariants.{F01, F02, F03, F04, F05, F06, F07, F08, F09, F10, F11}
+use Rattle.mxf_findings.specs.declared.finding.Code.TheVariants.{F12, F13, F14}
 use Rattle.mxf_findings.specs.declared.finding.Finding.{Finding}
 use Rattle.mxf_klv.specs.NoteOrder.{ties}
 

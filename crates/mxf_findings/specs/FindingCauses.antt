@@ -25,8 +25,8 @@ use Rattle.mxf_views.specs.declared.copy.CopyInfo.{CopyInfo}
 use Rattle.mxf_findings.specs.declared.reference.target.Ref.{Ref}
 use Rattle.mxf_findings.specs.declared.reference.target.Target.TheVariants.{Found}
 use Rattle.mxf_findings.specs.declared.finding.Code.{Code}
-use Rattle.mxf_findings.specs.declared.finding.Code.TheVariants.{F01, F02, F03, F04, F05, F06, F07}
-use Rattle.mxf_findings.specs.declared.finding.Code.TheVariants.{F08, F09, F10, F11, F12, F13, F14}
+use Rattle.mxf_findings.specs.declared.finding.Code.TheVariants.{F01, F02, F03, F04, F05, F06, F07, F08, F09, F10, F11}
+use Rattle.mxf_findings.specs.declared.finding.Code.TheVariants.{F12, F13, F14}
 use Rattle.mxf_findings.specs.declared.finding.Finding.{Finding}
 use Rattle.mxf_views.specs.Partitions.{IsLink, HangTogether, PartitionParts, partitions_of}
 use Rattle.mxf_views.specs.Gaps.{IsGap}

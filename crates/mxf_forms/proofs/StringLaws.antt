@@ -1,5 +1,6 @@
 -- Strings of JSON.
-use Rattle.std.proofs.Common.{◌≡◌, ℕ, ◌+◌, ◌/◌, ◌≤◌, ◌++◌, false, List, [], ◌∷◌, Some, arith, refl, le-ltb, lt-ltb, ne_eqb, inl, inr, append_assoc}
+use Rattle.std.proofs.Common.{◌≡◌, ℕ, ◌+◌, ◌/◌, ◌≤◌, ◌++◌, false, List, [], ◌∷◌, Some, arith, refl, le-ltb, lt-ltb}
+use Rattle.std.proofs.Common.{ne_eqb, inl, inr, append_assoc}
 use Rattle.std.proofs.lemmas.Bool.{cases_lt, cases_eq}
 use lib.Utf8.{encode, next}
 use Rattle.mxf_forms.specs.Forms.{escaped, escaped_character, quoted, string_at, string_end}

@@ -1,7 +1,7 @@
 -- Readings that found no packet, by where they began and the end that they were asked up to.
-use Rattle.mxf_views.proofs.Common.{◌≡◌, ℕ, List, [], ◌∷◌, Option, None, Some, ap, cond, refl}
-use Rattle.mxf_views.proofs.Common.{subst, sym, is_at, lookup, option_cmp, is_eq, nat_cmp}
-use Rattle.mxf_views.proofs.Common.{ordering_then, Ordering, Less, Equal, Greater, NoteParts}
+use Rattle.mxf_views.proofs.Common.{◌≡◌, ℕ, List, [], ◌∷◌, Option, None, Some, ap, cond, refl, subst, sym, is_at}
+use Rattle.mxf_views.proofs.Common.{lookup, option_cmp, is_eq, nat_cmp, ordering_then, Ordering, Less, Equal, Greater}
+use Rattle.mxf_views.proofs.Common.{NoteParts}
 use Rattle.std.specs.Prelude.{IfSome}
 use Rattle.std.specs.BTreeMap.{insert_entry}
 use Rattle.std.specs.Ordering.{match_ordering}

@@ -1,15 +1,12 @@
 -- What is clear stays clear: what is put together lies in holes, and where heads are.
-use Rattle.mxf_views.proofs.Common.{◌≡◌, ◌∙◌, ◌≤◌, ◌<◌, ◌+◌, ◌-◌, ◌&&◌, ◌++◌, ◌⊎◌, ℕ, zero, suc}
-use Rattle.mxf_views.proofs.Common.{true, false, not, List, [], ◌∷◌, ◌==◌, Option, None, Some, ap}
-use Rattle.mxf_views.proofs.Common.{arith, cond, eqb-true, filter, find, inl, inr, length}
-use Rattle.mxf_views.proofs.Common.{length-append, refl, subst, sym, and_parts, cases_lt, leb-true}
-use Rattle.mxf_views.proofs.Common.{same_Some, option_map_or, NoteParts, PacketParts, IsInSpan}
-use Rattle.mxf_views.proofs.Common.{covered_end, end_of, head_note, note_of, size_of, AreLaid}
-use Rattle.mxf_views.proofs.Common.{end_after, notes_from, rest_in, In, In-append, In-filter}
-use Rattle.mxf_views.proofs.Common.{In-flat_map, In-map, found-In, length-spelled, some_piece}
-use Rattle.mxf_views.proofs.Common.{end_up, AreReduced, IsContent, reduced_union, IsClear}
-use Rattle.mxf_views.proofs.Common.{SharesByte, after, AreReduced-reduced_union, has-reduced_union}
-use Rattle.mxf_views.proofs.Common.{same_note, covers_below_end}
+use Rattle.mxf_views.proofs.Common.{◌≡◌, ◌∙◌, ◌≤◌, ◌<◌, ◌+◌, ◌-◌, ◌&&◌, ◌++◌, ◌⊎◌, ℕ, zero, suc, true, false, not, List}
+use Rattle.mxf_views.proofs.Common.{[], ◌∷◌, ◌==◌, Option, None, Some, ap, arith, cond, eqb-true, filter, find, inl}
+use Rattle.mxf_views.proofs.Common.{inr, length, length-append, refl, subst, sym, and_parts, cases_lt, leb-true}
+use Rattle.mxf_views.proofs.Common.{same_Some, option_map_or, NoteParts, PacketParts, IsInSpan, covered_end, end_of}
+use Rattle.mxf_views.proofs.Common.{head_note, note_of, size_of, AreLaid, end_after, notes_from, rest_in, In, In-append}
+use Rattle.mxf_views.proofs.Common.{In-filter, In-flat_map, In-map, found-In, length-spelled, some_piece, end_up}
+use Rattle.mxf_views.proofs.Common.{AreReduced, IsContent, reduced_union, IsClear, SharesByte, after}
+use Rattle.mxf_views.proofs.Common.{AreReduced-reduced_union, has-reduced_union, same_note, covers_below_end}
 use Rattle.mxf_klv.specs.PieceReading.{packets_in as packets_of_piece}
 use Rattle.mxf_catalogue.proofs.ClearLaws.{held_whole}
 use Rattle.mxf_catalogue.proofs.PartLaws.{with_whole}
@@ -21,13 +18,12 @@ use Rattle.mxf_restore.specs.Plan.{is_head_to, start_of}
 use Rattle.mxf_restore.specs.Sections.{AreSections, sections_of}
 use Rattle.mxf_restore.specs.declared.section.Section.{Section}
 use Rattle.mxf_restore.proofs.SectionCover.{are_sections}
-use Rattle.mxf_hand.specs.Hand.{HandBytes, is_value_at_hand, packet_of, read_bytes, read_heads}
-use Rattle.mxf_hand.specs.Hand.{read_packets, read_to, run_end}
+use Rattle.mxf_hand.specs.Hand.{HandBytes, is_value_at_hand, packet_of, read_bytes, read_heads, read_packets, read_to}
+use Rattle.mxf_hand.specs.Hand.{run_end}
 use Rattle.mxf_hand.specs.Heads.{fits, fitting, heads_to}
-use Rattle.mxf_hand.specs.Rounds.{heads_taken, is_taken, made_in, packets_in, put_together}
-use Rattle.mxf_hand.specs.Rounds.{read_heads_in, read_heads_of, read_in, round, rounds, taken_in}
-use Rattle.mxf_hand.specs.Sections.{ends_within, from_of, heads_of, made_by, made_of, packets_of}
-use Rattle.mxf_hand.specs.Sections.{read_from}
+use Rattle.mxf_hand.specs.Rounds.{heads_taken, is_taken, made_in, packets_in, put_together, read_heads_in}
+use Rattle.mxf_hand.specs.Rounds.{read_heads_of, read_in, round, rounds, taken_in}
+use Rattle.mxf_hand.specs.Sections.{ends_within, from_of, heads_of, made_by, made_of, packets_of, read_from}
 use Rattle.mxf_hand.specs.declared.found.CutHead.{CutHead}
 use Rattle.mxf_hand.proofs.FitLaws.{read_count}
 use Rattle.mxf_hand.proofs.HeadNoteLaws.{not_whole}

@@ -1,26 +1,22 @@
 -- Sources beside each other: what was read of them, what was noted of their overlaps, and that this is where they
 -- differ.
-use Rattle.mxf_views.proofs.Common.{◌≡◌, ◌≢◌, ◌∙◌, ◌==◌, ◌↔◌, ◌⊎◌, ◌<◌, ◌≤◌, ◌+◌, ◌-◌, ℕ, zero, suc}
-use Rattle.mxf_views.proofs.Common.{List, [], ◌∷◌, ◌++◌, Option, Some, None, true, false, drop}
-use Rattle.mxf_views.proofs.Common.{get_or, length, map, take, refl, sym, ap, subst, inl, inr}
-use Rattle.mxf_views.proofs.Common.{append_assoc, arith, eqb-true, cases_lt, false≢true, eq-eqb}
-use Rattle.mxf_views.proofs.Common.{drop-drop, take_more, same_Some, slice_get-get_or}
-use Rattle.mxf_views.proofs.Common.{slice_get_within, slice_get, AllByRecursion, In, In-append}
-use Rattle.mxf_views.proofs.Common.{IsCover, union_of_runs, LiesIn}
+use Rattle.mxf_views.proofs.Common.{◌≡◌, ◌≢◌, ◌∙◌, ◌==◌, ◌↔◌, ◌⊎◌, ◌<◌, ◌≤◌, ◌+◌, ◌-◌, ℕ, zero, suc, List, [], ◌∷◌}
+use Rattle.mxf_views.proofs.Common.{◌++◌, Option, Some, None, true, false, drop, get_or, length, map, take, refl, sym}
+use Rattle.mxf_views.proofs.Common.{ap, subst, inl, inr, append_assoc, arith, eqb-true, cases_lt, false≢true, eq-eqb}
+use Rattle.mxf_views.proofs.Common.{drop-drop, take_more, same_Some, slice_get-get_or, slice_get_within, slice_get}
+use Rattle.mxf_views.proofs.Common.{AllByRecursion, In, In-append, IsCover, union_of_runs, LiesIn}
 use Rattle.mxf_catalogue.specs.declared.run.Run.{Run}
 use Rattle.std.proofs.Common.{length-take}
 use Rattle.std.specs.Prelude.{Err, IfSome, Ok, OnOk, Result}
-use Rattle.mxf_hand.specs.Given.{AreAtHand, AreTold, Differ, HaveExtents, IsGiven, IsGivenAs}
-use Rattle.mxf_hand.specs.Given.{SourceParts, StandAt}
-use Rattle.mxf_hand.specs.Differing.{AreCompared, AreJoined, DifferAt, GivesAll, GivesAt}
-use Rattle.mxf_hand.specs.Differing.{IsCompared, IsDifferenceOf, IsOverlap, IsPartCompared}
-use Rattle.mxf_hand.specs.Differing.{LiesInOne, run_of_difference, with_bytes}
+use Rattle.mxf_hand.specs.Given.{AreAtHand, AreTold, Differ, HaveExtents, IsGiven, IsGivenAs, SourceParts, StandAt}
+use Rattle.mxf_hand.specs.Differing.{AreCompared, AreJoined, DifferAt, GivesAll, GivesAt, IsCompared, IsDifferenceOf}
+use Rattle.mxf_hand.specs.Differing.{IsOverlap, IsPartCompared, LiesInOne, run_of_difference, with_bytes}
 use Rattle.mxf_hand.specs.Places.{AreApart, ArePlaces, LiesInExtent, LiesInPlace, place}
 use Rattle.mxf_hand.specs.declared.given.Extent.{Extent}
 use Rattle.mxf_hand.specs.declared.given.Place.{Place}
 use Rattle.mxf_hand.specs.declared.given.differing.Difference.{Difference}
-use Rattle.mxf_hand.proofs.DifferingLaws.{found_with_bytes, given_as, joined_are, kept_with_bytes}
-use Rattle.mxf_hand.proofs.DifferingLaws.{lies_in_differences, one_byte, sound_with_bytes}
+use Rattle.mxf_hand.proofs.DifferingLaws.{found_with_bytes, given_as, joined_are, kept_with_bytes, lies_in_differences}
+use Rattle.mxf_hand.proofs.DifferingLaws.{one_byte, sound_with_bytes}
 use Rattle.mxf_hand.proofs.PlaceLaws.{from_low}
 use Rattle.mxf_hand.proofs.ReadBytes.{first_there, rest_there, same_offset}
 

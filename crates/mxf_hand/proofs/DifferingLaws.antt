@@ -1,24 +1,22 @@
 -- Differences as they are noted: what becomes of them where one more is noted, and that those which are joined by their
 -- first offsets are where sources differ.
-use Rattle.mxf_views.proofs.Common.{◌≡◌, ◌≢◌, ◌∙◌, ◌==◌, ◌↔◌, ◌⊎◌, ◌<◌, ◌≤◌, ◌+◌, ◌-◌, ℕ, zero, suc}
-use Rattle.mxf_views.proofs.Common.{List, [], ◌∷◌, ◌++◌, None, Some, true, false, if◌then◌else◌}
-use Rattle.mxf_views.proofs.Common.{get_or, length, map, max, nat_le, nat_lt, refl, sym, ap, subst}
-use Rattle.mxf_views.proofs.Common.{inl, inr, arith, eq-eqb, eqb-true, lt-ltb, ltb-true}
-use Rattle.mxf_views.proofs.Common.{at_drop_all, and_from, and_parts, cases_lt, false≢true}
-use Rattle.mxf_views.proofs.Common.{Contains-permutation, IsPermutation-sym, same_Some}
-use Rattle.mxf_views.proofs.Common.{slice_get-get_or, slice_get, slice_set, AllByRecursion}
-use Rattle.mxf_views.proofs.Common.{IsNonDecreasingBy, IsPermutation, In, Contains-from_In}
-use Rattle.mxf_views.proofs.Common.{In-from_Contains, In-map, all-In, all_from_In, IsCover}
-use Rattle.mxf_views.proofs.Common.{union_of_runs, union_of_runs-IsUnion, LiesIn}
+use Rattle.mxf_views.proofs.Common.{◌≡◌, ◌≢◌, ◌∙◌, ◌==◌, ◌↔◌, ◌⊎◌, ◌<◌, ◌≤◌, ◌+◌, ◌-◌, ℕ, zero, suc, List, [], ◌∷◌}
+use Rattle.mxf_views.proofs.Common.{◌++◌, None, Some, true, false, if◌then◌else◌, get_or, length, map, max, nat_le}
+use Rattle.mxf_views.proofs.Common.{nat_lt, refl, sym, ap, subst, inl, inr, arith, eq-eqb, eqb-true, lt-ltb, ltb-true}
+use Rattle.mxf_views.proofs.Common.{at_drop_all, and_from, and_parts, cases_lt, false≢true, Contains-permutation}
+use Rattle.mxf_views.proofs.Common.{IsPermutation-sym, same_Some, slice_get-get_or, slice_get, slice_set}
+use Rattle.mxf_views.proofs.Common.{AllByRecursion, IsNonDecreasingBy, IsPermutation, In, Contains-from_In}
+use Rattle.mxf_views.proofs.Common.{In-from_Contains, In-map, all-In, all_from_In, IsCover, union_of_runs}
+use Rattle.mxf_views.proofs.Common.{union_of_runs-IsUnion, LiesIn}
 use Rattle.mxf_catalogue.specs.declared.run.Run.{Run}
 use Rattle.std.proofs.Common.{leb-true, le-leb}
 use Rattle.std.specs.Prelude.{drop, min, Err, Ok, OnErr, OnOk, Result}
 use Rattle.mxf_klv.specs.declared.memory.OutOfMemory.{OutOfMemory}
 use Rattle.std.proofs.lemmas.Option.{none-some}
 use Rattle.mxf_hand.specs.Given.{Differ, IsDiffering, IsGivenAs, SourceParts}
-use Rattle.mxf_hand.specs.Differing.{AreJoined, DifferAt, GivesAll, GivesAt, IsDifference}
-use Rattle.mxf_hand.specs.Differing.{IsDifferenceOf, LiesInDifference, LiesInOne, difference}
-use Rattle.mxf_hand.specs.Differing.{is_near, run_of_difference, with_all, with_bytes, with_near}
+use Rattle.mxf_hand.specs.Differing.{AreJoined, DifferAt, GivesAll, GivesAt, IsDifference, IsDifferenceOf}
+use Rattle.mxf_hand.specs.Differing.{LiesInDifference, LiesInOne, difference, is_near, run_of_difference, with_all}
+use Rattle.mxf_hand.specs.Differing.{with_bytes, with_near}
 use Rattle.mxf_hand.specs.declared.given.differing.Difference.{Difference}
 use Rattle.mxf_hand.proofs.PlacingLaws.{IsCover-all}
 

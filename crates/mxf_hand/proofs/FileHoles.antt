@@ -1,11 +1,9 @@
 -- Holes and sections of a content of a well-formed file.
-use Rattle.mxf_views.proofs.Common.{◌≡◌, ◌∙◌, ◌≤◌, ◌<◌, ◌+◌, ◌-◌, ℕ, List, [], ◌∷◌, ◌++◌, Option}
-use Rattle.mxf_views.proofs.Common.{None, Some, ap, arith, inl, inr, max, refl, subst, sym}
-use Rattle.mxf_views.proofs.Common.{unwrap_or, cases_lt, NoteParts, PacketParts, kind_of}
-use Rattle.mxf_views.proofs.Common.{covered_end, end_of, note_of, end_after, IsContent, clear_same}
-use Rattle.mxf_views.proofs.Common.{SharesByte-same_offset, covers_below_end, PartitionParts}
-use Rattle.mxf_views.proofs.Common.{RipAtParts, partitions_read, EndsWithRandomIndex}
-use Rattle.mxf_views.proofs.Common.{IsRandomIndexPack, IsWellFormed}
+use Rattle.mxf_views.proofs.Common.{◌≡◌, ◌∙◌, ◌≤◌, ◌<◌, ◌+◌, ◌-◌, ℕ, List, [], ◌∷◌, ◌++◌, Option, None, Some, ap, arith}
+use Rattle.mxf_views.proofs.Common.{inl, inr, max, refl, subst, sym, unwrap_or, cases_lt, NoteParts, PacketParts}
+use Rattle.mxf_views.proofs.Common.{kind_of, covered_end, end_of, note_of, end_after, IsContent, clear_same}
+use Rattle.mxf_views.proofs.Common.{SharesByte-same_offset, covers_below_end, PartitionParts, RipAtParts}
+use Rattle.mxf_views.proofs.Common.{partitions_read, EndsWithRandomIndex, IsRandomIndexPack, IsWellFormed}
 use Rattle.mxf_views.specs.declared.random_index.RipView.TheVariants.{One}
 use Rattle.mxf_views.proofs.RandomIndexLaws.{rip_view_iff}
 use Rattle.mxf_places.specs.AtHand.{LiesInRange, nothing_at_hand}

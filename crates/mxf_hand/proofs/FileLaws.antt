@@ -1,18 +1,14 @@
 -- Of a file's bytes only packets of the file are put together.
-use Rattle.mxf_views.proofs.Common.{◌≡◌, ◌∙◌, ◌≤◌, ◌<◌, ◌+◌, ◌-◌, ◌&&◌, ◌++◌, ℕ, zero, suc, true}
-use Rattle.mxf_views.proofs.Common.{false, not, List, [], ◌∷◌, ◌==◌, Option, None, Some, ap, arith}
-use Rattle.mxf_views.proofs.Common.{cond, drop, filter, inl, inr, length, append_assoc, get_or}
-use Rattle.mxf_views.proofs.Common.{length-append, map, nat_lt, refl, subst, sym, take}
-use Rattle.mxf_views.proofs.Common.{take-append_seam, and_parts, cases_lt}
-use Rattle.mxf_views.proofs.Common.{length-map-range_with_len, same_Some, slice_get-get_or}
-use Rattle.mxf_views.proofs.Common.{slice_get, range_with_len, option_map_or, LengthParts}
-use Rattle.mxf_views.proofs.Common.{NoteParts, PacketParts, head_parts, packet_parts}
-use Rattle.mxf_views.proofs.Common.{BeginsWithKeyAndLength, covered_end, end_of, head_note, note_of}
-use Rattle.mxf_views.proofs.Common.{size_of, AreLaid, BeginsWithCut, end_after, notes_from, rest_in}
-use Rattle.mxf_views.proofs.Common.{In, spelled_len, In-append, In-filter, In-flat_map, In-map}
-use Rattle.mxf_views.proofs.Common.{notes_from-append, seam, head_at-head, length-spelled}
-use Rattle.mxf_views.proofs.Common.{some_piece, spelled-length_bytes, has_note, IsCover, LiesIn}
-use Rattle.mxf_views.proofs.Common.{has-reduced_union}
+use Rattle.mxf_views.proofs.Common.{◌≡◌, ◌∙◌, ◌≤◌, ◌<◌, ◌+◌, ◌-◌, ◌&&◌, ◌++◌, ℕ, zero, suc, true, false, not, List, []}
+use Rattle.mxf_views.proofs.Common.{◌∷◌, ◌==◌, Option, None, Some, ap, arith, cond, drop, filter, inl, inr, length}
+use Rattle.mxf_views.proofs.Common.{append_assoc, get_or, length-append, map, nat_lt, refl, subst, sym, take}
+use Rattle.mxf_views.proofs.Common.{take-append_seam, and_parts, cases_lt, length-map-range_with_len, same_Some}
+use Rattle.mxf_views.proofs.Common.{slice_get-get_or, slice_get, range_with_len, option_map_or, LengthParts, NoteParts}
+use Rattle.mxf_views.proofs.Common.{PacketParts, head_parts, packet_parts, BeginsWithKeyAndLength, covered_end, end_of}
+use Rattle.mxf_views.proofs.Common.{head_note, note_of, size_of, AreLaid, BeginsWithCut, end_after, notes_from, rest_in}
+use Rattle.mxf_views.proofs.Common.{In, spelled_len, In-append, In-filter, In-flat_map, In-map, notes_from-append, seam}
+use Rattle.mxf_views.proofs.Common.{head_at-head, length-spelled, some_piece, spelled-length_bytes, has_note, IsCover}
+use Rattle.mxf_views.proofs.Common.{LiesIn, has-reduced_union}
 use Rattle.std.proofs.Common.{take-append-drop}
 use Rattle.std.proofs.lemmas.List.{get_or-append_right, get_or_append_left, get_or_past}
 use Rattle.mxf_klv.specs.Piece.{BeginsWithNone}
@@ -25,15 +21,12 @@ use Rattle.mxf_places.proofs.AtHandLaws.{has_offsets-says}
 use Rattle.mxf_restore.specs.Plan.{is_head_to, start_of}
 use Rattle.mxf_restore.specs.Sections.{sections_of}
 use Rattle.mxf_restore.specs.declared.section.Section.{Section}
-use Rattle.mxf_hand.specs.File.{AreBytesOfFile, AreOfFile, BeginAtPackets, IsAllAtHand, IsBoundary}
-use Rattle.mxf_hand.specs.File.{IsOfFile}
-use Rattle.mxf_hand.specs.Hand.{HandBytes, is_value_at_hand, packet_of, read_bytes, read_heads}
-use Rattle.mxf_hand.specs.Hand.{read_packets, read_to}
+use Rattle.mxf_hand.specs.File.{AreBytesOfFile, AreOfFile, BeginAtPackets, IsAllAtHand, IsBoundary, IsOfFile}
+use Rattle.mxf_hand.specs.Hand.{HandBytes, is_value_at_hand, packet_of, read_bytes, read_heads, read_packets, read_to}
 use Rattle.mxf_hand.specs.Heads.{fits, fitting, heads_to}
-use Rattle.mxf_hand.specs.Rounds.{heads_taken, is_taken, made_in, packets_in, put_together}
-use Rattle.mxf_hand.specs.Rounds.{read_heads_in, read_heads_of, read_in, round, rounds, taken_in}
-use Rattle.mxf_hand.specs.Sections.{ends_within, from_of, heads_of, made_by, made_of, packets_of}
-use Rattle.mxf_hand.specs.Sections.{read_from}
+use Rattle.mxf_hand.specs.Rounds.{heads_taken, is_taken, made_in, packets_in, put_together, read_heads_in}
+use Rattle.mxf_hand.specs.Rounds.{read_heads_of, read_in, round, rounds, taken_in}
+use Rattle.mxf_hand.specs.Sections.{ends_within, from_of, heads_of, made_by, made_of, packets_of, read_from}
 use Rattle.mxf_hand.specs.declared.found.CutHead.{CutHead}
 use Rattle.mxf_hand.proofs.ClearLaws.{cut_head}
 use Rattle.mxf_hand.proofs.HandLaws.{at_fits, read_lies}

@@ -1,8 +1,7 @@
 -- What is found of sections.
-use Rattle.mxf_views.proofs.Common.{◌≡◌, ◌∙◌, ◌↔◌, ◌⊎◌, ◌≤◌, ◌+◌, ℕ, List, [], ◌∷◌, ◌++◌, ap, arith}
-use Rattle.mxf_views.proofs.Common.{inl, inr, map, refl, append-nil, append_assoc, subst, sym}
-use Rattle.mxf_views.proofs.Common.{map-append, NoteParts, In, In-append, reduced_union}
-use Rattle.mxf_views.proofs.Common.{reduced_with, LiesIn-with_run, with_run, LiesIn, run, ◌<◌, drop}
+use Rattle.mxf_views.proofs.Common.{◌≡◌, ◌∙◌, ◌↔◌, ◌⊎◌, ◌≤◌, ◌+◌, ℕ, List, [], ◌∷◌, ◌++◌, ap, arith, inl, inr, map}
+use Rattle.mxf_views.proofs.Common.{refl, append-nil, append_assoc, subst, sym, map-append, NoteParts, In, In-append}
+use Rattle.mxf_views.proofs.Common.{reduced_union, reduced_with, LiesIn-with_run, with_run, LiesIn, run, ◌<◌, drop}
 use Rattle.mxf_views.proofs.Common.{get_or, length, drop_all}
 use Rattle.mxf_catalogue.specs.declared.run.Run.{Run}
 use Rattle.mxf_read.proofs.Taking.{union_append}

@@ -1,10 +1,8 @@
 -- Bytes at hand of a head's key and length, run after run.
-use Rattle.mxf_views.proofs.Common.{◌≡◌, ◌≢◌, false, ◌∙◌, ◌≤◌, ◌<◌, ◌+◌, ◌-◌, ℕ, List, Some, ap}
-use Rattle.mxf_views.proofs.Common.{arith, filter, get_or, length, length-append, nat_lt, subst}
-use Rattle.mxf_views.proofs.Common.{sym, and_from, and_parts, false_from_ne_true}
-use Rattle.mxf_views.proofs.Common.{length-map-range_with_len, NoteParts, IsNote, length_bytes, In}
-use Rattle.mxf_views.proofs.Common.{spelled_len, In-filter, length_bytes-spelled, is_between}
-use Rattle.mxf_views.proofs.Common.{LiesIn}
+use Rattle.mxf_views.proofs.Common.{◌≡◌, ◌≢◌, false, ◌∙◌, ◌≤◌, ◌<◌, ◌+◌, ◌-◌, ℕ, List, Some, ap, arith, filter, get_or}
+use Rattle.mxf_views.proofs.Common.{length, length-append, nat_lt, subst, sym, and_from, and_parts, false_from_ne_true}
+use Rattle.mxf_views.proofs.Common.{length-map-range_with_len, NoteParts, IsNote, length_bytes, In, spelled_len}
+use Rattle.mxf_views.proofs.Common.{In-filter, length_bytes-spelled, is_between, LiesIn}
 use Rattle.mxf_catalogue.specs.declared.run.Run.{Run}
 use Rattle.std.proofs.lemmas.Bool.{lt-ltb, ltb-true}
 use Rattle.std.proofs.lemmas.List.FromFn.{get_or-map-range_with_len}

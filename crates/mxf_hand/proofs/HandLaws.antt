@@ -1,10 +1,9 @@
 -- Runs of bytes at hand.
-use Rattle.mxf_views.proofs.Common.{◌≡◌, ◌∙◌, ◌≤◌, ◌<◌, ◌+◌, ◌-◌, ◌&&◌, ◌||◌, ◌==◌, ℕ, zero, suc}
-use Rattle.mxf_views.proofs.Common.{Bool, true, false, List, [], ◌∷◌, Option, None, Some, ap, arith}
-use Rattle.mxf_views.proofs.Common.{cond, filter, find, get_or, inl, inr, nat_le, nat_lt, not, refl}
-use Rattle.mxf_views.proofs.Common.{subst, sym, le-leb, leb-true, lt-leb, ltb-false, range_with_len}
-use Rattle.mxf_views.proofs.Common.{option_map_or, NoteParts, In, In-list_all, found-In}
-use Rattle.mxf_views.proofs.Common.{list_all-In, equals_itself, is_between, LiesIn, same_covers}
+use Rattle.mxf_views.proofs.Common.{◌≡◌, ◌∙◌, ◌≤◌, ◌<◌, ◌+◌, ◌-◌, ◌&&◌, ◌||◌, ◌==◌, ℕ, zero, suc, Bool, true, false}
+use Rattle.mxf_views.proofs.Common.{List, [], ◌∷◌, Option, None, Some, ap, arith, cond, filter, find, get_or, inl, inr}
+use Rattle.mxf_views.proofs.Common.{nat_le, nat_lt, not, refl, subst, sym, le-leb, leb-true, lt-leb, ltb-false}
+use Rattle.mxf_views.proofs.Common.{range_with_len, option_map_or, NoteParts, In, In-list_all, found-In, list_all-In}
+use Rattle.mxf_views.proofs.Common.{equals_itself, is_between, LiesIn, same_covers}
 use Rattle.mxf_catalogue.specs.declared.run.Run.{Run}
 use Rattle.std.proofs.lemmas.Bool.{ltb-true}
 use Rattle.std.specs.Option.{option_and_then}

@@ -1,12 +1,10 @@
 -- Heads and where their key and length end.
-use Rattle.mxf_views.proofs.Common.{◌≡◌, ◌∙◌, ◌≤◌, ◌<◌, ◌+◌, ◌-◌, ◌&&◌, ◌==◌, ℕ, Bool, true, false}
-use Rattle.mxf_views.proofs.Common.{List, [], ◌∷◌, Option, None, Some, ap, arith, cond, filter}
-use Rattle.mxf_views.proofs.Common.{find, inl, inr, map, nat_le, nat_lt, not, refl, subst, sym}
-use Rattle.mxf_views.proofs.Common.{and_from, le-leb, slice_get, option_map_or, NoteParts, IsNote}
-use Rattle.mxf_views.proofs.Common.{covered_end, In, In-filter, In-map, all-In, equals_itself, ◌++◌}
-use Rattle.mxf_views.proofs.Common.{append-nil, append_assoc, drop, get_or, length, length-map}
-use Rattle.mxf_views.proofs.Common.{at_drop_all, at_drop_more, IsNonDecreasingBy, IsCatalogue}
-use Rattle.mxf_views.proofs.Common.{IsContent-filter, offsets_rise}
+use Rattle.mxf_views.proofs.Common.{◌≡◌, ◌∙◌, ◌≤◌, ◌<◌, ◌+◌, ◌-◌, ◌&&◌, ◌==◌, ℕ, Bool, true, false, List, [], ◌∷◌}
+use Rattle.mxf_views.proofs.Common.{Option, None, Some, ap, arith, cond, filter, find, inl, inr, map, nat_le, nat_lt}
+use Rattle.mxf_views.proofs.Common.{not, refl, subst, sym, and_from, le-leb, slice_get, option_map_or, NoteParts}
+use Rattle.mxf_views.proofs.Common.{IsNote, covered_end, In, In-filter, In-map, all-In, equals_itself, ◌++◌, append-nil}
+use Rattle.mxf_views.proofs.Common.{append_assoc, drop, get_or, length, length-map, at_drop_all, at_drop_more}
+use Rattle.mxf_views.proofs.Common.{IsNonDecreasingBy, IsCatalogue, IsContent-filter, offsets_rise}
 use Rattle.std.proofs.lemmas.Bool.{lt-ltb}
 use Rattle.mxf_restore.specs.Plan.{is_head_to, start_of}
 use Rattle.std.proofs.Math.ListN.{get_or-map}

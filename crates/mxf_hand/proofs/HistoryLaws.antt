@@ -1,8 +1,7 @@
 -- What was put together, as what calls leave.
-use Rattle.mxf_views.proofs.Common.{◌≡◌, ◌∙◌, ℕ, zero, suc, List, [], ◌∷◌, ap, inl, inr, refl, sym}
-use Rattle.mxf_views.proofs.Common.{NoteParts, AreReduced, IsContent, has_note, reduced_union, Add}
-use Rattle.mxf_views.proofs.Common.{Hands, History, content, AreReduced-reduced_union}
-use Rattle.mxf_views.proofs.Common.{IsContent-reduced_union, has-reduced_union, one_reduced}
+use Rattle.mxf_views.proofs.Common.{◌≡◌, ◌∙◌, ℕ, zero, suc, List, [], ◌∷◌, ap, inl, inr, refl, sym, NoteParts}
+use Rattle.mxf_views.proofs.Common.{AreReduced, IsContent, has_note, reduced_union, Add, Hands, History, content}
+use Rattle.mxf_views.proofs.Common.{AreReduced-reduced_union, IsContent-reduced_union, has-reduced_union, one_reduced}
 use Rattle.mxf_restore.specs.Sections.{sections_of}
 use Rattle.mxf_hand.specs.Hand.{HandBytes}
 use Rattle.mxf_hand.specs.Rounds.{put_together, round, rounds, taken_in}

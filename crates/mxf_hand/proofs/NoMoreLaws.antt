@@ -1,11 +1,9 @@
 -- Where all packets of a file are held, a round changes nothing.
-use Rattle.mxf_views.proofs.Common.{◌≡◌, ◌∙◌, ◌≤◌, ◌-◌, ◌&&◌, ◌++◌, ◌==◌, ℕ, not, List, [], ◌∷◌}
-use Rattle.mxf_views.proofs.Common.{Option, Some, ap, arith, filter, flat_map, inl, inr, map, refl}
-use Rattle.mxf_views.proofs.Common.{and_parts, cases_lt, slice_get_within, range_with_len}
-use Rattle.mxf_views.proofs.Common.{option_map_or, NoteParts, PacketParts, covered_end, end_after}
-use Rattle.mxf_views.proofs.Common.{notes_from, head_at, heads_at, In, filter_none, find-none}
-use Rattle.mxf_views.proofs.Common.{none_at_end, packets_in-none, rest_in-none, reduced_union}
-use Rattle.mxf_views.proofs.Common.{is_whole, IsContent-laid}
+use Rattle.mxf_views.proofs.Common.{◌≡◌, ◌∙◌, ◌≤◌, ◌-◌, ◌&&◌, ◌++◌, ◌==◌, ℕ, not, List, [], ◌∷◌, Option, Some, ap}
+use Rattle.mxf_views.proofs.Common.{arith, filter, flat_map, inl, inr, map, refl, and_parts, cases_lt, slice_get_within}
+use Rattle.mxf_views.proofs.Common.{range_with_len, option_map_or, NoteParts, PacketParts, covered_end, end_after}
+use Rattle.mxf_views.proofs.Common.{notes_from, head_at, heads_at, In, filter_none, find-none, none_at_end}
+use Rattle.mxf_views.proofs.Common.{packets_in-none, rest_in-none, reduced_union, is_whole, IsContent-laid}
 use Rattle.mxf_klv.specs.PieceReading.{packets_in as packets_of_piece}
 use Rattle.mxf_hand.specs.Noting.{cut_heads, packet_notes}
 use Rattle.mxf_restore.specs.Plan.{is_head_to, start_of}

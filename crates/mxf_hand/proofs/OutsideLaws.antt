@@ -1,10 +1,8 @@
 -- The offsets of runs that aren't in others.
-use Rattle.mxf_views.proofs.Common.{◌≡◌, ◌↔◌, ◌⊎◌, ◌<◌, ◌≤◌, ◌+◌, ℕ, List, [], ◌∷◌, Some, true}
-use Rattle.mxf_views.proofs.Common.{false, filter, if◌then◌else◌, max, min, nat_lt, refl, inl, inr}
-use Rattle.mxf_views.proofs.Common.{arith, lt-ltb, ltb-true, and_from, cases_lt, AllByRecursion}
-use Rattle.mxf_views.proofs.Common.{greatest_end, In-filter, IsCover, IsRun, LiesIn-with_run}
-use Rattle.mxf_views.proofs.Common.{is_between, with_run, AreMaximal, LiesIn, run, IsCover-with_run}
-use Rattle.mxf_views.proofs.Common.{AreMaximal-lower}
+use Rattle.mxf_views.proofs.Common.{◌≡◌, ◌↔◌, ◌⊎◌, ◌<◌, ◌≤◌, ◌+◌, ℕ, List, [], ◌∷◌, Some, true, false, filter}
+use Rattle.mxf_views.proofs.Common.{if◌then◌else◌, max, min, nat_lt, refl, inl, inr, arith, lt-ltb, ltb-true, and_from}
+use Rattle.mxf_views.proofs.Common.{cases_lt, AllByRecursion, greatest_end, In-filter, IsCover, IsRun, LiesIn-with_run}
+use Rattle.mxf_views.proofs.Common.{is_between, with_run, AreMaximal, LiesIn, run, IsCover-with_run, AreMaximal-lower}
 use Rattle.mxf_catalogue.specs.declared.run.Run.{Run}
 use Rattle.std.proofs.Common.{ltb-false}
 use Rattle.mxf_catalogue.specs.Covers.{LiesIn-first}

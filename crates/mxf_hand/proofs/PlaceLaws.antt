@@ -1,7 +1,6 @@
 -- Places that rise: which of them has an offset.
-use Rattle.mxf_views.proofs.Common.{◌≡◌, ◌<◌, ◌≤◌, ℕ, zero, suc, List, [], ◌∷◌, Some, refl, sym, ap}
-use Rattle.mxf_views.proofs.Common.{subst, arith, inl, inr, length, get_or, slice_get, IfNone}
-use Rattle.mxf_views.proofs.Common.{AllWithin, IsNonDecreasingBy, In, LiesIn}
+use Rattle.mxf_views.proofs.Common.{◌≡◌, ◌<◌, ◌≤◌, ℕ, zero, suc, List, [], ◌∷◌, Some, refl, sym, ap, subst, arith, inl}
+use Rattle.mxf_views.proofs.Common.{inr, length, get_or, slice_get, IfNone, AllWithin, IsNonDecreasingBy, In, LiesIn}
 use Rattle.mxf_catalogue.specs.declared.run.Run.{Run}
 use Rattle.std.specs.Prelude.{None, Option}
 use Rattle.mxf_hand.specs.Places.{AreApart, ArePlaces, LiesInPlace}

@@ -1,15 +1,13 @@
 -- The places and overlaps of extents: what they are of spans that rise by their starts.
-use Rattle.mxf_views.proofs.Common.{◌≡◌, ◌∙◌, ◌↔◌, ◌⊎◌, ◌<◌, ◌≤◌, ◌+◌, ℕ, zero, suc, List, [], ◌∷◌}
-use Rattle.mxf_views.proofs.Common.{◌++◌, Some, true, false, if◌then◌else◌, length, map, max, min}
-use Rattle.mxf_views.proofs.Common.{nat_lt, refl, sym, ap, subst, inl, inr, arith, lt-ltb, ltb-true}
-use Rattle.mxf_views.proofs.Common.{cases_lt, Contains-permutation, IsPermutation-sym, same_Some}
-use Rattle.mxf_views.proofs.Common.{slice_get, IsNonDecreasingBy, In, Contains-from_In, In-append}
-use Rattle.mxf_views.proofs.Common.{In-from_Contains, In-map, IsCover, IsRun, union_of_runs}
-use Rattle.mxf_views.proofs.Common.{union_of_runs-IsUnion, with_run, LiesIn, IsCover-with_run}
+use Rattle.mxf_views.proofs.Common.{◌≡◌, ◌∙◌, ◌↔◌, ◌⊎◌, ◌<◌, ◌≤◌, ◌+◌, ℕ, zero, suc, List, [], ◌∷◌, ◌++◌, Some, true}
+use Rattle.mxf_views.proofs.Common.{false, if◌then◌else◌, length, map, max, min, nat_lt, refl, sym, ap, subst, inl, inr}
+use Rattle.mxf_views.proofs.Common.{arith, lt-ltb, ltb-true, cases_lt, Contains-permutation, IsPermutation-sym}
+use Rattle.mxf_views.proofs.Common.{same_Some, slice_get, IsNonDecreasingBy, In, Contains-from_In, In-append}
+use Rattle.mxf_views.proofs.Common.{In-from_Contains, In-map, IsCover, IsRun, union_of_runs, union_of_runs-IsUnion}
+use Rattle.mxf_views.proofs.Common.{with_run, LiesIn, IsCover-with_run}
 use Rattle.mxf_catalogue.specs.declared.run.Run.{Run}
-use Rattle.mxf_hand.specs.Places.{AreApart, ArePlaces, AreSpans, GivenParts, IsPlaceOf}
-use Rattle.mxf_hand.specs.Places.{LiesInExtent, LiesInPlace, overlaps_below, place, places_above}
-use Rattle.mxf_hand.specs.Places.{run_of, some_place, spans_from}
+use Rattle.mxf_hand.specs.Places.{AreApart, ArePlaces, AreSpans, GivenParts, IsPlaceOf, LiesInExtent, LiesInPlace}
+use Rattle.mxf_hand.specs.Places.{overlaps_below, place, places_above, run_of, some_place, spans_from}
 use Rattle.mxf_hand.specs.declared.given.Extent.{Extent}
 use Rattle.mxf_hand.specs.declared.given.Place.{Place}
 

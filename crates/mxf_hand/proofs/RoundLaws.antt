@@ -1,9 +1,7 @@
 -- Rounds, and contents to which notes are added in two steps.
-use Rattle.mxf_views.proofs.Common.{◌≡◌, ◌∙◌, ℕ, zero, suc, List, [], ◌∷◌, ◌++◌, ap, inl, inr, refl}
-use Rattle.mxf_views.proofs.Common.{sym, NoteParts, In, AreReduced, IsContent, has_note}
-use Rattle.mxf_views.proofs.Common.{reduced_union, AreReduced-reduced_union}
-use Rattle.mxf_views.proofs.Common.{IsContent-reduced_union, has-reduced_union, one_reduced}
-use Rattle.mxf_views.proofs.Common.{reduced_with-present}
+use Rattle.mxf_views.proofs.Common.{◌≡◌, ◌∙◌, ℕ, zero, suc, List, [], ◌∷◌, ◌++◌, ap, inl, inr, refl, sym, NoteParts, In}
+use Rattle.mxf_views.proofs.Common.{AreReduced, IsContent, has_note, reduced_union, AreReduced-reduced_union}
+use Rattle.mxf_views.proofs.Common.{IsContent-reduced_union, has-reduced_union, one_reduced, reduced_with-present}
 use Rattle.mxf_hand.specs.Hand.{HandBytes}
 use Rattle.mxf_restore.specs.Sections.{sections_of}
 use Rattle.mxf_read.proofs.Taking.{union_append}

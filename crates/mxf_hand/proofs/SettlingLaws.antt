@@ -1,13 +1,11 @@
 -- For which stops of pieces what is held makes up.
-use Rattle.mxf_views.proofs.Common.{◌≡◌, ◌↔◌, ◌∙◌, ℕ, ◌+◌, ◌<◌, ◌≤◌, ◌==◌, ◌&&◌, Bool, true, false}
-use Rattle.mxf_views.proofs.Common.{IsTrue, not, nat_lt, List, Option, Some, None, arith, ap}
-use Rattle.mxf_views.proofs.Common.{eq-eqb, eqb-true, find, inl, inr, refl, subst, sym, lt-ltb, []}
-use Rattle.mxf_views.proofs.Common.{◌∷◌, count_by, filter, length, ltb-true, map, IsNonDecreasingBy}
-use Rattle.mxf_views.proofs.Common.{get_or-map, length-map, range_with_len, option_map_or, and_from}
-use Rattle.mxf_views.proofs.Common.{and_parts, In-filter, In-map, found-In, list_any-In, none_found}
-use Rattle.mxf_views.proofs.Common.{range-all, range-full, same_bool, NoteParts, In, IsContent}
-use Rattle.mxf_views.proofs.Common.{DisputedParts, disputed_notes, is_disputed, undisputed_notes}
-use Rattle.mxf_views.proofs.Common.{offsets_rise, IsContent-filter, In-undisputed_notes}
+use Rattle.mxf_views.proofs.Common.{◌≡◌, ◌↔◌, ◌∙◌, ℕ, ◌+◌, ◌<◌, ◌≤◌, ◌==◌, ◌&&◌, Bool, true, false, IsTrue, not, nat_lt}
+use Rattle.mxf_views.proofs.Common.{List, Option, Some, None, arith, ap, eq-eqb, eqb-true, find, inl, inr, refl, subst}
+use Rattle.mxf_views.proofs.Common.{sym, lt-ltb, [], ◌∷◌, count_by, filter, length, ltb-true, map, IsNonDecreasingBy}
+use Rattle.mxf_views.proofs.Common.{get_or-map, length-map, range_with_len, option_map_or, and_from, and_parts}
+use Rattle.mxf_views.proofs.Common.{In-filter, In-map, found-In, list_any-In, none_found, range-all, range-full}
+use Rattle.mxf_views.proofs.Common.{same_bool, NoteParts, In, IsContent, DisputedParts, disputed_notes, is_disputed}
+use Rattle.mxf_views.proofs.Common.{undisputed_notes, offsets_rise, IsContent-filter, In-undisputed_notes}
 use Rattle.mxf_views.proofs.Common.{SharesByte-same_offset, notes-disputed_notes, same_note}
 use Rattle.mxf_klv.specs.declared.piece.Stop.{Stop}
 use Rattle.std.proofs.Common.{slice_get}
@@ -17,9 +15,8 @@ use Rattle.mxf_places.specs.Held.{IsHeld, is_held}
 use Rattle.mxf_places.proofs.HeldLaws.{is_held-says}
 use Rattle.mxf_read.specs.declared.gathering.report.PieceReport.{PieceReport}
 use Rattle.mxf_hand.specs.declared.given.Extent.{Extent}
-use Rattle.mxf_hand.specs.Settling.{BeginsWhole, IsHeldExtent, IsWholeStop, MakesUpFor}
-use Rattle.mxf_hand.specs.Settling.{begins_whole, is_all_held, disputed_starts, is_whole_stop}
-use Rattle.mxf_hand.specs.Settling.{makes_up_for}
+use Rattle.mxf_hand.specs.Settling.{BeginsWhole, IsHeldExtent, IsWholeStop, MakesUpFor, begins_whole, is_all_held}
+use Rattle.mxf_hand.specs.Settling.{disputed_starts, is_whole_stop, makes_up_for}
 use Rattle.mxf_klv.specs.declared.piece.Stop.TheVariants as stops
 
 begins-says : (notes : List NoteParts) (x : ℕ) → IsTrue (begins_whole notes x) ↔ BeginsWhole notes x

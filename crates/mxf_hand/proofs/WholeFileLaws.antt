@@ -1,15 +1,12 @@
 -- Where all bytes of a well-formed file are at hand, all of its packets are put together.
-use Rattle.mxf_views.proofs.Common.{◌≡◌, ◌∙◌, ◌⊎◌, ◌≤◌, ◌<◌, ◌+◌, ◌-◌, ◌&&◌, ◌++◌, ◌==◌, ℕ, true}
-use Rattle.mxf_views.proofs.Common.{false, not, List, [], ◌∷◌, Option, None, Some, ap, arith, cond}
-use Rattle.mxf_views.proofs.Common.{eqb-true, find, inl, inr, lt-ltb, nat_le, nat_lt, refl, subst}
-use Rattle.mxf_views.proofs.Common.{sym, Bool, and_from, and_parts, cases_lt, ltb-false}
-use Rattle.mxf_views.proofs.Common.{tied_itself, same_Some, option_map_or, NoteParts, PacketParts}
-use Rattle.mxf_views.proofs.Common.{covered_end, end_of, head_note, note_cmp, note_total, end_after}
-use Rattle.mxf_views.proofs.Common.{notes_from, In, In-append, In-filter, In-flat_map, find-none}
-use Rattle.mxf_views.proofs.Common.{find-only, equals_itself, AreReduced, IsContent, has_note}
-use Rattle.mxf_views.proofs.Common.{reduced_union, AreMaximal, LiesIn, apart, is_whole}
-use Rattle.mxf_views.proofs.Common.{same_content, IsContent-filter, SharesByte-same_offset}
-use Rattle.mxf_views.proofs.Common.{has-reduced_union, one_reduced, IsContent-laid}
+use Rattle.mxf_views.proofs.Common.{◌≡◌, ◌∙◌, ◌⊎◌, ◌≤◌, ◌<◌, ◌+◌, ◌-◌, ◌&&◌, ◌++◌, ◌==◌, ℕ, true, false, not, List, []}
+use Rattle.mxf_views.proofs.Common.{◌∷◌, Option, None, Some, ap, arith, cond, eqb-true, find, inl, inr, lt-ltb, nat_le}
+use Rattle.mxf_views.proofs.Common.{nat_lt, refl, subst, sym, Bool, and_from, and_parts, cases_lt, ltb-false}
+use Rattle.mxf_views.proofs.Common.{tied_itself, same_Some, option_map_or, NoteParts, PacketParts, covered_end, end_of}
+use Rattle.mxf_views.proofs.Common.{head_note, note_cmp, note_total, end_after, notes_from, In, In-append, In-filter}
+use Rattle.mxf_views.proofs.Common.{In-flat_map, find-none, find-only, equals_itself, AreReduced, IsContent, has_note}
+use Rattle.mxf_views.proofs.Common.{reduced_union, AreMaximal, LiesIn, apart, is_whole, same_content, IsContent-filter}
+use Rattle.mxf_views.proofs.Common.{SharesByte-same_offset, has-reduced_union, one_reduced, IsContent-laid}
 use Rattle.mxf_views.proofs.Common.{covers_below_end, covers_first, starts_above, IsWellFormed}
 use Rattle.mxf_catalogue.specs.declared.run.Run.{Run}
 use Rattle.std.proofs.Common.{le-leb, Less, Equal}
@@ -24,17 +21,15 @@ use Rattle.mxf_restore.specs.declared.section.Section.{Section}
 use Rattle.mxf_restore.proofs.HoleLaws.{held_or_not}
 use Rattle.mxf_restore.proofs.OrderCover.{start_below}
 use Rattle.mxf_restore.proofs.SectionCover.{are_sections}
-use Rattle.mxf_hand.specs.File.{AreBytesOfFile, AreOfFile, BeginAtPackets, HeadsHaveValues}
-use Rattle.mxf_hand.specs.File.{IsAllAtHand, IsBoundary, IsOfFile}
-use Rattle.mxf_hand.specs.Hand.{HandBytes, is_value_at_hand, packet_of, read_packets, read_to}
-use Rattle.mxf_hand.specs.Hand.{run_end}
+use Rattle.mxf_hand.specs.File.{AreBytesOfFile, AreOfFile, BeginAtPackets, HeadsHaveValues, IsAllAtHand, IsBoundary}
+use Rattle.mxf_hand.specs.File.{IsOfFile}
+use Rattle.mxf_hand.specs.Hand.{HandBytes, is_value_at_hand, packet_of, read_packets, read_to, run_end}
 use Rattle.mxf_hand.specs.Heads.{fits, fitting, heads_to}
-use Rattle.mxf_hand.specs.Rounds.{heads_taken, made_in, packets_in, put_together, round, rounds}
-use Rattle.mxf_hand.specs.Rounds.{taken_in}
+use Rattle.mxf_hand.specs.Rounds.{heads_taken, made_in, packets_in, put_together, round, rounds, taken_in}
 use Rattle.mxf_hand.specs.Sections.{ends_within, from_of, made_by, made_of, packets_of, read_from}
 use Rattle.mxf_hand.proofs.FileHoles.{in_hole}
-use Rattle.mxf_hand.proofs.FileLaws.{behind_note, has_of_file, head_fits, made_of_file, packet_read}
-use Rattle.mxf_hand.proofs.FileLaws.{round_of_file, stands_in}
+use Rattle.mxf_hand.proofs.FileLaws.{behind_note, has_of_file, head_fits, made_of_file, packet_read, round_of_file}
+use Rattle.mxf_hand.proofs.FileLaws.{stands_in}
 use Rattle.mxf_hand.proofs.HeadNoteLaws.{not_whole}
 use Rattle.mxf_hand.proofs.HistoryLaws.{round_content, round_reduced}
 use Rattle.mxf_hand.proofs.NoMoreLaws.{no_more}

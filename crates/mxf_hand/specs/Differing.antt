@@ -1,6 +1,6 @@
 -- Where sources differ, as it is noted (this project's profile).
-use Rattle.std.specs.Prelude.{◌≡◌, ◌≢◌, ◌==◌, ◌&&◌, ◌<◌, ◌≤◌, ℕ, ◌+◌, ◌-◌, List, [], ◌∷◌, Bool, if◌then◌else◌}
-use Rattle.std.specs.Prelude.{max, nat_le, nat_lt, slice_get, Some}
+use Rattle.std.specs.Prelude.{◌≡◌, ◌≢◌, ◌==◌, ◌&&◌, ◌<◌, ◌≤◌, ℕ, ◌+◌, ◌-◌, List, [], ◌∷◌, Bool, if◌then◌else◌, max}
+use Rattle.std.specs.Prelude.{nat_le, nat_lt, slice_get, Some}
 use Rattle.std.specs.List.{AllByRecursion}
 use Rattle.std.specs.List.Sorted.{IsNonDecreasingBy, IsPermutation}
 use Rattle.mxf_klv.specs.Note.{greatest_end}

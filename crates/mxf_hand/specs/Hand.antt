@@ -1,6 +1,5 @@
 -- The bytes at hand, and readings of them (this project's profile).
-use Rattle.std.specs.Prelude.{◌≡◌, ◌&&◌, ℕ, Bool, if◌then◌else◌, nat_le, nat_lt, List, Option, None, Some}
-use Rattle.std.specs.Prelude.{find, not}
+use Rattle.std.specs.Prelude.{◌≡◌, ◌&&◌, ℕ, Bool, if◌then◌else◌, nat_le, nat_lt, List, Option, None, Some, find, not}
 use Rattle.std.specs.Option.{option_and_then, option_map_or}
 use Rattle.mxf_klv.specs.Parts.{NoteParts, packet_parts}
 use Rattle.mxf_klv.specs.Note.{covered_end, end_of, note_of}

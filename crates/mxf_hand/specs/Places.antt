@@ -1,6 +1,6 @@
 -- Which source a byte is read of, if several give it (this project's profile).
-use Rattle.std.specs.Prelude.{◌≡◌, ◌↔◌, ◌⊎◌, ◌<◌, ◌≤◌, ℕ, ◌+◌, List, [], ◌∷◌, ◌++◌, slice_get, Some}
-use Rattle.std.specs.Prelude.{if◌then◌else◌, max, min, nat_lt}
+use Rattle.std.specs.Prelude.{◌≡◌, ◌↔◌, ◌⊎◌, ◌<◌, ◌≤◌, ℕ, ◌+◌, List, [], ◌∷◌, ◌++◌, slice_get, Some, if◌then◌else◌, max}
+use Rattle.std.specs.Prelude.{min, nat_lt}
 use Rattle.std.specs.List.Sorted.{IsNonDecreasingBy, IsPermutation}
 use Rattle.mxf_klv.specs.Rising.{In}
 use Rattle.mxf_catalogue.specs.declared.run.Run.{Run}

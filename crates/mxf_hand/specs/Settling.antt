@@ -1,6 +1,6 @@
 -- For which stops of pieces what is held makes up (this project's profile).
-use Rattle.std.specs.Prelude.{◌≡◌, ℕ, ◌+◌, ◌<◌, ◌≤◌, ◌==◌, ◌&&◌, Bool, true, false, nat_lt, if◌then◌else◌, List}
-use Rattle.std.specs.Prelude.{Some, count_by, filter, map, slice_get}
+use Rattle.std.specs.Prelude.{◌≡◌, ℕ, ◌+◌, ◌<◌, ◌≤◌, ◌==◌, ◌&&◌, Bool, true, false, nat_lt, if◌then◌else◌, List, Some}
+use Rattle.std.specs.Prelude.{count_by, filter, map, slice_get}
 use Rattle.std.specs.List.{list_any, range_with_len}
 use Rattle.std.specs.Option.{option_map_or}
 use Rattle.mxf_klv.specs.Parts.{NoteParts}

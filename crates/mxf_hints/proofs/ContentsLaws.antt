@@ -1,6 +1,6 @@
 -- What sources hold, each by itself, one source after another.
-use Rattle.mxf_views.proofs.Common.{◌≡◌, ◌∙◌, ◌+◌, ◌++◌, ℕ, Option, List, [], ◌∷◌, ap, append-nil}
-use Rattle.mxf_views.proofs.Common.{arith, length, map, refl, subst, sym, NoteParts, IsTheRun}
+use Rattle.mxf_views.proofs.Common.{◌≡◌, ◌∙◌, ◌+◌, ◌++◌, ℕ, Option, List, [], ◌∷◌, ap, append-nil, arith, length, map}
+use Rattle.mxf_views.proofs.Common.{refl, subst, sym, NoteParts, IsTheRun}
 use Rattle.mxf_read.specs.declared.gathering.part.Part.{Part}
 use Rattle.mxf_read.specs.declared.gathering.part.Part.TheVariants.{Piece, Range, Saved}
 use Rattle.mxf_read.specs.declared.gathering.report.PieceReport.{PieceReport}

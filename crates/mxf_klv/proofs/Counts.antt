@@ -1,6 +1,6 @@
 -- How many elements of a list pass a test, and how many numbers of a range.
-use Rattle.mxf_klv.proofs.Common.{◌≡◌, ℕ, zero, suc, ◌+◌, ◌<◌, ◌≤◌, Bool, true, false, cond, List}
-use Rattle.mxf_klv.proofs.Common.{[], ◌∷◌, count_by, refl, ap, inr, arith, sum_by-cons, In}
+use Rattle.mxf_klv.proofs.Common.{◌≡◌, ℕ, zero, suc, ◌+◌, ◌<◌, ◌≤◌, Bool, true, false, cond, List, [], ◌∷◌, count_by}
+use Rattle.mxf_klv.proofs.Common.{refl, ap, inr, arith, sum_by-cons, In}
 use Rattle.std.specs.List.{range_with_len}
 
 abbrev pub tally : Bool → ℕ

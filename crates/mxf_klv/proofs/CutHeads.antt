@@ -1,11 +1,9 @@
 -- The head of a packet that is cut.
-use Rattle.mxf_klv.proofs.Common.{◌≡◌, ◌↔◌, ℕ, ◌+◌, ◌<◌, ◌≤◌, true, false, cond, nat_lt, List, []}
-use Rattle.mxf_klv.proofs.Common.{◌∷◌, IfSome, length, take, drop, Option, None, Some, refl, sym}
-use Rattle.mxf_klv.proofs.Common.{ap, subst, ◌∙◌, arith, inl, inr, option_map_or, leb-true}
-use Rattle.mxf_klv.proofs.Common.{ltb-true, le-leb, lt-leb, lt-ltb, and_parts, and_from, cond-true}
-use Rattle.mxf_klv.proofs.Common.{cond-false, take_at, LengthParts, NoteParts, head_parts}
-use Rattle.mxf_klv.proofs.Common.{greatest_end, BeginsWithKeyAndLength, HasNoKeyAndLength, head_at}
-use Rattle.mxf_klv.proofs.Common.{stop_of, In}
+use Rattle.mxf_klv.proofs.Common.{◌≡◌, ◌↔◌, ℕ, ◌+◌, ◌<◌, ◌≤◌, true, false, cond, nat_lt, List, [], ◌∷◌, IfSome, length}
+use Rattle.mxf_klv.proofs.Common.{take, drop, Option, None, Some, refl, sym, ap, subst, ◌∙◌, arith, inl, inr}
+use Rattle.mxf_klv.proofs.Common.{option_map_or, leb-true, ltb-true, le-leb, lt-leb, lt-ltb, and_parts, and_from}
+use Rattle.mxf_klv.proofs.Common.{cond-true, cond-false, take_at, LengthParts, NoteParts, head_parts, greatest_end}
+use Rattle.mxf_klv.proofs.Common.{BeginsWithKeyAndLength, HasNoKeyAndLength, head_at, stop_of, In}
 use Rattle.mxf_klv.specs.declared.piece.Stop.TheVariants.{Truncated}
 use Rattle.std.specs.Prelude.{IfNone}
 use Rattle.std.proofs.lemmas.Bool.{le-ltb, and_left, and_right}

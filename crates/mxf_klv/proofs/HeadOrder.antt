@@ -1,8 +1,7 @@
 -- Where a head stands in the order of notes: directly before the notes of the whole packet.
-use Rattle.mxf_klv.proofs.Common.{bool_cmp, eq_by_cmp, nat_cmp, ordering_then, IsTotalOrder}
-use Rattle.mxf_klv.proofs.Common.{Decides, note_total, note_cmp-IsAntisymmetric, slice_cmp}
-use Rattle.mxf_klv.proofs.Common.{nat_cmp-IsAntisymmetric, Ordering, Less, Equal, Greater, sym, ◌∙◌}
-use Rattle.mxf_klv.proofs.Common.{ap, subst, inl, inr, nat_cmp_total, tied_itself, NoteParts}
+use Rattle.mxf_klv.proofs.Common.{bool_cmp, eq_by_cmp, nat_cmp, ordering_then, IsTotalOrder, Decides, note_total}
+use Rattle.mxf_klv.proofs.Common.{note_cmp-IsAntisymmetric, slice_cmp, nat_cmp-IsAntisymmetric, Ordering, Less, Equal}
+use Rattle.mxf_klv.proofs.Common.{Greater, sym, ◌∙◌, ap, subst, inl, inr, nat_cmp_total, tied_itself, NoteParts}
 use Rattle.mxf_klv.proofs.Common.{head_note, note_cmp}
 use Rattle.std.specs.Prelude.{◌≡◌, ◌⊎◌, true, false, [], ◌∷◌, refl}
 use Rattle.std.specs.Cmp.{Equal-is}

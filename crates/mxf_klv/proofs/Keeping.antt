@@ -1,6 +1,5 @@
 -- What a note keeps has the length that its key and length say.
-use Rattle.mxf_klv.proofs.Common.{◌≡◌, ℕ, length, cond, ◌∙◌, sym, refl, cond-true, cond-false}
-use Rattle.mxf_klv.proofs.Common.{keeps}
+use Rattle.mxf_klv.proofs.Common.{◌≡◌, ℕ, length, cond, ◌∙◌, sym, refl, cond-true, cond-false, keeps}
 use Rattle.mxf_klv.specs.declared.note.held.KeptValue.{KeptValue}
 use Rattle.mxf_klv.specs.declared.note.held.KeptValue.TheVariants.{Whole, Digest, Head}
 use Rattle.mxf_klv.specs.KeptValue.{front_of, kept_bytes, is_whole, IsKeptBy}

@@ -1,12 +1,10 @@
 -- The head of a packet, and what stands behind it.
-use Rattle.mxf_klv.proofs.Common.{Option, None, Some, SomeIff, ok_or, ◌≡◌, ℕ, ◌+◌, ◌-◌, ◌<◌, ◌≤◌}
-use Rattle.mxf_klv.proofs.Common.{List, ◌++◌, length, take, drop, replicate, Ok, Err, sym, ap}
-use Rattle.mxf_klv.proofs.Common.{subst, ◌∙◌, arith, length-append, append_assoc, take_at, drop_at}
-use Rattle.mxf_klv.proofs.Common.{take_all, take-append-drop, take-take, length-take}
-use Rattle.mxf_klv.proofs.Common.{length-replicate, LengthParts, PacketParts, packet_parts}
-use Rattle.mxf_klv.proofs.Common.{label_start, IsLabel, BeginsAsLabel, ReadsLength, IsSpelledPacket}
-use Rattle.mxf_klv.proofs.Common.{IsCutPacket, ReadsPacket, packet_fault, BeginsWithKeyAndLength}
-use Rattle.mxf_klv.proofs.Common.{HasNoKeyAndLength, ReadsKeyAndLength}
+use Rattle.mxf_klv.proofs.Common.{Option, None, Some, SomeIff, ok_or, ◌≡◌, ℕ, ◌+◌, ◌-◌, ◌<◌, ◌≤◌, List, ◌++◌, length}
+use Rattle.mxf_klv.proofs.Common.{take, drop, replicate, Ok, Err, sym, ap, subst, ◌∙◌, arith, length-append}
+use Rattle.mxf_klv.proofs.Common.{append_assoc, take_at, drop_at, take_all, take-append-drop, take-take, length-take}
+use Rattle.mxf_klv.proofs.Common.{length-replicate, LengthParts, PacketParts, packet_parts, label_start, IsLabel}
+use Rattle.mxf_klv.proofs.Common.{BeginsAsLabel, ReadsLength, IsSpelledPacket, IsCutPacket, ReadsPacket, packet_fault}
+use Rattle.mxf_klv.proofs.Common.{BeginsWithKeyAndLength, HasNoKeyAndLength, ReadsKeyAndLength}
 use Rattle.mxf_klv.specs.declared.ber.BerFault.{BerFault}
 use Rattle.mxf_klv.proofs.LengthLemmas.{spelled_len, one_reading}
 use Rattle.mxf_klv.proofs.PacketLemmas.{key_cut, length_fault}

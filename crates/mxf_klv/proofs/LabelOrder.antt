@@ -1,6 +1,5 @@
 -- Labels go by the bytes after those that each of them begins with.
-use Rattle.mxf_klv.proofs.Common.{nat_cmp, slice_cmp, sym, ◌∙◌, ap, take-append-drop, IsLabel}
-use Rattle.mxf_klv.proofs.Common.{label_start}
+use Rattle.mxf_klv.proofs.Common.{nat_cmp, slice_cmp, sym, ◌∙◌, ap, take-append-drop, IsLabel, label_start}
 use Rattle.std.specs.Prelude.{◌≡◌, ℕ, List, ◌++◌, drop}
 
 parts : (a : List ℕ) → IsLabel a → label_start ++ drop 4 a ≡ a

@@ -1,8 +1,7 @@
 -- Facts on spelled lengths.
-use Rattle.mxf_klv.proofs.Common.{◌≡◌, ℕ, suc, ◌+◌, ◌-◌, ◌^◌, ◌<◌, ◌≤◌, List, [], ◌∷◌, ◌++◌, length}
-use Rattle.mxf_klv.proofs.Common.{get_or, take, drop, refl, sym, ap, ◌∙◌, arith, inr, take_at}
-use Rattle.mxf_klv.proofs.Common.{take-append-drop, length-take, CanSpell, LengthParts, Result, Ok}
-use Rattle.mxf_klv.proofs.Common.{Err, IsSpelledLength, ReadsLength}
+use Rattle.mxf_klv.proofs.Common.{◌≡◌, ℕ, suc, ◌+◌, ◌-◌, ◌^◌, ◌<◌, ◌≤◌, List, [], ◌∷◌, ◌++◌, length, get_or, take, drop}
+use Rattle.mxf_klv.proofs.Common.{refl, sym, ap, ◌∙◌, arith, inr, take_at, take-append-drop, length-take, CanSpell}
+use Rattle.mxf_klv.proofs.Common.{LengthParts, Result, Ok, Err, IsSpelledLength, ReadsLength}
 use Rattle.mxf_klv.specs.declared.ber.BerFault.{BerFault}
 use Rattle.std.proofs.Math.Nat.{pow-le-pow_right}
 use Rattle.byteorder.specs.Endian.{big_number, big_bytes}

@@ -1,9 +1,8 @@
 -- Members of lists that are tested, filtered, searched, mapped and appended.
-use Rattle.mxf_klv.proofs.Common.{◌≡◌, ◌↔◌, ◌⊎◌, ◌≤◌, ◌<◌, ◌&&◌, ℕ, zero, suc, Bool, true, List, []}
-use Rattle.mxf_klv.proofs.Common.{◌∷◌, ◌++◌, Option, Some, None, IsTrue, refl, sym, ap, subst, inl}
-use Rattle.mxf_klv.proofs.Common.{inr, arith, length, filter, filter_map, get_or, map, list_all}
-use Rattle.mxf_klv.proofs.Common.{list_any, AllByRecursion, and_from, false_from_ne_true, ltb-false}
-use Rattle.mxf_klv.proofs.Common.{In}
+use Rattle.mxf_klv.proofs.Common.{◌≡◌, ◌↔◌, ◌⊎◌, ◌≤◌, ◌<◌, ◌&&◌, ℕ, zero, suc, Bool, true, List, [], ◌∷◌, ◌++◌, Option}
+use Rattle.mxf_klv.proofs.Common.{Some, None, IsTrue, refl, sym, ap, subst, inl, inr, arith, length, filter, filter_map}
+use Rattle.mxf_klv.proofs.Common.{get_or, map, list_all, list_any, AllByRecursion, and_from, false_from_ne_true}
+use Rattle.mxf_klv.proofs.Common.{ltb-false, In}
 use Rattle.std.proofs.Common.{Contains, find, flat_map}
 
 -- ---- all

@@ -1,24 +1,21 @@
 -- A piece to which more bytes come: the packets that stood stay, and so does a stop behind which it can't go on.
-use Rattle.mxf_klv.proofs.Common.{◌≡◌, ℕ, ◌+◌, ◌-◌, ◌<◌, ◌≤◌, List, [], ◌∷◌, ◌++◌, length, take}
-use Rattle.mxf_klv.proofs.Common.{drop, None, Some, Err, refl, sym, ap, subst, ◌∙◌, arith, inl, inr}
-use Rattle.mxf_klv.proofs.Common.{append_assoc, append-nil, length-append, length-drop, slice_get}
-use Rattle.mxf_klv.proofs.Common.{IsSomeAnd, take_at, take_all, take-take, drop-append-le}
-use Rattle.mxf_klv.proofs.Common.{nil_from_length, take-append-add, cases_lt, LengthParts}
-use Rattle.mxf_klv.proofs.Common.{PacketParts, packet_parts, label_start, BeginsAsLabel}
-use Rattle.mxf_klv.proofs.Common.{IsSpelledLength, IsCutPacket, IsSpelledPacket, ReadsPacket}
-use Rattle.mxf_klv.proofs.Common.{size_of, BeginsWithKeyAndLength, HasNoKeyAndLength, greatest_end}
-use Rattle.mxf_klv.proofs.Common.{note_of, BeginsWithNone, IsStop, end_after, notes_from, IsOpen}
-use Rattle.mxf_klv.proofs.Common.{packet_at, packets_in, rest_in, stop_in, stop_of}
+use Rattle.mxf_klv.proofs.Common.{◌≡◌, ℕ, ◌+◌, ◌-◌, ◌<◌, ◌≤◌, List, [], ◌∷◌, ◌++◌, length, take, drop, None, Some, Err}
+use Rattle.mxf_klv.proofs.Common.{refl, sym, ap, subst, ◌∙◌, arith, inl, inr, append_assoc, append-nil, length-append}
+use Rattle.mxf_klv.proofs.Common.{length-drop, slice_get, IsSomeAnd, take_at, take_all, take-take, drop-append-le}
+use Rattle.mxf_klv.proofs.Common.{nil_from_length, take-append-add, cases_lt, LengthParts, PacketParts, packet_parts}
+use Rattle.mxf_klv.proofs.Common.{label_start, BeginsAsLabel, IsSpelledLength, IsCutPacket, IsSpelledPacket}
+use Rattle.mxf_klv.proofs.Common.{ReadsPacket, size_of, BeginsWithKeyAndLength, HasNoKeyAndLength, greatest_end}
+use Rattle.mxf_klv.proofs.Common.{note_of, BeginsWithNone, IsStop, end_after, notes_from, IsOpen, packet_at, packets_in}
+use Rattle.mxf_klv.proofs.Common.{rest_in, stop_in, stop_of}
 use Rattle.mxf_klv.specs.declared.packet.PacketFault.{PacketFault}
 use Rattle.mxf_klv.specs.declared.piece.Stop.{Stop}
-use Rattle.mxf_klv.specs.declared.piece.Stop.TheVariants.{End, NotUl, BadLength, TooFar, Truncated}
-use Rattle.mxf_klv.specs.declared.piece.Stop.TheVariants.{NoStart}
+use Rattle.mxf_klv.specs.declared.piece.Stop.TheVariants.{End, NotUl, BadLength, TooFar, Truncated, NoStart}
 use Rattle.std.proofs.Common.{length-take}
 use Rattle.mxf_klv.specs.Piece.{AreLaid}
 use Rattle.mxf_klv.proofs.KeyAndLengthLaws.{head_in, head-size}
-use Rattle.mxf_klv.proofs.PieceLaws.{none-packet_at, one_piece, packet_at-fault, packet_at-given}
-use Rattle.mxf_klv.proofs.PieceLaws.{packet_at-none, packets_in-none, packets_in-some, rest_in-none}
-use Rattle.mxf_klv.proofs.PieceLaws.{rest_in-some, some_piece, none_at_end}
+use Rattle.mxf_klv.proofs.PieceLaws.{none-packet_at, one_piece, packet_at-fault, packet_at-given, packet_at-none}
+use Rattle.mxf_klv.proofs.PieceLaws.{packets_in-none, packets_in-some, rest_in-none, rest_in-some, some_piece}
+use Rattle.mxf_klv.proofs.PieceLaws.{none_at_end}
 use Rattle.mxf_klv.proofs.StopLaws.{Stopped, at_far, one_stop, stops}
 use Rattle.mxf_klv.specs.declared.packet.PacketFault.TheVariants as faults
 

@@ -1,8 +1,7 @@
 -- Notes that are picked by a test: lists, sums and counts of them.
-use Rattle.mxf_klv.proofs.Common.{Bool, List, [], ap, arith, cond, count_by, false, filter, inl}
-use Rattle.mxf_klv.proofs.Common.{inr, nat_lt, not, refl, true, ℕ, ◌&&◌, ◌++◌, ◌+◌, ◌<◌, ◌==◌, ◌||◌}
-use Rattle.mxf_klv.proofs.Common.{◌∷◌, ◌≡◌, ◌≤◌, sum_by-cons, AllByRecursion, NoteParts}
-use Rattle.mxf_klv.proofs.Common.{PacketParts, In}
+use Rattle.mxf_klv.proofs.Common.{Bool, List, [], ap, arith, cond, count_by, false, filter, inl, inr, nat_lt, not, refl}
+use Rattle.mxf_klv.proofs.Common.{true, ℕ, ◌&&◌, ◌++◌, ◌+◌, ◌<◌, ◌==◌, ◌||◌, ◌∷◌, ◌≡◌, ◌≤◌, sum_by-cons, AllByRecursion}
+use Rattle.mxf_klv.proofs.Common.{NoteParts, PacketParts, In}
 use Rattle.std.specs.Prelude.{sum_by}
 use Rattle.mxf_klv.proofs.Counts.{count_by-cons, tally}
 

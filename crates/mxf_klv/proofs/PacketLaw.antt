@@ -1,10 +1,8 @@
 -- What bytes begin with is one thing: a packet, or one of the faults.
-use Rattle.mxf_klv.proofs.Common.{◌≡◌, ℕ, ◌≤◌, List, [], ◌∷◌, ◌++◌, length, take, drop, Result, Ok}
-use Rattle.mxf_klv.proofs.Common.{Err, refl, sym, ap, subst, ◌∙◌, arith, length-append}
-use Rattle.mxf_klv.proofs.Common.{append_assoc, take_all, take-append-drop, length-take}
-use Rattle.mxf_klv.proofs.Common.{drop-append-le, LengthParts, PacketParts, label_start}
-use Rattle.mxf_klv.proofs.Common.{BeginsAsLabel, ReadsLength, IsSpelledPacket, IsCutPacket}
-use Rattle.mxf_klv.proofs.Common.{ReadsPacket}
+use Rattle.mxf_klv.proofs.Common.{◌≡◌, ℕ, ◌≤◌, List, [], ◌∷◌, ◌++◌, length, take, drop, Result, Ok, Err, refl, sym, ap}
+use Rattle.mxf_klv.proofs.Common.{subst, ◌∙◌, arith, length-append, append_assoc, take_all, take-append-drop}
+use Rattle.mxf_klv.proofs.Common.{length-take, drop-append-le, LengthParts, PacketParts, label_start, BeginsAsLabel}
+use Rattle.mxf_klv.proofs.Common.{ReadsLength, IsSpelledPacket, IsCutPacket, ReadsPacket}
 use Rattle.mxf_klv.specs.declared.ber.BerFault.{BerFault}
 use Rattle.mxf_klv.specs.declared.packet.PacketFault.{PacketFault}
 use Rattle.std.proofs.lemmas.List.{append-nil}

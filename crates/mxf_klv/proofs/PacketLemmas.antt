@@ -1,10 +1,9 @@
 -- Facts on packets and what bytes begin with.
-use Rattle.mxf_klv.proofs.Common.{◌≡◌, ℕ, suc, ◌+◌, ◌-◌, ◌<◌, ◌≤◌, List, [], ◌∷◌, ◌++◌, length}
-use Rattle.mxf_klv.proofs.Common.{take, drop, replicate, Err, refl, sym, ap, subst, ◌∙◌, arith, inl}
-use Rattle.mxf_klv.proofs.Common.{length-append, append_assoc, take_at, drop_at, take_all}
-use Rattle.mxf_klv.proofs.Common.{take-append-drop, length-replicate, PacketParts, label_start}
-use Rattle.mxf_klv.proofs.Common.{IsLabel, BeginsAsLabel, IsSpelledLength, IsCutLength, ReadsLength}
-use Rattle.mxf_klv.proofs.Common.{IsSpelledPacket, IsCutPacket, ReadsPacket, packet_fault}
+use Rattle.mxf_klv.proofs.Common.{◌≡◌, ℕ, suc, ◌+◌, ◌-◌, ◌<◌, ◌≤◌, List, [], ◌∷◌, ◌++◌, length, take, drop, replicate}
+use Rattle.mxf_klv.proofs.Common.{Err, refl, sym, ap, subst, ◌∙◌, arith, inl, length-append, append_assoc, take_at}
+use Rattle.mxf_klv.proofs.Common.{drop_at, take_all, take-append-drop, length-replicate, PacketParts, label_start}
+use Rattle.mxf_klv.proofs.Common.{IsLabel, BeginsAsLabel, IsSpelledLength, IsCutLength, ReadsLength, IsSpelledPacket}
+use Rattle.mxf_klv.proofs.Common.{IsCutPacket, ReadsPacket, packet_fault}
 use Rattle.mxf_klv.specs.declared.ber.BerFault.{BerFault}
 use Rattle.std.proofs.lemmas.List.{append-nil}
 use Rattle.byteorder.specs.Endian.{big_number}

@@ -1,13 +1,11 @@
 -- Facts on the packets of a piece.
-use Rattle.mxf_klv.proofs.Common.{◌≡◌, ℕ, zero, suc, ◌+◌, ◌<◌, ◌≤◌, true, cond, List, [], ◌∷◌, ◌++◌}
-use Rattle.mxf_klv.proofs.Common.{length, take, drop, Result, Ok, Err, None, Some, refl, sym, ap}
-use Rattle.mxf_klv.proofs.Common.{subst, ◌∙◌, arith, inl, inr, length-append, option_map_or}
-use Rattle.mxf_klv.proofs.Common.{result_ok, le-leb, and_from, cases_lt, cond-true, take_at}
-use Rattle.mxf_klv.proofs.Common.{drop_at, length-take, bytes_eq-Decides, LengthParts, PacketParts}
-use Rattle.mxf_klv.proofs.Common.{label_start, BeginsAsLabel, begins_as_label, IsSpelledLength}
-use Rattle.mxf_klv.proofs.Common.{ReadsLength, IsSpelledPacket, ReadsPacket, size_of, greatest_end}
-use Rattle.mxf_klv.proofs.Common.{BeginsWithNone, IsPiece, length_at, head_at, end_with, packet_at}
-use Rattle.mxf_klv.proofs.Common.{packets_in, rest_in, stop_of, GoesOn, EndsAt}
+use Rattle.mxf_klv.proofs.Common.{◌≡◌, ℕ, zero, suc, ◌+◌, ◌<◌, ◌≤◌, true, cond, List, [], ◌∷◌, ◌++◌, length, take, drop}
+use Rattle.mxf_klv.proofs.Common.{Result, Ok, Err, None, Some, refl, sym, ap, subst, ◌∙◌, arith, inl, inr}
+use Rattle.mxf_klv.proofs.Common.{length-append, option_map_or, result_ok, le-leb, and_from, cases_lt, cond-true}
+use Rattle.mxf_klv.proofs.Common.{take_at, drop_at, length-take, bytes_eq-Decides, LengthParts, PacketParts}
+use Rattle.mxf_klv.proofs.Common.{label_start, BeginsAsLabel, begins_as_label, IsSpelledLength, ReadsLength}
+use Rattle.mxf_klv.proofs.Common.{IsSpelledPacket, ReadsPacket, size_of, greatest_end, BeginsWithNone, IsPiece}
+use Rattle.mxf_klv.proofs.Common.{length_at, head_at, end_with, packet_at, packets_in, rest_in, stop_of, GoesOn, EndsAt}
 use Rattle.mxf_klv.proofs.Common.{BeginsWithKeyAndLength}
 use Rattle.mxf_klv.specs.declared.ber.BerFault.{BerFault}
 use Rattle.mxf_klv.specs.declared.packet.PacketFault.{PacketFault}
@@ -16,8 +14,7 @@ use Rattle.std.proofs.Common.{length-drop, take-append-drop}
 use Rattle.std.specs.Option.{option_and_then}
 use Rattle.mxf_klv.specs.PieceReading.{fits_at, packet_with, packets_by, rest_by}
 use Rattle.mxf_klv.proofs.LengthLemmas.{one_reading, wide_found}
-use Rattle.mxf_klv.proofs.KeyAndLengthLaws.{head_of, head_in, head-begins, head-length, head-packet}
-use Rattle.mxf_klv.proofs.KeyAndLengthLaws.{head-size}
+use Rattle.mxf_klv.proofs.KeyAndLengthLaws.{head_of, head_in, head-begins, head-length, head-packet, head-size}
 use Rattle.mxf_klv.proofs.PacketLemmas.{same_packet}
 use Rattle.mxf_klv.proofs.PacketLaw.{one_packet_reading}
 

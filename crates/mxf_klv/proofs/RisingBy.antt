@@ -1,8 +1,6 @@
 -- Lists that rise by a number of each element, their key: that of an element is below those of all later ones.
-use Rattle.std.proofs.Common.{◌≡◌, ℕ, zero, suc, ◌+◌, ◌<◌, ◌≤◌, Bool, List, [], ◌∷◌, Option}
-use Rattle.std.proofs.Common.{Some, None}
-use Rattle.std.proofs.Common.{filter, filter_map, get_or, length, map, nat_cmp, nat_lt, refl, sym, ◌∙◌, ap, inl}
-use Rattle.std.proofs.Common.{inr, arith}
+use Rattle.std.proofs.Common.{◌≡◌, ℕ, zero, suc, ◌+◌, ◌<◌, ◌≤◌, Bool, List, [], ◌∷◌, Option, Some, None, filter}
+use Rattle.std.proofs.Common.{filter_map, get_or, length, map, nat_cmp, nat_lt, refl, sym, ◌∙◌, ap, inl, inr, arith}
 use Rattle.std.specs.List.{cons_option, list_any, AllByRecursion}
 use Rattle.std.specs.List.Sorted.{IsNonDecreasingBy}
 use Rattle.std.proofs.lemmas.Cmp.{nat_cmp_total}

@@ -1,8 +1,7 @@
 -- Facts on rising lists that only proofs cite.
-use Rattle.mxf_klv.proofs.Common.{◌≡◌, List, [], sym, subst, inl, inr, IsTotalOrder}
-use Rattle.mxf_klv.proofs.Common.{IsAntisymmetric, Ordering, In, IsRising, with_one, union}
-use Rattle.mxf_klv.proofs.Common.{same_from_members, In-with_one, In-union, IsRising-with_one}
-use Rattle.mxf_klv.proofs.Common.{IsRising-union}
+use Rattle.mxf_klv.proofs.Common.{◌≡◌, List, [], sym, subst, inl, inr, IsTotalOrder, IsAntisymmetric, Ordering, In}
+use Rattle.mxf_klv.proofs.Common.{IsRising, with_one, union, same_from_members, In-with_one, In-union}
+use Rattle.mxf_klv.proofs.Common.{IsRising-with_one, IsRising-union}
 
 module _ {K : Type 0} {R : K → K → Ordering} (o : IsTotalOrder R) where
   -- What is there already changes nothing.

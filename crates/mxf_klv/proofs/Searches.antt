@@ -1,7 +1,6 @@
 -- Where a key stands in a list that rises by it.
-use Rattle.mxf_klv.proofs.Common.{◌≡◌, ◌↔◌, ◌∙◌, ◌<◌, ◌≤◌, ◌==◌, ℕ, List, IsTrue, ap, arith, eq-eqb}
-use Rattle.mxf_klv.proofs.Common.{eqb-true, get_or, length, map, sym, AllWithin, IsNonDecreasingBy}
-use Rattle.mxf_klv.proofs.Common.{get_or_default, In}
+use Rattle.mxf_klv.proofs.Common.{◌≡◌, ◌↔◌, ◌∙◌, ◌<◌, ◌≤◌, ◌==◌, ℕ, List, IsTrue, ap, arith, eq-eqb, eqb-true, get_or}
+use Rattle.mxf_klv.proofs.Common.{length, map, sym, AllWithin, IsNonDecreasingBy, get_or_default, In}
 use Rattle.mxf_klv.proofs.Lists.{Contains-from_In, In-at, In-map}
 
 module _ {K : Type 0} (key : K → ℕ) (xs : List K) (at bound : ℕ) where

@@ -1,8 +1,7 @@
 -- Packets that are laid one after another, and small ones that are packets by a test.
-use Rattle.mxf_klv.proofs.Common.{Bool, List, [], arith, length, nat_lt, take, true, ℕ, ◌&&◌, ◌+◌}
-use Rattle.mxf_klv.proofs.Common.{◌==◌, ◌∷◌, ◌≡◌, ◌≤◌, and_parts, AllByRecursion, list_all}
-use Rattle.mxf_klv.proofs.Common.{bytes_eq, label_start, IsPacket, packet_bytes, size_of}
-use Rattle.mxf_klv.proofs.Common.{PacketParts, BeginsWithNone, end_after}
+use Rattle.mxf_klv.proofs.Common.{Bool, List, [], arith, length, nat_lt, take, true, ℕ, ◌&&◌, ◌+◌, ◌==◌, ◌∷◌, ◌≡◌, ◌≤◌}
+use Rattle.mxf_klv.proofs.Common.{and_parts, AllByRecursion, list_all, bytes_eq, label_start, IsPacket, packet_bytes}
+use Rattle.mxf_klv.proofs.Common.{size_of, PacketParts, BeginsWithNone, end_after}
 use Rattle.std.proofs.lemmas.List.{length-append}
 
 abbrev pub is_small : PacketParts → Bool

@@ -1,32 +1,27 @@
 -- The stop of a rest is the one that `stop_of` gives.
-use Rattle.mxf_klv.proofs.Common.{◌≡◌, ℕ, ◌+◌, ◌<◌, ◌≤◌, Bool, true, false, cond, not, nat_lt, List}
-use Rattle.mxf_klv.proofs.Common.{[], ◌∷◌, ◌++◌, length, take, drop, Err, Ok, Result, IfOk, ok_or}
-use Rattle.mxf_klv.proofs.Common.{SomeIff, Option, None, Some, refl, sym, ap, subst, ◌∙◌, arith}
-use Rattle.mxf_klv.proofs.Common.{inl, inr, ◌⊎◌, ◌↔◌, ltb-true, lt-ltb, cases_lt}
-use Rattle.mxf_klv.proofs.Common.{false_from_ne_true, both_ways, option_map_or, LengthParts}
-use Rattle.mxf_klv.proofs.Common.{PacketParts, packet_parts, BeginsAsLabel, begins_as_label}
-use Rattle.mxf_klv.proofs.Common.{IsCutLength, ReadsLength, IsCutPacket, size_of}
-use Rattle.mxf_klv.proofs.Common.{BeginsWithKeyAndLength, HasNoKeyAndLength, ReadsKeyAndLength}
-use Rattle.mxf_klv.proofs.Common.{greatest_end, BeginsWithNone, IsPiece, IsStop, end_after, EndsAt}
-use Rattle.mxf_klv.proofs.Common.{GoesOn, head_at, length_at, packet_at, end_with, stop_of, stop_in}
-use Rattle.mxf_klv.proofs.Common.{IsOpen}
+use Rattle.mxf_klv.proofs.Common.{◌≡◌, ℕ, ◌+◌, ◌<◌, ◌≤◌, Bool, true, false, cond, not, nat_lt, List, [], ◌∷◌, ◌++◌}
+use Rattle.mxf_klv.proofs.Common.{length, take, drop, Err, Ok, Result, IfOk, ok_or, SomeIff, Option, None, Some, refl}
+use Rattle.mxf_klv.proofs.Common.{sym, ap, subst, ◌∙◌, arith, inl, inr, ◌⊎◌, ◌↔◌, ltb-true, lt-ltb, cases_lt}
+use Rattle.mxf_klv.proofs.Common.{false_from_ne_true, both_ways, option_map_or, LengthParts, PacketParts, packet_parts}
+use Rattle.mxf_klv.proofs.Common.{BeginsAsLabel, begins_as_label, IsCutLength, ReadsLength, IsCutPacket, size_of}
+use Rattle.mxf_klv.proofs.Common.{BeginsWithKeyAndLength, HasNoKeyAndLength, ReadsKeyAndLength, greatest_end}
+use Rattle.mxf_klv.proofs.Common.{BeginsWithNone, IsPiece, IsStop, end_after, EndsAt, GoesOn, head_at, length_at}
+use Rattle.mxf_klv.proofs.Common.{packet_at, end_with, stop_of, stop_in, IsOpen}
 use Rattle.mxf_klv.specs.declared.packet.PacketFault.{PacketFault}
 use Rattle.mxf_klv.specs.declared.piece.Stop.{Stop}
-use Rattle.mxf_klv.specs.declared.piece.Stop.TheVariants.{End, NotUl, BadLength, TooFar, Truncated}
-use Rattle.mxf_klv.specs.declared.piece.Stop.TheVariants.{NoStart}
+use Rattle.mxf_klv.specs.declared.piece.Stop.TheVariants.{End, NotUl, BadLength, TooFar, Truncated, NoStart}
 use Rattle.std.proofs.Common.{nat_eq, IfErr, length-take, take-append-drop}
 use Rattle.std.proofs.lemmas.Bool.{eqb-true, eq-eqb}
 use Rattle.mxf_klv.specs.Piece.{EndsTooFar}
 use Rattle.mxf_klv.specs.PieceReading.{is_bad_length, ends_too_far, IsNoHead}
 use Rattle.mxf_klv.proofs.LengthLemmas.{one_reading}
-use Rattle.mxf_klv.proofs.KeyAndLengthLaws.{head_of, head-begins, head-cut, head-length}
-use Rattle.mxf_klv.proofs.KeyAndLengthLaws.{head-packet, head-size, head_in, no_head}
+use Rattle.mxf_klv.proofs.KeyAndLengthLaws.{head_of, head-begins, head-cut, head-length, head-packet, head-size}
+use Rattle.mxf_klv.proofs.KeyAndLengthLaws.{head_in, no_head}
 use Rattle.mxf_klv.proofs.PacketLemmas.{key_cut, label_of, length_cut}
 use Rattle.mxf_klv.proofs.PacketLaw.{cut_begins, no_fault_cut}
-use Rattle.mxf_klv.proofs.PieceLaws.{begins-test, test-begins, ends_at, goes_on, head_at-head}
-use Rattle.mxf_klv.proofs.PieceLaws.{head_at-stands, length_at-read, length_at-stands}
-use Rattle.mxf_klv.proofs.PieceLaws.{none-packet_at, one_piece, packet_at-fault, packet_at-given}
-use Rattle.mxf_klv.proofs.PieceLaws.{packet_at-none}
+use Rattle.mxf_klv.proofs.PieceLaws.{begins-test, test-begins, ends_at, goes_on, head_at-head, head_at-stands}
+use Rattle.mxf_klv.proofs.PieceLaws.{length_at-read, length_at-stands, none-packet_at, one_piece, packet_at-fault}
+use Rattle.mxf_klv.proofs.PieceLaws.{packet_at-given, packet_at-none}
 use Rattle.mxf_klv.specs.declared.ber.BerFault.TheVariants as lengths
 use Rattle.mxf_klv.specs.declared.packet.PacketFault.TheVariants as faults
 

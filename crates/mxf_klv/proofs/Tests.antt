@@ -1,7 +1,7 @@
 -- Tests, what is there or not, and orderings.
-use Rattle.mxf_klv.proofs.Common.{◌≡◌, ◌≢◌, ◌↔◌, ◌⊎◌, ◌&&◌, ◌||◌, ◌==◌, ◌<◌, ◌≤◌, ℕ, Bool, true}
-use Rattle.mxf_klv.proofs.Common.{false, cond, not, IsTrue, Option, Some, None, is_some, refl}
-use Rattle.mxf_klv.proofs.Common.{arith, eqb-true, eq-eqb, nat_lt, ltb-true, lt-ltb}
+use Rattle.mxf_klv.proofs.Common.{◌≡◌, ◌≢◌, ◌↔◌, ◌⊎◌, ◌&&◌, ◌||◌, ◌==◌, ◌<◌, ◌≤◌, ℕ, Bool, true, false, cond, not}
+use Rattle.mxf_klv.proofs.Common.{IsTrue, Option, Some, None, is_some, refl, arith, eqb-true, eq-eqb, nat_lt, ltb-true}
+use Rattle.mxf_klv.proofs.Common.{lt-ltb}
 use Rattle.std.proofs.Common.{is_none, option_map, Ordering, Less, Equal, Greater, is_lt, nat_cmp}
 
 pub not_true : (b : Bool) → (b ≡ true → ⊥) → not b ≡ true

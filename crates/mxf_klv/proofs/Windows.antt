@@ -1,6 +1,6 @@
 -- What a window of a list is, between two places.
-use Rattle.std.proofs.Common.{◌≡◌, ◌<◌, ◌≤◌, ◌∙◌, ◌&&◌, ℕ, zero, suc, Bool, true, false, cond, List, [], ◌∷◌}
-use Rattle.std.proofs.Common.{refl, sym, ap, arith, length, get_or, drop, filter, min, take}
+use Rattle.std.proofs.Common.{◌≡◌, ◌<◌, ◌≤◌, ◌∙◌, ◌&&◌, ℕ, zero, suc, Bool, true, false, cond, List, [], ◌∷◌, refl, sym}
+use Rattle.std.proofs.Common.{ap, arith, length, get_or, drop, filter, min, take}
 use Rattle.std.specs.List.{AllWithin}
 use Rattle.mxf_klv.proofs.Tests.{not_both}
 

@@ -1,8 +1,7 @@
 -- Parts of a value that are written one after another.
-use Rattle.mxf_klv.proofs.Common.{◌≡◌, ℕ, ◌+◌, ◌≤◌, ◌<◌, List, ◌∷◌, ◌++◌, suc, get_or, Result}
-use Rattle.mxf_klv.proofs.Common.{arith, length, take, drop, sym, ap, ◌∙◌, subst, append_assoc}
-use Rattle.mxf_klv.proofs.Common.{length-append, flat_map-append, Appends, Appends-trans}
-use Rattle.mxf_klv.proofs.Common.{WritesPart, StopsIn, counted, take-append-le, take-append-add}
+use Rattle.mxf_klv.proofs.Common.{◌≡◌, ℕ, ◌+◌, ◌≤◌, ◌<◌, List, ◌∷◌, ◌++◌, suc, get_or, Result, arith, length, take}
+use Rattle.mxf_klv.proofs.Common.{drop, sym, ap, ◌∙◌, subst, append_assoc, length-append, flat_map-append, Appends}
+use Rattle.mxf_klv.proofs.Common.{Appends-trans, WritesPart, StopsIn, counted, take-append-le, take-append-add}
 use Rattle.mxf_klv.specs.declared.writing.WriteFault.{WriteFault}
 use Rattle.std.proofs.Common.{drop-cons, take-append-drop}
 use Rattle.std.specs.Prelude.{Option, flat_map}

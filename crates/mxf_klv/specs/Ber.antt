@@ -1,7 +1,7 @@
 -- The bytes of lengths (ST 336, length field): one byte below 128, or a byte 128 + n and n bytes of a number,
 -- the highest first. That n is 1 to 8 is this project's profile.
-use Rattle.std.specs.Prelude.{◌≡◌, ℕ, ◌+◌, ◌-◌, ◌<◌, ◌≤◌, ◌⊎◌, nat_eq, if◌then◌else◌}
-use Rattle.std.specs.Prelude.{List, [], ◌∷◌, length, slice_get, take, Some, IsSomeAnd, Result, Ok, Err}
+use Rattle.std.specs.Prelude.{◌≡◌, ℕ, ◌+◌, ◌-◌, ◌<◌, ◌≤◌, ◌⊎◌, nat_eq, if◌then◌else◌, List, [], ◌∷◌, length, slice_get}
+use Rattle.std.specs.Prelude.{take, Some, IsSomeAnd, Result, Ok, Err}
 use Rattle.byteorder.specs.Endian.{big_number, big_bytes}
 use Rattle.mxf_klv.specs.Parts.{LengthParts}
 use Rattle.mxf_klv.specs.declared.ber.BerFault.{BerFault}

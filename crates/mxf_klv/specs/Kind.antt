@@ -1,16 +1,16 @@
 -- What a packet is, by its key (this project's profile of the keys of ST 377-1 and of ST 336's groups). Bytes of a
 -- key are counted from 1, and byte 8, the version, decides nothing. The first line of the table that fits decides.
-use Rattle.std.specs.Prelude.{ℕ, Bool, true, false, ◌&&◌, not, if◌then◌else◌, List, [], ◌∷◌, take, drop}
-use Rattle.std.specs.Prelude.{Option, find, unwrap_or}
+use Rattle.std.specs.Prelude.{ℕ, Bool, true, false, ◌&&◌, not, if◌then◌else◌, List, [], ◌∷◌, take, drop, Option, find}
+use Rattle.std.specs.Prelude.{unwrap_or}
 use Rattle.std.specs.Option.{option_map}
 use Rattle.std.specs.Str.{bytes_eq}
 use Rattle.mxf_klv.specs.declared.kinds.Kind.{Kind}
-use Rattle.mxf_klv.specs.declared.kinds.Kind.TheVariants.{Header, Body, Footer, Primer, Segment, Rip, Fill}
-use Rattle.mxf_klv.specs.declared.kinds.Kind.TheVariants.{Preface, Identification, ContentStorage}
-use Rattle.mxf_klv.specs.declared.kinds.Kind.TheVariants.{MaterialPackage, SourcePackage, RawSet, Essence, Other}
+use Rattle.mxf_klv.specs.declared.kinds.Kind.TheVariants.{Header, Body, Footer, Primer, Segment, Rip, Fill, Preface}
+use Rattle.mxf_klv.specs.declared.kinds.Kind.TheVariants.{Identification, ContentStorage, MaterialPackage}
+use Rattle.mxf_klv.specs.declared.kinds.Kind.TheVariants.{SourcePackage, RawSet, Essence, Other}
 use Rattle.mxf_klv.specs.declared.kinds.Status.{Status}
-use Rattle.mxf_klv.specs.declared.kinds.Status.TheVariants.{OpenIncomplete, ClosedIncomplete}
-use Rattle.mxf_klv.specs.declared.kinds.Status.TheVariants.{OpenComplete, ClosedComplete}
+use Rattle.mxf_klv.specs.declared.kinds.Status.TheVariants.{OpenIncomplete, ClosedIncomplete, OpenComplete}
+use Rattle.mxf_klv.specs.declared.kinds.Status.TheVariants.{ClosedComplete}
 use Rattle.mxf_klv.specs.declared.kinds.table.Row.{Row}
 
 -- A line of the table: bytes 5 to 7, bytes 9 to 16, and what they mean.

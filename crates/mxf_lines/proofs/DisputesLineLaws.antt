@@ -1,6 +1,6 @@
 -- When disputes are told beside a plan for units.
-use Rattle.mxf_views.proofs.Common.{◌≡◌, ◌≢◌, ◌↔◌, Bool, true, false, IsTrue, None, Some}
-use Rattle.mxf_views.proofs.Common.{if◌then◌else◌, not, refl, ◌||◌, list_any, list_any-In, In}
+use Rattle.mxf_views.proofs.Common.{◌≡◌, ◌≢◌, ◌↔◌, Bool, true, false, IsTrue, None, Some, if◌then◌else◌, not, refl}
+use Rattle.mxf_views.proofs.Common.{◌||◌, list_any, list_any-In, In}
 use Rattle.mxf_restore.specs.Disputes.{AreDisputes, disputes_of}
 use Rattle.mxf_restore.specs.declared.disputes.Disputes.{Disputes}
 use Rattle.mxf_restore.proofs.DisputesLaws.{disputes-some}

@@ -1,6 +1,7 @@
 -- Rows of a map that are printed one after another, and the digits of an offset.
-use Rattle.std.proofs.Common.{◌≡◌, ◌∙◌, ◌+◌, ◌-◌, ◌*◌, ◌/◌, ◌^◌, ◌<◌, ◌≤◌, ◌==◌, ℕ, Bool, zero, suc, List, [], ◌∷◌, true, false}
-use Rattle.std.proofs.Common.{arith, ap, sym, refl, decimal, drop, length, length-append, min, nat_le, take, leb-true, leb-false}
+use Rattle.std.proofs.Common.{◌≡◌, ◌∙◌, ◌+◌, ◌-◌, ◌*◌, ◌/◌, ◌^◌, ◌<◌, ◌≤◌, ◌==◌, ℕ, Bool, zero, suc, List, [], ◌∷◌}
+use Rattle.std.proofs.Common.{true, false, arith, ap, sym, refl, decimal, drop, length, length-append, min, nat_le}
+use Rattle.std.proofs.Common.{take, leb-true, leb-false}
 use Rattle.std.proofs.lemmas.Fmt.{decimal_step_wide}
 use Rattle.std.proofs.lemmas.List.{drop_all, length-drop, take_min}
 use Rattle.mxf_places.specs.AtHand.{KnownParts}

@@ -1,7 +1,6 @@
 -- Runs that were handed the same hold one content, and print the same of it.
-use Rattle.mxf_views.proofs.Common.{◌≡◌, ℕ, Bool, List, [], ◌∷◌, ◌++◌, Option, None, Some, sym, ap}
-use Rattle.mxf_views.proofs.Common.{subst, ◌∙◌, NoteParts, In, SameMembers, file_bytes, IsLocated}
-use Rattle.mxf_views.proofs.Common.{Read, IsTheRun}
+use Rattle.mxf_views.proofs.Common.{◌≡◌, ℕ, Bool, List, [], ◌∷◌, ◌++◌, Option, None, Some, sym, ap, subst, ◌∙◌}
+use Rattle.mxf_views.proofs.Common.{NoteParts, In, SameMembers, file_bytes, IsLocated, Read, IsTheRun}
 use Rattle.std.specs.Prelude.{codes, filter, flat_map}
 use Rattle.mxf_catalogue.specs.History.{HandsSame}
 use Rattle.mxf_places.specs.AtHand.{KnownParts}
@@ -22,14 +21,14 @@ use Rattle.mxf_read.specs.declared.gathering.report.PieceReport.{PieceReport}
 use Rattle.mxf_lines.specs.Answering.{stop_lines}
 use Rattle.mxf_forms.specs.Forms.{line, lines_in, number}
 use Rattle.mxf_lines.specs.Lines.{note_fields}
-use Rattle.mxf_lines.specs.OneRun.{Answer, AreTold, AskedUnits, IsPrinted, Map, PrintSame, Printed}
-use Rattle.mxf_lines.specs.OneRun.{Question, Renewal, Sources, UnitPlan, Verification}
+use Rattle.mxf_lines.specs.OneRun.{Answer, AreTold, AskedUnits, IsPrinted, Map, PrintSame, Printed, Question, Renewal}
+use Rattle.mxf_lines.specs.OneRun.{Sources, UnitPlan, Verification}
 use Rattle.mxf_lines.specs.MapLines.{AreToldExtents, map_lines}
 use Rattle.mxf_lines.proofs.MapLineLaws.{one_told}
 use Rattle.mxf_lines.specs.UnitPlanLines.{asked_of, unit_plan_lines, unit_plan_status}
-use Rattle.mxf_lines.specs.VerificationLines.{cut_lines, differs_line, other_fields, range_lines}
-use Rattle.mxf_lines.specs.VerificationLines.{span_fields, unit_run_line, verification_lines}
-use Rattle.mxf_lines.specs.VerificationLines.{verification_status, verified_fields, verified_line}
+use Rattle.mxf_lines.specs.VerificationLines.{cut_lines, differs_line, other_fields, range_lines, span_fields}
+use Rattle.mxf_lines.specs.VerificationLines.{unit_run_line, verification_lines, verification_status, verified_fields}
+use Rattle.mxf_lines.specs.VerificationLines.{verified_line}
 
 -- ---- one content
 

@@ -1,7 +1,7 @@
 -- Lines that are printed one after another.
-use Rattle.mxf_views.proofs.Common.{◌≡◌, ℕ, ◌+◌, ◌^◌, ◌<◌, List, [], ◌++◌, Ok, Err, Result, arith}
-use Rattle.mxf_views.proofs.Common.{length, refl, take, sym, ap, ◌∙◌, subst, length-append, Option}
-use Rattle.mxf_views.proofs.Common.{Appends-nil, take-append-add, take-append-le}
+use Rattle.mxf_views.proofs.Common.{◌≡◌, ℕ, ◌+◌, ◌^◌, ◌<◌, List, [], ◌++◌, Ok, Err, Result, arith, length, refl, take}
+use Rattle.mxf_views.proofs.Common.{sym, ap, ◌∙◌, subst, length-append, Option, Appends-nil, take-append-add}
+use Rattle.mxf_views.proofs.Common.{take-append-le}
 use Rattle.std.proofs.lemmas.Grind.{flat_map-append}
 use Rattle.std.specs.Io.KnownBytes.{Appends}
 use Rattle.mxf_klv.proofs.WrittenParts.{WritesPart-after}

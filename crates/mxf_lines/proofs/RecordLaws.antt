@@ -1,8 +1,7 @@
 -- A table with one record more has those that were found. References that are there have lines.
-use Rattle.mxf_views.proofs.Common.{◌≡◌, ◌∙◌, ◌==◌, ℕ, List, [], Bool, Option, Some, true, false}
-use Rattle.mxf_views.proofs.Common.{refl, ap, sym, cond, eqb-true, ◌<◌, ◌∷◌, arith, length}
-use Rattle.mxf_views.proofs.Common.{unwrap_or, nat_cmp, BTreeMap, get, is_at, NoteParts, at_equal}
-use Rattle.mxf_views.proofs.Common.{at_other}
+use Rattle.mxf_views.proofs.Common.{◌≡◌, ◌∙◌, ◌==◌, ℕ, List, [], Bool, Option, Some, true, false, refl, ap, sym, cond}
+use Rattle.mxf_views.proofs.Common.{eqb-true, ◌<◌, ◌∷◌, arith, length, unwrap_or, nat_cmp, BTreeMap, get, is_at}
+use Rattle.mxf_views.proofs.Common.{NoteParts, at_equal, at_other}
 use Rattle.mxf_findings.specs.declared.reference.target.Ref.{Ref}
 use Rattle.mxf_findings.specs.declared.reference.target.Target.TheVariants.{Found}
 use Rattle.mxf_lines.specs.declared.printing.line.record.Named.{Named}

@@ -1,15 +1,14 @@
 -- Units one after another.
-use Rattle.mxf_views.proofs.Common.{◌≡◌, ◌∙◌, ◌==◌, ◌+◌, ◌++◌, ◌≤◌, ℕ, List, [], ◌∷◌, Option, None}
-use Rattle.mxf_views.proofs.Common.{Some, Result, Err, ap, arith, filter_map, flat_map}
-use Rattle.mxf_views.proofs.Common.{if◌then◌else◌, length, refl, subst, sym}
+use Rattle.mxf_views.proofs.Common.{◌≡◌, ◌∙◌, ◌==◌, ◌+◌, ◌++◌, ◌≤◌, ℕ, List, [], ◌∷◌, Option, None, Some, Result, Err}
+use Rattle.mxf_views.proofs.Common.{ap, arith, filter_map, flat_map, if◌then◌else◌, length, refl, subst, sym}
 use Rattle.mxf_views.proofs.Common.{length-map-range_with_len, cons_option, count_by-cons, tally}
 use Rattle.mxf_units.specs.Units.{UnitsParts, unit_of}
 use Rattle.mxf_units.specs.declared.standing.UnitStanding.{UnitStanding}
 use Rattle.mxf_units.specs.declared.unit.EditUnit.{EditUnit}
 use Rattle.mxf_units.specs.Ranges.{least_of, needed_from, units_from}
 use Rattle.mxf_forms.specs.Forms.{PrintedLine}
-use Rattle.mxf_lines.specs.UnitLines.{hand_count, held_count, is_hand, is_held, last_line}
-use Rattle.mxf_lines.specs.UnitLines.{unit_line, unit_lines, units_line, units_status}
+use Rattle.mxf_lines.specs.UnitLines.{hand_count, held_count, is_hand, is_held, last_line, unit_line, unit_lines}
+use Rattle.mxf_lines.specs.UnitLines.{units_line, units_status}
 use Rattle.mxf_lines.specs.declared.printing.AnswerFault.{AnswerFault}
 use Rattle.mxf_lines.specs.declared.printing.AnswerFault.TheVariants.{OutOfMemory, Write, BadUnit}
 use Rattle.mxf_forms.specs.declared.form.Form.{Form}

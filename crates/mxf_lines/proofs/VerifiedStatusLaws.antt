@@ -1,30 +1,23 @@
 -- Where the status of a verification is 0.
-use Rattle.mxf_views.proofs.Common.{◌≡◌, ◌≢◌, ◌↔◌, ◌+◌, ◌-◌, ◌<◌, ◌≤◌, ◌∙◌, ◌==◌, ◌&&◌, ℕ, zero}
-use Rattle.mxf_views.proofs.Common.{suc, Bool, true, false, not, cond, List, [], ◌∷◌, None, Some}
-use Rattle.mxf_views.proofs.Common.{Option, filter, length, inl, inr, refl, ap, arith, list_all}
-use Rattle.mxf_views.proofs.Common.{AreBytes, greatest_end, NoteParts, notes_in, stop_in, In}
+use Rattle.mxf_views.proofs.Common.{◌≡◌, ◌≢◌, ◌↔◌, ◌+◌, ◌-◌, ◌<◌, ◌≤◌, ◌∙◌, ◌==◌, ◌&&◌, ℕ, zero, suc, Bool, true, false}
+use Rattle.mxf_views.proofs.Common.{not, cond, List, [], ◌∷◌, None, Some, Option, filter, length, inl, inr, refl, ap}
+use Rattle.mxf_views.proofs.Common.{arith, list_all, AreBytes, greatest_end, NoteParts, notes_in, stop_in, In}
 use Rattle.mxf_views.proofs.Common.{In-list_all, list_all-In, equals_itself, not_equal}
 use Rattle.mxf_klv.specs.declared.piece.Stop.{Stop}
-use Rattle.mxf_klv.specs.declared.piece.Stop.TheVariants.{BadLength, End, NoStart, NotUl, TooFar}
-use Rattle.mxf_klv.specs.declared.piece.Stop.TheVariants.{Truncated}
+use Rattle.mxf_klv.specs.declared.piece.Stop.TheVariants.{BadLength, End, NoStart, NotUl, TooFar, Truncated}
 use Rattle.mxf_catalogue.specs.declared.run.Run.{Run}
 use Rattle.mxf_read.specs.declared.gathering.report.PieceReport.{PieceReport}
 use Rattle.mxf_units.specs.Units.{UnitsParts}
-use Rattle.mxf_verify.specs.Fixities.{AreUnitRuns, AreVerifiedUnits, VerifiedUnitsParts}
-use Rattle.mxf_verify.specs.Fixities.{is_verified, units_in}
+use Rattle.mxf_verify.specs.Fixities.{AreUnitRuns, AreVerifiedUnits, VerifiedUnitsParts, is_verified, units_in}
 use Rattle.mxf_verify.specs.VerificationLaws.{IsWholeReference}
 use Rattle.mxf_verify.specs.Verifications.{AreRunsOf, IsCountOf, IsVerification, VerificationParts}
-use Rattle.mxf_verify.specs.Verifying.{IsDiffering, IsUnknownByte, IsUnverifiedByte, IsVerified}
-use Rattle.mxf_verify.specs.Verifying.{Source, Bytes}
+use Rattle.mxf_verify.specs.Verifying.{IsDiffering, IsUnknownByte, IsUnverifiedByte, IsVerified, Source, Bytes}
 use Rattle.mxf_verify.proofs.WholeLaws.{count_none, no_runs, none_of, none_runs, whole_says}
 use Rattle.mxf_verify.specs.declared.fixity.UnitFixity.{UnitFixity}
-use Rattle.mxf_verify.specs.declared.fixity.UnitFixity.TheVariants.{Differs, Part, Unplaced}
-use Rattle.mxf_verify.specs.declared.fixity.UnitFixity.TheVariants.{Unverified, Verified}
+use Rattle.mxf_verify.specs.declared.fixity.UnitFixity.TheVariants.{Differs, Part, Unplaced, Unverified, Verified}
 use Rattle.mxf_verify.specs.declared.verified_units.UnitRun.{UnitRun}
-use Rattle.mxf_lines.specs.VerificationLines.{has_none, is_good, is_noted, verification_status}
-use Rattle.mxf_lines.specs.VerificationLines.{verified_in}
-use Rattle.mxf_lines.specs.VerifiedStatus.{AreAllVerified, AreNoted, IsAllKnown, IsAsItSays}
-use Rattle.mxf_lines.specs.VerifiedStatus.{IsNoted}
+use Rattle.mxf_lines.specs.VerificationLines.{has_none, is_good, is_noted, verification_status, verified_in}
+use Rattle.mxf_lines.specs.VerifiedStatus.{AreAllVerified, AreNoted, IsAllKnown, IsAsItSays, IsNoted}
 
 -- ---- tests
 

@@ -1,6 +1,6 @@
 -- The lines of the items of header metadata sets (ST 336, local sets; the lines are this project's profile).
-use Rattle.std.specs.Prelude.{ℕ, ◌≡◌, ◌==◌, if◌then◌else◌, List, [], ◌∷◌}
-use Rattle.std.specs.Prelude.{length, take, codes, Option, None, Some, flat_map, option_and_then}
+use Rattle.std.specs.Prelude.{ℕ, ◌≡◌, ◌==◌, if◌then◌else◌, List, [], ◌∷◌, length, take, codes, Option, None, Some}
+use Rattle.std.specs.Prelude.{flat_map, option_and_then}
 use Rattle.std.specs.Int.{w16, to_be_bytes}
 use Rattle.mxf_klv.specs.Parts.{NoteParts}
 use Rattle.mxf_sets.specs.Batch.{BatchParts}

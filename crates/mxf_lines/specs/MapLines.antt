@@ -1,7 +1,6 @@
 -- The lines of a map (this project's profile).
 use Rattle.std.specs.Prelude.{◌≡◌, ℕ, Bool, true, false, zero, suc, ◌+◌, ◌-◌, ◌*◌, ◌/◌, ◌%◌, List, [], ◌∷◌, ◌++◌, codes}
-use Rattle.std.specs.Prelude.{decimal, drop, length}
-use Rattle.std.specs.Prelude.{flat_map, take}
+use Rattle.std.specs.Prelude.{decimal, drop, length, flat_map, take}
 use Rattle.std.specs.List.{repeat}
 use Rattle.mxf_places.specs.AtHand.{KnownParts}
 use Rattle.mxf_map.specs.Extents.{AreExtents, standing_at}
@@ -9,8 +8,8 @@ use Rattle.mxf_map.specs.Map.{MapParts}
 use Rattle.mxf_map.specs.Words.{byte_standing_name}
 use Rattle.mxf_map.specs.declared.extent.MapExtent.{MapExtent}
 use Rattle.mxf_map.specs.declared.map.Mark.{Mark}
-use Rattle.mxf_map.specs.declared.map.Mark.TheVariants.{Disputed, Header, Footer, Body, RandomIndex, Missing}
-use Rattle.mxf_map.specs.declared.map.Mark.TheVariants.{Hand, Empty, Part, Metadata, Index, Whole}
+use Rattle.mxf_map.specs.declared.map.Mark.TheVariants.{Disputed, Header, Footer, Body, RandomIndex, Missing, Hand}
+use Rattle.mxf_map.specs.declared.map.Mark.TheVariants.{Empty, Part, Metadata, Index, Whole}
 use Rattle.mxf_forms.specs.Forms.{Number, PrintedLine, digits, field, line, number, number_member, word}
 
 -- The character of a mark.

@@ -1,6 +1,5 @@
 -- The lines of a plan (this project's profile).
-use Rattle.std.specs.Prelude.{ℕ, ◌-◌, List, [], ◌∷◌, ◌++◌, Option, count_by, flat_map}
-use Rattle.std.specs.Prelude.{is_none, length, sum_by}
+use Rattle.std.specs.Prelude.{ℕ, ◌-◌, List, [], ◌∷◌, ◌++◌, Option, count_by, flat_map, is_none, length, sum_by}
 use Rattle.std.specs.Option.{option_map, option_map_or}
 use Rattle.mxf_restore.specs.Plan.{PlanParts}
 use Rattle.mxf_places.specs.Words.{reason_name}

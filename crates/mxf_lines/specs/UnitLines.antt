@@ -1,7 +1,6 @@
 -- The lines of edit units (this project's profile; the fields of an entry are those of ST 377-1, Index Table Segment).
-use Rattle.std.specs.Prelude.{ℕ, ℤ, ◌+◌, ◌-◌, ◌==◌, if◌then◌else◌, Bool, true, false, List, [], ◌∷◌, ◌++◌, Option}
-use Rattle.std.specs.Prelude.{None, Some}
-use Rattle.std.specs.Prelude.{codes, count_by, flat_map, length}
+use Rattle.std.specs.Prelude.{ℕ, ℤ, ◌+◌, ◌-◌, ◌==◌, if◌then◌else◌, Bool, true, false, List, [], ◌∷◌, ◌++◌, Option, None}
+use Rattle.std.specs.Prelude.{Some, codes, count_by, flat_map, length}
 use Rattle.std.specs.Fmt.{signed_decimal}
 use Rattle.std.specs.Option.{option_and_then, option_map}
 use Rattle.mxf_units.specs.Ranges.{needed_from}

@@ -1,8 +1,7 @@
 -- Maximal ranges of offsets that stand alike.
-use Rattle.mxf_views.proofs.Common.{◌≡◌, ◌≢◌, ◌↔◌, ◌⊎◌, ◌<◌, ◌≤◌, ◌+◌, ◌-◌, ℕ, Bool, true, false}
-use Rattle.mxf_views.proofs.Common.{IsTrue, List, [], ◌∷◌, Some, arith, ap, filter, if◌then◌else◌}
-use Rattle.mxf_views.proofs.Common.{inl, inr, nat_lt, refl, subst, sym, ◌∙◌, cases_lt, and_from}
-use Rattle.mxf_views.proofs.Common.{and_parts, In-filter, same_bool, In, is_between, Covers}
+use Rattle.mxf_views.proofs.Common.{◌≡◌, ◌≢◌, ◌↔◌, ◌⊎◌, ◌<◌, ◌≤◌, ◌+◌, ◌-◌, ℕ, Bool, true, false, IsTrue, List, [], ◌∷◌}
+use Rattle.mxf_views.proofs.Common.{Some, arith, ap, filter, if◌then◌else◌, inl, inr, nat_lt, refl, subst, sym, ◌∙◌}
+use Rattle.mxf_views.proofs.Common.{cases_lt, and_from, and_parts, In-filter, same_bool, In, is_between, Covers}
 use Rattle.mxf_views.proofs.Common.{AreMaximal, LiesIn, starts_above, AreMaximal-lower}
 use Rattle.mxf_catalogue.specs.declared.run.Run.{Run}
 use Rattle.std.proofs.lemmas.Bool.{ltb-true, lt-ltb}
@@ -10,8 +9,7 @@ use Rattle.mxf_places.specs.AtHand.{KnownParts, has_offset}
 use Rattle.mxf_places.specs.Held.{AreDisputed, IsDisputedAt, IsHeld, is_disputed_at, is_held}
 use Rattle.mxf_places.proofs.AtHandLaws.{has_offset-says}
 use Rattle.mxf_places.proofs.HeldLaws.{is_disputed_at-says, is_held-says}
-use Rattle.mxf_map.specs.Extents.{AreExtents, IsExtent, IsExtentFrom, IsOfExtent, StandsAs}
-use Rattle.mxf_map.specs.Extents.{standing_at}
+use Rattle.mxf_map.specs.Extents.{AreExtents, IsExtent, IsExtentFrom, IsOfExtent, StandsAs, standing_at}
 use Rattle.mxf_map.specs.declared.extent.ByteStanding.{ByteStanding}
 use Rattle.mxf_map.specs.declared.extent.ByteStanding.TheVariants.{Disputed, Held, Hand, Missing}
 use Rattle.mxf_map.specs.declared.extent.MapExtent.{MapExtent}

@@ -1,21 +1,18 @@
 -- For each cell a mark fits: of each it is known whether what it says is true.
-use Rattle.mxf_views.proofs.Common.{◌≡◌, ◌⊎◌, ◌<◌, ◌≤◌, ◌+◌, ◌-◌, ℕ, zero, suc, Bool, true, false}
-use Rattle.mxf_views.proofs.Common.{List, [], ◌∷◌, refl, sym, subst, inl, inr, arith, ap, ◌∙◌}
-use Rattle.mxf_views.proofs.Common.{cases_lt, NoteParts, IsInSpan, end_of, kind_of, In, clear_notes}
-use Rattle.mxf_views.proofs.Common.{In-clear_notes, PartitionParts, partitions_of, LiesIn}
+use Rattle.mxf_views.proofs.Common.{◌≡◌, ◌⊎◌, ◌<◌, ◌≤◌, ◌+◌, ◌-◌, ℕ, zero, suc, Bool, true, false, List, [], ◌∷◌, refl}
+use Rattle.mxf_views.proofs.Common.{sym, subst, inl, inr, arith, ap, ◌∙◌, cases_lt, NoteParts, IsInSpan, end_of}
+use Rattle.mxf_views.proofs.Common.{kind_of, In, clear_notes, In-clear_notes, PartitionParts, partitions_of, LiesIn}
 use Rattle.mxf_sets.specs.declared.pack.part.PackPart.{PackPart}
 use Rattle.mxf_places.specs.AtHand.{KnownParts, has_offset}
 use Rattle.mxf_places.specs.Held.{IsDisputedAt, IsHeld, is_disputed_at, is_held}
 use Rattle.mxf_map.specs.Layers.{IsOfZone, is_of_zone, is_part, is_random_index}
-use Rattle.mxf_map.specs.Map.{HasByteOf, HasOffset, HasPartition, IsInCell, IsMark, NoneHeld, Says}
-use Rattle.mxf_map.specs.Map.{rank}
+use Rattle.mxf_map.specs.Map.{HasByteOf, HasOffset, HasPartition, IsInCell, IsMark, NoneHeld, Says, rank}
 use Rattle.mxf_restore.specs.Missing.{missing_places}
 use Rattle.mxf_map.specs.declared.map.Mark.{Mark}
 use Rattle.mxf_places.specs.declared.stretch.Zone.{Zone}
 use Rattle.mxf_places.proofs.AtHandLaws.{has_offset-says}
 use Rattle.mxf_places.proofs.HeldLaws.{is_disputed_at-says, is_held-says}
-use Rattle.mxf_map.proofs.LayerLaws.{part_itself, part_says, random_index_says, zone_says}
-use Rattle.mxf_map.proofs.LayerLaws.{zone_tells}
+use Rattle.mxf_map.proofs.LayerLaws.{part_itself, part_says, random_index_says, zone_says, zone_tells}
 use Rattle.mxf_map.proofs.MarkLaws.{at_rank, ranked}
 use Rattle.mxf_klv.specs.declared.kinds.Kind.TheVariants as kinds
 use Rattle.mxf_sets.specs.declared.pack.part.PackPart.TheVariants as parts

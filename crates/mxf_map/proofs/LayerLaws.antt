@@ -1,16 +1,13 @@
 -- What may lie in a cell of a map, as lists and as relations.
-use Rattle.mxf_views.proofs.Common.{◌≡◌, ◌↔◌, ◌∙◌, ◌<◌, ◌≤◌, ◌+◌, ◌||◌, ℕ, Bool, true, false, not}
-use Rattle.mxf_views.proofs.Common.{List, [], ◌∷◌, refl, sym, ap, subst, inl, inr, arith, map}
-use Rattle.mxf_views.proofs.Common.{filter, filter_map, cond, Option, Some, None, Result, Ok, Err}
-use Rattle.mxf_views.proofs.Common.{IfOk, if◌then◌else◌, AllByRecursion, cons_option, and_parts}
-use Rattle.mxf_views.proofs.Common.{Contains-permutation, IsPermutation-sym, IsPermutation}
-use Rattle.mxf_views.proofs.Common.{option_map_or, Contains-from_In, In-from_Contains, three_parts}
-use Rattle.mxf_views.proofs.Common.{NoteParts, IsNote, greatest_end, kind_of, In, SameMembers}
-use Rattle.mxf_views.proofs.Common.{In-filter, In-map, all-In, all_from_In, IsCatalogue}
-use Rattle.mxf_views.proofs.Common.{union_of_runs, union_of_runs-IsUnion, clear_notes, run_of}
-use Rattle.mxf_views.proofs.Common.{IsWithin, LiesIn, run, In-clear_notes, IsSetKind, preface}
-use Rattle.mxf_views.proofs.Common.{identification, storage, material_package, source_package}
-use Rattle.mxf_views.proofs.Common.{raw_set, PartitionParts, partitions_of}
+use Rattle.mxf_views.proofs.Common.{◌≡◌, ◌↔◌, ◌∙◌, ◌<◌, ◌≤◌, ◌+◌, ◌||◌, ℕ, Bool, true, false, not, List, [], ◌∷◌, refl}
+use Rattle.mxf_views.proofs.Common.{sym, ap, subst, inl, inr, arith, map, filter, filter_map, cond, Option, Some, None}
+use Rattle.mxf_views.proofs.Common.{Result, Ok, Err, IfOk, if◌then◌else◌, AllByRecursion, cons_option, and_parts}
+use Rattle.mxf_views.proofs.Common.{Contains-permutation, IsPermutation-sym, IsPermutation, option_map_or}
+use Rattle.mxf_views.proofs.Common.{Contains-from_In, In-from_Contains, three_parts, NoteParts, IsNote, greatest_end}
+use Rattle.mxf_views.proofs.Common.{kind_of, In, SameMembers, In-filter, In-map, all-In, all_from_In, IsCatalogue}
+use Rattle.mxf_views.proofs.Common.{union_of_runs, union_of_runs-IsUnion, clear_notes, run_of, IsWithin, LiesIn, run}
+use Rattle.mxf_views.proofs.Common.{In-clear_notes, IsSetKind, preface, identification, storage, material_package}
+use Rattle.mxf_views.proofs.Common.{source_package, raw_set, PartitionParts, partitions_of}
 use Rattle.mxf_klv.specs.declared.kinds.Kind.{Kind}
 use Rattle.mxf_sets.specs.declared.pack.part.PackPart.{PackPart}
 use Rattle.mxf_catalogue.specs.declared.run.Run.{Run}
@@ -22,12 +19,11 @@ use Rattle.mxf_views.proofs.PartitionLaws.{partitions_are}
 use Rattle.mxf_places.specs.declared.claim.Claim.{Claim}
 use Rattle.mxf_places.specs.declared.stretch.Zone.{Zone}
 use Rattle.mxf_places.specs.Claims.{claims_of, named_place}
-use Rattle.mxf_places.specs.Held.{begins_clear_head, end_of_file, is_disputed_at, is_held}
-use Rattle.mxf_places.specs.Held.{is_in_file}
+use Rattle.mxf_places.specs.Held.{begins_clear_head, end_of_file, is_disputed_at, is_held, is_in_file}
 use Rattle.mxf_restore.specs.Missing.{is_missing, missing_places}
-use Rattle.mxf_map.specs.Layers.{missing_place, AreOffsets, BeginsPartition, BeginsRandomIndex}
-use Rattle.mxf_map.specs.Layers.{IsOfZone, LiesInZone, is_of_zone, is_part, is_random_index}
-use Rattle.mxf_map.specs.Layers.{partition_offsets, random_index_offsets, zone_notes}
+use Rattle.mxf_map.specs.Layers.{missing_place, AreOffsets, BeginsPartition, BeginsRandomIndex, IsOfZone, LiesInZone}
+use Rattle.mxf_map.specs.Layers.{is_of_zone, is_part, is_random_index, partition_offsets, random_index_offsets}
+use Rattle.mxf_map.specs.Layers.{zone_notes}
 use Rattle.mxf_klv.specs.declared.kinds.Kind.TheVariants as kinds
 use Rattle.mxf_sets.specs.declared.pack.part.PackPart.TheVariants as parts
 use Rattle.mxf_places.specs.declared.stretch.Zone.TheVariants as zones

@@ -1,17 +1,14 @@
 -- The end of a map, its cells, and the bytes that are held.
-use Rattle.mxf_views.proofs.Common.{◌≡◌, ◌↔◌, ◌∙◌, ◌<◌, ◌≤◌, ◌+◌, ◌-◌, ◌*◌, ◌/◌, ◌%◌, ℕ, Bool, true}
-use Rattle.mxf_views.proofs.Common.{false, List, [], ◌∷◌, refl, sym, ap, subst, inl, inr, arith}
-use Rattle.mxf_views.proofs.Common.{map, max, Option, Some, None, count_by, if◌then◌else◌, nat_lt}
-use Rattle.mxf_views.proofs.Common.{not, ◌&&◌, unwrap_or, cases_lt, false_from_ne_true}
-use Rattle.mxf_views.proofs.Common.{range_with_len, covered_end, range-all, range-none, range-same}
-use Rattle.mxf_views.proofs.Common.{range-split, list_any-In, Covers, covers_below_end}
-use Rattle.mxf_views.proofs.Common.{starts_above, rip_view_of, same_bool, AllByRecursion, NoteParts}
-use Rattle.mxf_views.proofs.Common.{In, all_from_In, IsCover, AreMaximal, LiesIn, has_byte}
+use Rattle.mxf_views.proofs.Common.{◌≡◌, ◌↔◌, ◌∙◌, ◌<◌, ◌≤◌, ◌+◌, ◌-◌, ◌*◌, ◌/◌, ◌%◌, ℕ, Bool, true, false, List, []}
+use Rattle.mxf_views.proofs.Common.{◌∷◌, refl, sym, ap, subst, inl, inr, arith, map, max, Option, Some, None, count_by}
+use Rattle.mxf_views.proofs.Common.{if◌then◌else◌, nat_lt, not, ◌&&◌, unwrap_or, cases_lt, false_from_ne_true}
+use Rattle.mxf_views.proofs.Common.{range_with_len, covered_end, range-all, range-none, range-same, range-split}
+use Rattle.mxf_views.proofs.Common.{list_any-In, Covers, covers_below_end, starts_above, rip_view_of, same_bool}
+use Rattle.mxf_views.proofs.Common.{AllByRecursion, NoteParts, In, all_from_In, IsCover, AreMaximal, LiesIn, has_byte}
 use Rattle.mxf_catalogue.specs.declared.run.Run.{Run}
 use Rattle.std.proofs.lemmas.Bool.{lt-ltb}
 use Rattle.std.specs.Option.{option_and_then}
-use Rattle.mxf_places.specs.Held.{IsHeld, bytes_of, end_of_file, is_held, reaches_past, rip_end_by}
-use Rattle.mxf_places.specs.Held.{top_of}
+use Rattle.mxf_places.specs.Held.{IsHeld, bytes_of, end_of_file, is_held, reaches_past, rip_end_by, top_of}
 use Rattle.mxf_places.specs.AtHand.{KnownParts, edge_of, has_offset, outside_below, runs_end}
 use Rattle.mxf_map.specs.Map.{hand_below, held_below, greatest_of, map_end}
 use Rattle.mxf_places.proofs.AtHandLaws.{has_offset-says}

@@ -1,6 +1,6 @@
 -- What is held of a file, as a picture of cells (this project's profile).
-use Rattle.std.specs.Prelude.{◌≡◌, ℕ, ◌+◌, ◌-◌, ◌/◌, ◌<◌, ◌≤◌, ◌&&◌, not, nat_lt, max, min}
-use Rattle.std.specs.Prelude.{List, [], ◌∷◌, count_by, filter, length, map}
+use Rattle.std.specs.Prelude.{◌≡◌, ℕ, ◌+◌, ◌-◌, ◌/◌, ◌<◌, ◌≤◌, ◌&&◌, not, nat_lt, max, min, List, [], ◌∷◌, count_by}
+use Rattle.std.specs.Prelude.{filter, length, map}
 use Rattle.std.specs.List.{range_with_len}
 use Rattle.mxf_klv.specs.declared.kinds.Kind.{Kind}
 use Rattle.mxf_klv.specs.declared.kinds.Kind.TheVariants as kinds

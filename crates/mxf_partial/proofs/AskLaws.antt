@@ -1,10 +1,9 @@
 -- What units ask for, as lists and by definition.
-use Rattle.mxf_views.proofs.Common.{◌≡◌, ◌↔◌, ◌⊎◌, ◌∙◌, ◌++◌, ◌+◌, ◌<◌, ◌==◌, ℕ, List, [], ◌∷◌}
-use Rattle.mxf_views.proofs.Common.{Option, None, Some, ap, arith, inl, inr, Err, Ok, Result, true}
-use Rattle.mxf_views.proofs.Common.{filter_map, map, refl, subst, sym, zero, suc, same_Some}
-use Rattle.mxf_views.proofs.Common.{range_with_len, result_ok, cons_option, ◌-◌, In, IsRising}
-use Rattle.mxf_views.proofs.Common.{In-append, In-filter_map, all_from_In, find-only, found-In}
-use Rattle.mxf_views.proofs.Common.{IsRisingBy, from_lower, one_by_key}
+use Rattle.mxf_views.proofs.Common.{◌≡◌, ◌↔◌, ◌⊎◌, ◌∙◌, ◌++◌, ◌+◌, ◌<◌, ◌==◌, ℕ, List, [], ◌∷◌, Option, None, Some, ap}
+use Rattle.mxf_views.proofs.Common.{arith, inl, inr, Err, Ok, Result, true, filter_map, map, refl, subst, sym, zero}
+use Rattle.mxf_views.proofs.Common.{suc, same_Some, range_with_len, result_ok, cons_option, ◌-◌, In, IsRising}
+use Rattle.mxf_views.proofs.Common.{In-append, In-filter_map, all_from_In, find-only, found-In, IsRisingBy, from_lower}
+use Rattle.mxf_views.proofs.Common.{one_by_key}
 use Rattle.mxf_views.specs.declared.index.place.StreamPlace.{StreamPlace}
 use Rattle.std.proofs.Common.{nat_cmp}
 use Rattle.std.proofs.lemmas.Bool.{eq-eqb, eqb-true}
@@ -18,8 +17,7 @@ use Rattle.mxf_units.specs.declared.location.Location.{Location}
 use Rattle.mxf_units.specs.declared.standing.UnitStanding.{UnitStanding}
 use Rattle.mxf_units.specs.declared.unit.EditUnit.{EditUnit}
 use Rattle.mxf_partial.specs.Between.{IsOneOf16, LiesBetweenSegments, MayIndex, MayIndexOneOf}
-use Rattle.mxf_partial.specs.Asks.{IsAskedByIndex, IsAskedByUnit, NeedsLimit, NeedsPartition}
-use Rattle.mxf_partial.specs.Asks.{NeedsWay}
+use Rattle.mxf_partial.specs.Asks.{IsAskedByIndex, IsAskedByUnit, NeedsLimit, NeedsPartition, NeedsWay}
 use Rattle.mxf_partial.specs.Named.{AreNamed, IsNamedBy, named_at}
 use Rattle.mxf_partial.specs.Near.{MayLieAt}
 use Rattle.mxf_partial.specs.Questions.{limit_asked, number_unindexed, partition_asked, way_asked}

@@ -1,12 +1,10 @@
 -- Named places between the segments of an index, and those of them that are chosen.
-use Rattle.mxf_views.proofs.Common.{◌≡◌, ◌↔◌, ◌∙◌, ◌⊎◌, ◌+◌, ◌*◌, ◌/◌, ◌<◌, ◌≤◌, ℕ, Bool, true}
-use Rattle.mxf_views.proofs.Common.{IsTrue, List, [], ◌∷◌, ◌++◌, Option, Some, arith, ap, filter}
-use Rattle.mxf_views.proofs.Common.{get_or, inl, inr, length, map, refl, subst, sym, slice_get}
-use Rattle.mxf_views.proofs.Common.{list_all, mul-le-mul_left, leb_tells, get_or-map, length-map}
-use Rattle.mxf_views.proofs.Common.{get_or_from_slice_get, slice_get-get_or, slice_get-map}
-use Rattle.mxf_views.proofs.Common.{slice_get_within, In, IsRising, In-at, In-end, In-filter}
-use Rattle.mxf_views.proofs.Common.{In-list_all, In-map, all-In, all_from_In, list_all-In}
-use Rattle.mxf_views.proofs.Common.{IsRisingBy, by_itself, one_by_key, rises-filter, rises-map}
+use Rattle.mxf_views.proofs.Common.{◌≡◌, ◌↔◌, ◌∙◌, ◌⊎◌, ◌+◌, ◌*◌, ◌/◌, ◌<◌, ◌≤◌, ℕ, Bool, true, IsTrue, List, [], ◌∷◌}
+use Rattle.mxf_views.proofs.Common.{◌++◌, Option, Some, arith, ap, filter, get_or, inl, inr, length, map, refl, subst}
+use Rattle.mxf_views.proofs.Common.{sym, slice_get, list_all, mul-le-mul_left, leb_tells, get_or-map, length-map}
+use Rattle.mxf_views.proofs.Common.{get_or_from_slice_get, slice_get-get_or, slice_get-map, slice_get_within, In}
+use Rattle.mxf_views.proofs.Common.{IsRising, In-at, In-end, In-filter, In-list_all, In-map, all-In, all_from_In}
+use Rattle.mxf_views.proofs.Common.{list_all-In, IsRisingBy, by_itself, one_by_key, rises-filter, rises-map}
 use Rattle.mxf_views.proofs.Common.{same_by_members, lt_from_less, SegmentAtParts}
 use Rattle.std.proofs.Common.{nat_cmp}
 use Rattle.std.specs.Option.{option_map}
@@ -17,8 +15,7 @@ use Rattle.mxf_restore.specs.NamedPlaces.{place_cmp}
 use Rattle.mxf_restore.specs.declared.named.NamedPlace.{NamedPlace}
 use Rattle.mxf_partial.specs.Between.{IsOneOf16, LiesBetweenSegments, MayIndexOneOf}
 use Rattle.mxf_partial.specs.Named.{AreNamed}
-use Rattle.mxf_partial.specs.SegmentStarts.{IsEvenly16, is_apart, is_between_any, start_of}
-use Rattle.mxf_partial.specs.SegmentStarts.{starts_for}
+use Rattle.mxf_partial.specs.SegmentStarts.{IsEvenly16, is_apart, is_between_any, start_of, starts_for}
 use Rattle.mxf_partial.proofs.StartLaws.{apart_says, between_any}
 
 abbrev offset_of : NamedPlace → ℕ

@@ -1,8 +1,7 @@
 -- The front of a section, and the source with which it is restored.
-use Rattle.mxf_views.proofs.Common.{◌≡◌, ◌↔◌, ◌⊎◌, ◌∙◌, ◌≤◌, ℕ, Bool, true, false, List, [], ◌∷◌}
-use Rattle.mxf_views.proofs.Common.{Option, None, Some, ap, arith, filter, inl, inr, min, nat_le}
-use Rattle.mxf_views.proofs.Common.{nat_lt, refl, subst, sym, and_from, and_parts, le-leb}
-use Rattle.mxf_views.proofs.Common.{leb-false, leb-true, same_Some, NoteParts, In, In-filter}
+use Rattle.mxf_views.proofs.Common.{◌≡◌, ◌↔◌, ◌⊎◌, ◌∙◌, ◌≤◌, ℕ, Bool, true, false, List, [], ◌∷◌, Option, None, Some}
+use Rattle.mxf_views.proofs.Common.{ap, arith, filter, inl, inr, min, nat_le, nat_lt, refl, subst, sym, and_from}
+use Rattle.mxf_views.proofs.Common.{and_parts, le-leb, leb-false, leb-true, same_Some, NoteParts, In, In-filter}
 use Rattle.std.proofs.lemmas.Bool.{lt-ltb, ltb-true}
 use Rattle.std.specs.Option.{option_and_then, option_map}
 use Rattle.mxf_places.specs.AtHand.{AtHandParts, LiesBetween}
@@ -11,8 +10,8 @@ use Rattle.mxf_restore.specs.Plan.{start_of}
 use Rattle.mxf_restore.specs.declared.named.NamedPlace.{NamedPlace}
 use Rattle.mxf_restore.specs.declared.plan.Order.{Order}
 use Rattle.mxf_restore.specs.declared.section.Section.{Section}
-use Rattle.mxf_partial.specs.Fronts.{GoesFirst, IsFirstSource, IsFrontOf, earlier, first_of}
-use Rattle.mxf_partial.specs.Fronts.{first_source, front_by, front_order, if_none, lies_between}
+use Rattle.mxf_partial.specs.Fronts.{GoesFirst, IsFirstSource, IsFrontOf, earlier, first_of, first_source, front_by}
+use Rattle.mxf_partial.specs.Fronts.{front_order, if_none, lies_between}
 use Rattle.mxf_partial.specs.Helping.{helping_of}
 
 -- ---- which source goes first

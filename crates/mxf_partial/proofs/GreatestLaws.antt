@@ -1,14 +1,12 @@
 -- The greatest offsets of streams that segments give: of one segment, and of those that a loop has passed.
-use Rattle.mxf_views.proofs.Common.{◌≡◌, ◌∙◌, ◌≢◌, ◌<◌, ◌≤◌, ◌+◌, ◌-◌, ◌*◌, ◌==◌, ◌⊎◌, ℕ, Bool}
-use Rattle.mxf_views.proofs.Common.{true, false, List, [], ◌∷◌, Option, None, Some, MatchOption}
-use Rattle.mxf_views.proofs.Common.{pos, refl, sym, ap, subst, inl, inr, arith, eq-eqb, eqb-true}
-use Rattle.mxf_views.proofs.Common.{if◌then◌else◌, negsuc, suc, zero, ℤ, max, unsigned_abs, lt-ltb}
-use Rattle.mxf_views.proofs.Common.{cases_lt, IsTotalOrder, IsAntisymmetric}
-use Rattle.mxf_views.proofs.Common.{nat_cmp-IsAntisymmetric, nat_cmp, on, then_cmp, Ordering}
-use Rattle.mxf_views.proofs.Common.{nat_cmp_total, on_total, then_total, In, In-union, IsRising}
-use Rattle.mxf_views.proofs.Common.{union, In-end, In-filter, lt_from_less, ties, covers_constant}
-use Rattle.mxf_views.proofs.Common.{covers_entry, entry_offset, stream_offset, SegmentParts}
-use Rattle.mxf_views.proofs.Common.{entry_count, is_constant, SegmentAtParts, segments_of}
+use Rattle.mxf_views.proofs.Common.{◌≡◌, ◌∙◌, ◌≢◌, ◌<◌, ◌≤◌, ◌+◌, ◌-◌, ◌*◌, ◌==◌, ◌⊎◌, ℕ, Bool, true, false, List, []}
+use Rattle.mxf_views.proofs.Common.{◌∷◌, Option, None, Some, MatchOption, pos, refl, sym, ap, subst, inl, inr, arith}
+use Rattle.mxf_views.proofs.Common.{eq-eqb, eqb-true, if◌then◌else◌, negsuc, suc, zero, ℤ, max, unsigned_abs, lt-ltb}
+use Rattle.mxf_views.proofs.Common.{cases_lt, IsTotalOrder, IsAntisymmetric, nat_cmp-IsAntisymmetric, nat_cmp, on}
+use Rattle.mxf_views.proofs.Common.{then_cmp, Ordering, nat_cmp_total, on_total, then_total, In, In-union, IsRising}
+use Rattle.mxf_views.proofs.Common.{union, In-end, In-filter, lt_from_less, ties, covers_constant, covers_entry}
+use Rattle.mxf_views.proofs.Common.{entry_offset, stream_offset, SegmentParts, entry_count, is_constant, SegmentAtParts}
+use Rattle.mxf_views.proofs.Common.{segments_of}
 use Rattle.std.proofs.Common.{mul-le-mul_left}
 use Rattle.mxf_units.specs.LastUnits.{IsEndless}
 use Rattle.mxf_units.specs.Streams.{segments_for}

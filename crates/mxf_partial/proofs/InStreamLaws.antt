@@ -1,15 +1,14 @@
 -- Elements of streams in their order: what their places say.
-use Rattle.mxf_views.proofs.Common.{◌≡◌, ◌∙◌, ◌<◌, ◌≤◌, ◌-◌, ◌⊎◌, ◌&&◌, ◌||◌, ◌==◌, ℕ, zero, suc}
-use Rattle.mxf_views.proofs.Common.{Bool, true, false, List, [], ◌∷◌, Some, refl, sym, ap, subst}
-use Rattle.mxf_views.proofs.Common.{inl, inr, arith, eq-eqb, eqb-true, get_or, length, lt-ltb}
-use Rattle.mxf_views.proofs.Common.{ltb-true, nat_lt, and_from, and_parts, cases_lt}
-use Rattle.mxf_views.proofs.Common.{get_or_from_slice_get, slice_get_within, IsPartitionedBy}
-use Rattle.mxf_views.proofs.Common.{AllByRecursion, ordering_then, Ordering, Less, Equal, Greater}
-use Rattle.mxf_views.proofs.Common.{In, IsRising, all-In, In-at, Contains-from_In, either}
+use Rattle.mxf_views.proofs.Common.{◌≡◌, ◌∙◌, ◌<◌, ◌≤◌, ◌-◌, ◌⊎◌, ◌&&◌, ◌||◌, ◌==◌, ℕ, zero, suc, Bool, true, false}
+use Rattle.mxf_views.proofs.Common.{List, [], ◌∷◌, Some, refl, sym, ap, subst, inl, inr, arith, eq-eqb, eqb-true}
+use Rattle.mxf_views.proofs.Common.{get_or, length, lt-ltb, ltb-true, nat_lt, and_from, and_parts, cases_lt}
+use Rattle.mxf_views.proofs.Common.{get_or_from_slice_get, slice_get_within, IsPartitionedBy, AllByRecursion}
+use Rattle.mxf_views.proofs.Common.{ordering_then, Ordering, Less, Equal, Greater, In, IsRising, all-In, In-at}
+use Rattle.mxf_views.proofs.Common.{Contains-from_In, either}
 use Rattle.std.proofs.Common.{slice_get}
 use Rattle.std.specs.List.Sorted.{IsPartitionPoint}
-use Rattle.mxf_partial.specs.InStreams.{ArePartedAt, GoesTo, HasNoneBelow, HasNoneFrom, IsBelow}
-use Rattle.mxf_partial.specs.InStreams.{IsFirstFrom, IsInOrder, IsLastBelow, Precedes, is_below}
+use Rattle.mxf_partial.specs.InStreams.{ArePartedAt, GoesTo, HasNoneBelow, HasNoneFrom, IsBelow, IsFirstFrom, IsInOrder}
+use Rattle.mxf_partial.specs.InStreams.{IsLastBelow, Precedes, is_below}
 
 -- ---- the test
 

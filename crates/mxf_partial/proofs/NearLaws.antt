@@ -1,10 +1,8 @@
 -- Named places at which the partition of a stream may stand that has an offset of it.
-use Rattle.mxf_views.proofs.Common.{◌≡◌, ◌∙◌, ◌<◌, ◌≤◌, ◌+◌, ◌⊎◌, ◌++◌, ◌||◌, ◌↔◌, ℕ, Bool, true}
-use Rattle.mxf_views.proofs.Common.{false, List, [], ◌∷◌, Option, None, Some, refl, sym, ap, subst}
-use Rattle.mxf_views.proofs.Common.{inl, inr, arith, get_or, length, max, cases_lt}
-use Rattle.mxf_views.proofs.Common.{get_or_from_slice_get, slice_get-get_or, slice_get_read}
-use Rattle.mxf_views.proofs.Common.{slice_get_within, In, In-at, In-end, Contains-from_In}
-use Rattle.mxf_views.proofs.Common.{LiesIn-with_run, with_run, LiesIn, run}
+use Rattle.mxf_views.proofs.Common.{◌≡◌, ◌∙◌, ◌<◌, ◌≤◌, ◌+◌, ◌⊎◌, ◌++◌, ◌||◌, ◌↔◌, ℕ, Bool, true, false, List, [], ◌∷◌}
+use Rattle.mxf_views.proofs.Common.{Option, None, Some, refl, sym, ap, subst, inl, inr, arith, get_or, length, max}
+use Rattle.mxf_views.proofs.Common.{cases_lt, get_or_from_slice_get, slice_get-get_or, slice_get_read, slice_get_within}
+use Rattle.mxf_views.proofs.Common.{In, In-at, In-end, Contains-from_In, LiesIn-with_run, with_run, LiesIn, run}
 use Rattle.mxf_catalogue.specs.declared.run.Run.{Run}
 use Rattle.std.proofs.Common.{slice_get}
 use Rattle.std.proofs.lemmas.Option.{slice_get_cases}

@@ -1,11 +1,9 @@
 -- What is asked for of a place of a stream is found by the tables.
-use Rattle.mxf_views.proofs.Common.{◌≡◌, ◌∙◌, ◌<◌, ◌≤◌, ◌+◌, ◌⊎◌, ◌++◌, ◌↔◌, ℕ, Bool, true, false}
-use Rattle.mxf_views.proofs.Common.{List, [], ◌∷◌, Option, None, Some, refl, sym, ap, subst, inl}
-use Rattle.mxf_views.proofs.Common.{inr, arith, get_or, length, map, cases_lt, AllByRecursion, Less}
-use Rattle.mxf_views.proofs.Common.{NoteParts, In, IsRising, In-append, In-at, In-map}
-use Rattle.mxf_views.proofs.Common.{Contains-from_In, IsRisingBy, one_by_key, lt_from_less}
-use Rattle.mxf_views.proofs.Common.{get_or_from_slice_get, slice_get-get_or, slice_get_read}
-use Rattle.mxf_views.proofs.Common.{slice_get_within, LiesIn, partitions_of}
+use Rattle.mxf_views.proofs.Common.{◌≡◌, ◌∙◌, ◌<◌, ◌≤◌, ◌+◌, ◌⊎◌, ◌++◌, ◌↔◌, ℕ, Bool, true, false, List, [], ◌∷◌}
+use Rattle.mxf_views.proofs.Common.{Option, None, Some, refl, sym, ap, subst, inl, inr, arith, get_or, length, map}
+use Rattle.mxf_views.proofs.Common.{cases_lt, AllByRecursion, Less, NoteParts, In, IsRising, In-append, In-at, In-map}
+use Rattle.mxf_views.proofs.Common.{Contains-from_In, IsRisingBy, one_by_key, lt_from_less, get_or_from_slice_get}
+use Rattle.mxf_views.proofs.Common.{slice_get-get_or, slice_get_read, slice_get_within, LiesIn, partitions_of}
 use Rattle.mxf_catalogue.specs.declared.run.Run.{Run}
 use Rattle.mxf_views.specs.declared.index.place.StreamPlace.{StreamPlace}
 use Rattle.std.proofs.Common.{slice_get}
@@ -15,8 +13,8 @@ use Rattle.mxf_restore.specs.declared.named.NamedPlace.{NamedPlace}
 use Rattle.mxf_units.specs.Units.{UnitsParts}
 use Rattle.mxf_partial.specs.Named.{AreNamed, IsNamed}
 use Rattle.mxf_partial.specs.Near.{IsNamedOf, IsNear, IsOfStream, IsPlaceOf, MayLieAt}
-use Rattle.mxf_partial.specs.NearTable.{AreNear, Asks, HasAddedThose, IsFrom, LiesInStream, Serves}
-use Rattle.mxf_partial.specs.NearTable.{named_of, partition_place}
+use Rattle.mxf_partial.specs.NearTable.{AreNear, Asks, HasAddedThose, IsFrom, LiesInStream, Serves, named_of}
+use Rattle.mxf_partial.specs.NearTable.{partition_place}
 use Rattle.mxf_partial.specs.Streams.{IsHigh, IsLow}
 use Rattle.mxf_partial.specs.declared.near.Asked.{Asked}
 use Rattle.mxf_partial.specs.declared.near.Near.{Near}

@@ -1,23 +1,19 @@
 -- Places at which partitions may stand, each with the streams that it may be of.
-use Rattle.mxf_views.proofs.Common.{◌≡◌, ◌∙◌, ◌<◌, ◌≤◌, ◌+◌, ◌⊎◌, ◌++◌, ◌↔◌, ℕ, List, [], ◌∷◌}
-use Rattle.mxf_views.proofs.Common.{Option, None, Some, refl, sym, ap, subst, inl, inr, arith}
-use Rattle.mxf_views.proofs.Common.{get_or, length, map, slice_get-get_or, slice_get_read, Ok}
-use Rattle.mxf_views.proofs.Common.{Result, OnOk, cases_lt, IsTotalOrder, options_total}
-use Rattle.mxf_views.proofs.Common.{IsAntisymmetric, nat_cmp-IsAntisymmetric, option_cmp, nat_cmp}
-use Rattle.mxf_views.proofs.Common.{on, then_cmp, Ordering, Less, nat_cmp_total, on_total}
-use Rattle.mxf_views.proofs.Common.{then_total, NoteParts, In, In-union, IsRising, union, In-at}
-use Rattle.mxf_views.proofs.Common.{In-end, In-map, Contains-from_In, lt_from_less, ties}
+use Rattle.mxf_views.proofs.Common.{◌≡◌, ◌∙◌, ◌<◌, ◌≤◌, ◌+◌, ◌⊎◌, ◌++◌, ◌↔◌, ℕ, List, [], ◌∷◌, Option, None, Some, refl}
+use Rattle.mxf_views.proofs.Common.{sym, ap, subst, inl, inr, arith, get_or, length, map, slice_get-get_or}
+use Rattle.mxf_views.proofs.Common.{slice_get_read, Ok, Result, OnOk, cases_lt, IsTotalOrder, options_total}
+use Rattle.mxf_views.proofs.Common.{IsAntisymmetric, nat_cmp-IsAntisymmetric, option_cmp, nat_cmp, on, then_cmp}
+use Rattle.mxf_views.proofs.Common.{Ordering, Less, nat_cmp_total, on_total, then_total, NoteParts, In, In-union}
+use Rattle.mxf_views.proofs.Common.{IsRising, union, In-at, In-end, In-map, Contains-from_In, lt_from_less, ties}
 use Rattle.mxf_views.proofs.Common.{RipAtParts, rip_view_of}
 use Rattle.mxf_sets.specs.declared.pack.random_index.RipEntry.{RipEntry}
 use Rattle.mxf_views.specs.declared.random_index.RipView.TheVariants.{One}
 use Rattle.mxf_views.specs.declared.random_index.Standing.{Standing}
 use Rattle.std.proofs.Common.{slice_get}
 use Rattle.mxf_restore.specs.declared.named.NamedPlace.{NamedPlace}
-use Rattle.mxf_partial.specs.InStreams.{HasNoneBelow, HasNoneFrom, IsFirstFrom, IsInOrder}
-use Rattle.mxf_partial.specs.InStreams.{IsLastBelow}
+use Rattle.mxf_partial.specs.InStreams.{HasNoneBelow, HasNoneFrom, IsFirstFrom, IsInOrder, IsLastBelow}
 use Rattle.mxf_partial.specs.Near.{IsOfStream}
-use Rattle.mxf_partial.specs.NearTable.{AreListed, AreOfStreams, IsOfNoStream, IsOfStreams}
-use Rattle.mxf_partial.specs.NearTable.{entry_of, named_of, rank}
+use Rattle.mxf_partial.specs.NearTable.{AreListed, AreOfStreams, IsOfNoStream, IsOfStreams, entry_of, named_of, rank}
 use Rattle.mxf_partial.specs.declared.place_streams.ListedStream.{ListedStream}
 use Rattle.mxf_partial.specs.declared.place_streams.PlaceOf.{PlaceOf}
 use Rattle.mxf_partial.proofs.InStreamLaws.{in_order_from, then_less}

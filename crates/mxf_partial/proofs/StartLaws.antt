@@ -1,10 +1,9 @@
 -- Where segments of an index stand and begin, and which places lie between them.
-use Rattle.mxf_views.proofs.Common.{◌≡◌, ◌↔◌, ◌+◌, ◌-◌, ◌<◌, ◌≤◌, ℕ, zero, suc, false, IsTrue, List}
-use Rattle.mxf_views.proofs.Common.{[], ◌∷◌, arith, ap, get_or, inl, inr, length, map, max, min}
-use Rattle.mxf_views.proofs.Common.{nat_lt, subst, sym, AllWithin, list_all, IsNonDecreasingBy}
-use Rattle.mxf_views.proofs.Common.{leb_tells, get_or-map, get_or-reverse, length-map}
-use Rattle.mxf_views.proofs.Common.{length-reverse, In, Contains-from_In, In-at, In-list_all}
-use Rattle.mxf_views.proofs.Common.{list_all-In, list_any-In, same_bool}
+use Rattle.mxf_views.proofs.Common.{◌≡◌, ◌↔◌, ◌+◌, ◌-◌, ◌<◌, ◌≤◌, ℕ, zero, suc, false, IsTrue, List, [], ◌∷◌, arith, ap}
+use Rattle.mxf_views.proofs.Common.{get_or, inl, inr, length, map, max, min, nat_lt, subst, sym, AllWithin, list_all}
+use Rattle.mxf_views.proofs.Common.{IsNonDecreasingBy, leb_tells, get_or-map, get_or-reverse, length-map}
+use Rattle.mxf_views.proofs.Common.{length-reverse, In, Contains-from_In, In-at, In-list_all, list_all-In, list_any-In}
+use Rattle.mxf_views.proofs.Common.{same_bool}
 use Rattle.std.specs.Prelude.{reverse}
 use Rattle.std.proofs.lemmas.Bool.{lt-ltb, ltb-true}
 use Rattle.std.proofs.lemmas.Grind.{get_or_default_zero}

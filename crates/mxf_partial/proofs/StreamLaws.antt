@@ -1,11 +1,9 @@
 -- Between which file offsets an offset of a stream lies, by tables that are searched.
-use Rattle.mxf_views.proofs.Common.{◌≡◌, ◌∙◌, ◌≤◌, ◌+◌, ◌-◌, ℕ, List, [], ◌∷◌, Option, None, Some}
-use Rattle.mxf_views.proofs.Common.{refl, sym, ap, subst, inl, inr, arith, map, max, reverse}
-use Rattle.mxf_views.proofs.Common.{cases_lt, IsTotalOrder, IsAntisymmetric}
-use Rattle.mxf_views.proofs.Common.{nat_cmp-IsAntisymmetric, nat_cmp, on, then_cmp, Ordering, Less}
-use Rattle.mxf_views.proofs.Common.{nat_cmp_total, on_total, then_total, NoteParts, In, In-union}
-use Rattle.mxf_views.proofs.Common.{IsRising, union, In-append, In-map, one_by_key, lt_from_less}
-use Rattle.mxf_views.proofs.Common.{ties, IsContent, PartitionParts, partitions_of}
+use Rattle.mxf_views.proofs.Common.{◌≡◌, ◌∙◌, ◌≤◌, ◌+◌, ◌-◌, ℕ, List, [], ◌∷◌, Option, None, Some, refl, sym, ap, subst}
+use Rattle.mxf_views.proofs.Common.{inl, inr, arith, map, max, reverse, cases_lt, IsTotalOrder, IsAntisymmetric}
+use Rattle.mxf_views.proofs.Common.{nat_cmp-IsAntisymmetric, nat_cmp, on, then_cmp, Ordering, Less, nat_cmp_total}
+use Rattle.mxf_views.proofs.Common.{on_total, then_total, NoteParts, In, In-union, IsRising, union, In-append, In-map}
+use Rattle.mxf_views.proofs.Common.{one_by_key, lt_from_less, ties, IsContent, PartitionParts, partitions_of}
 use mathlib.Core.List.{reverse-cons}
 use Rattle.mxf_views.proofs.PartitionLaws.{partitions_rise}
 use Rattle.mxf_units.specs.EssenceZones.{part_cmp, part_of, parts_of}
@@ -13,11 +11,10 @@ use Rattle.mxf_units.proofs.OrderLaws.{one_part, part_total}
 use Rattle.mxf_units.specs.Units.{UnitsParts}
 use Rattle.mxf_units.specs.declared.essence_zone.part.StreamPart.{StreamPart}
 use Rattle.mxf_partial.specs.Greatest.{AreGreatest}
-use Rattle.mxf_partial.specs.InStreams.{HasNoneBelow, HasNoneFrom, IsFirstFrom, IsInOrder}
-use Rattle.mxf_partial.specs.InStreams.{IsLastBelow, Precedes}
+use Rattle.mxf_partial.specs.InStreams.{HasNoneBelow, HasNoneFrom, IsFirstFrom, IsInOrder, IsLastBelow, Precedes}
 use Rattle.mxf_partial.specs.StreamTable.{AreStarts, IsRipOffset, PartsDiffer, start_of}
-use Rattle.mxf_partial.specs.Streams.{HasNoPartBehind, IsEndingPlace, IsGreatestOffset, IsHigh}
-use Rattle.mxf_partial.specs.Streams.{IsLow, IsPart, IsPartAt, IsPartBehind}
+use Rattle.mxf_partial.specs.Streams.{HasNoPartBehind, IsEndingPlace, IsGreatestOffset, IsHigh, IsLow, IsPart, IsPartAt}
+use Rattle.mxf_partial.specs.Streams.{IsPartBehind}
 use Rattle.mxf_partial.specs.declared.greatest.GreatestPlace.{GreatestPlace}
 use Rattle.mxf_partial.specs.declared.streams.PartStart.{PartStart}
 use Rattle.mxf_partial.proofs.InStreamLaws.{in_order_from, then_less}

@@ -1,14 +1,11 @@
 -- The orders of a plan for edit units.
-use Rattle.mxf_views.proofs.Common.{◌≡◌, ◌↔◌, ◌⊎◌, ◌∙◌, ◌++◌, ◌<◌, ◌≤◌, ◌+◌, ℕ, Bool, true, false}
-use Rattle.mxf_views.proofs.Common.{List, [], ◌∷◌, Option, None, Some, ap, nat_lt, unwrap_or, arith}
-use Rattle.mxf_views.proofs.Common.{filter_map, flat_map, inl, inr, is_some, map, refl, subst, sym}
-use Rattle.mxf_views.proofs.Common.{Result, Ok, Err, if◌then◌else◌, IfOk, drop, get_or, length, suc}
-use Rattle.mxf_views.proofs.Common.{◌==◌, same_Some, result_ok, option_map_or, NoteParts}
-use Rattle.mxf_views.proofs.Common.{greatest_end, In, In-union, same_from_members, union, In-append}
-use Rattle.mxf_views.proofs.Common.{In-filter_map, In-flat_map, In-map, all-In, found-In}
-use Rattle.mxf_views.proofs.Common.{none_found, drop_all, drop-cons, IsCover, union_of_runs}
-use Rattle.mxf_views.proofs.Common.{union_of_runs-IsUnion, LiesIn, same_covers, option_to_list}
-use Rattle.mxf_views.proofs.Common.{slice_get, ltb-false}
+use Rattle.mxf_views.proofs.Common.{◌≡◌, ◌↔◌, ◌⊎◌, ◌∙◌, ◌++◌, ◌<◌, ◌≤◌, ◌+◌, ℕ, Bool, true, false, List, [], ◌∷◌}
+use Rattle.mxf_views.proofs.Common.{Option, None, Some, ap, nat_lt, unwrap_or, arith, filter_map, flat_map, inl, inr}
+use Rattle.mxf_views.proofs.Common.{is_some, map, refl, subst, sym, Result, Ok, Err, if◌then◌else◌, IfOk, drop, get_or}
+use Rattle.mxf_views.proofs.Common.{length, suc, ◌==◌, same_Some, result_ok, option_map_or, NoteParts, greatest_end, In}
+use Rattle.mxf_views.proofs.Common.{In-union, same_from_members, union, In-append, In-filter_map, In-flat_map, In-map}
+use Rattle.mxf_views.proofs.Common.{all-In, found-In, none_found, drop_all, drop-cons, IsCover, union_of_runs}
+use Rattle.mxf_views.proofs.Common.{union_of_runs-IsUnion, LiesIn, same_covers, option_to_list, slice_get, ltb-false}
 use Rattle.mxf_catalogue.specs.declared.cover.Cover.{Cover}
 use Rattle.mxf_catalogue.specs.declared.run.Run.{Run}
 use Rattle.std.proofs.lemmas.Bool.{eq-eqb, eqb-true}
@@ -20,8 +17,8 @@ use Rattle.mxf_places.specs.Claims.{claim_at}
 use Rattle.mxf_places.specs.declared.claim.Claim.{Claim}
 use Rattle.mxf_places.specs.declared.reason.Reason.{Reason}
 use Rattle.mxf_restore.specs.Fronts.{all_from, front_of, front_range, looked_for}
-use Rattle.mxf_restore.specs.Plan.{LiesInOrder, asked_by, asked_of, order_cmp, orders_by, orders_of}
-use Rattle.mxf_restore.specs.Plan.{part_order, parts_of, start_of}
+use Rattle.mxf_restore.specs.Plan.{LiesInOrder, asked_by, asked_of, order_cmp, orders_by, orders_of, part_order}
+use Rattle.mxf_restore.specs.Plan.{parts_of, start_of}
 use Rattle.mxf_restore.specs.Sections.{sections_of}
 use Rattle.mxf_restore.specs.declared.named.NamedPlace.{NamedPlace}
 use Rattle.mxf_restore.specs.declared.plan.Order.{Order}
@@ -35,12 +32,11 @@ use Rattle.mxf_partial.specs.Asks.{IsAskedByIndex, IsAskedByUnit}
 use Rattle.mxf_partial.specs.Fronts.{front_order}
 use Rattle.mxf_partial.specs.Helping.{helping_by, helping_for, helping_of}
 use Rattle.mxf_partial.specs.Named.{AreNamed, IsNamed, is_named, named_at}
-use Rattle.mxf_partial.specs.Orders.{AreAsked, AreOffsetsOf, IsFindingOrder, IsFrontOrder}
-use Rattle.mxf_partial.specs.Orders.{IsOrdered, IsThere, IsUnitOrder, IsUnitPlan, UnitPlanParts}
-use Rattle.mxf_partial.specs.Orders.{helping_orders, is_described, known_end, unit_order}
-use Rattle.mxf_partial.specs.Wanted.{HasByte, HasByteOf, HasNamedLimit, IsWantedByte, WantedParts}
-use Rattle.mxf_partial.specs.Wanted.{WantsAt, WantsByte, hand_of, is_limit_named, notes_of}
-use Rattle.mxf_partial.specs.Wanted.{wanted_at, wanted_by, wanted_of, wanted_units}
+use Rattle.mxf_partial.specs.Orders.{AreAsked, AreOffsetsOf, IsFindingOrder, IsFrontOrder, IsOrdered, IsThere}
+use Rattle.mxf_partial.specs.Orders.{IsUnitOrder, IsUnitPlan, UnitPlanParts, helping_orders, is_described, known_end}
+use Rattle.mxf_partial.specs.Orders.{unit_order}
+use Rattle.mxf_partial.specs.Wanted.{HasByte, HasByteOf, HasNamedLimit, IsWantedByte, WantedParts, WantsAt, WantsByte}
+use Rattle.mxf_partial.specs.Wanted.{hand_of, is_limit_named, notes_of, wanted_at, wanted_by, wanted_of, wanted_units}
 use Rattle.mxf_partial.proofs.FrontLaws.{by_members, front_is}
 use Rattle.mxf_places.specs.declared.reason.Reason.TheVariants as reasons
 use Rattle.mxf_units.specs.declared.standing.UnitStanding.TheVariants as standings

@@ -1,7 +1,7 @@
 -- What is wanted of units, one after another.
-use Rattle.mxf_views.proofs.Common.{◌≡◌, ◌↔◌, ◌⊎◌, ◌<◌, ℕ, List, [], ◌∷◌, Option, None, Some, arith}
-use Rattle.mxf_views.proofs.Common.{inl, inr, min, refl, subst, sym, unwrap_or, same_Some}
-use Rattle.mxf_views.proofs.Common.{greatest_end, LiesIn-with_run, with_run, IsWithin, LiesIn, run}
+use Rattle.mxf_views.proofs.Common.{◌≡◌, ◌↔◌, ◌⊎◌, ◌<◌, ℕ, List, [], ◌∷◌, Option, None, Some, arith, inl, inr, min}
+use Rattle.mxf_views.proofs.Common.{refl, subst, sym, unwrap_or, same_Some, greatest_end, LiesIn-with_run, with_run}
+use Rattle.mxf_views.proofs.Common.{IsWithin, LiesIn, run}
 use Rattle.mxf_catalogue.specs.declared.run.Run.{Run}
 use Rattle.mxf_restore.specs.declared.named.NamedPlace.{NamedPlace}
 use Rattle.mxf_units.specs.Units.{UnitsParts}

@@ -1,13 +1,10 @@
 -- The ways from partitions of streams, by where these begin.
-use Rattle.mxf_views.proofs.Common.{◌≡◌, ◌↔◌, ◌⊎◌, ◌∙◌, ◌+◌, ◌<◌, ◌≤◌, ◌==◌, ℕ, true, false, List}
-use Rattle.mxf_views.proofs.Common.{◌∷◌, Option, None, Some, ap, arith, drop, find, get_or}
-use Rattle.mxf_views.proofs.Common.{if◌then◌else◌, inl, inr, is_some, length, nat_lt, refl, suc}
-use Rattle.mxf_views.proofs.Common.{subst, sym, ltb-false, same_Some, IsNote, greatest_end}
-use Rattle.mxf_views.proofs.Common.{IsCatalogue, undisputed_notes, In-undisputed_notes, NoteParts}
-use Rattle.mxf_views.proofs.Common.{In, IsRising, all-In, find-only, found-In, lt_from_less}
-use Rattle.mxf_views.proofs.Common.{IsContent, place_cmp, drop_all, drop-cons, Less}
-use Rattle.mxf_views.proofs.Common.{nat_cmp-IsAntisymmetric, PartitionParts, in_numbers}
-use Rattle.mxf_views.proofs.Common.{partitions_of}
+use Rattle.mxf_views.proofs.Common.{◌≡◌, ◌↔◌, ◌⊎◌, ◌∙◌, ◌+◌, ◌<◌, ◌≤◌, ◌==◌, ℕ, true, false, List, ◌∷◌, Option, None}
+use Rattle.mxf_views.proofs.Common.{Some, ap, arith, drop, find, get_or, if◌then◌else◌, inl, inr, is_some, length}
+use Rattle.mxf_views.proofs.Common.{nat_lt, refl, suc, subst, sym, ltb-false, same_Some, IsNote, greatest_end}
+use Rattle.mxf_views.proofs.Common.{IsCatalogue, undisputed_notes, In-undisputed_notes, NoteParts, In, IsRising, all-In}
+use Rattle.mxf_views.proofs.Common.{find-only, found-In, lt_from_less, IsContent, place_cmp, drop_all, drop-cons, Less}
+use Rattle.mxf_views.proofs.Common.{nat_cmp-IsAntisymmetric, PartitionParts, in_numbers, partitions_of}
 use Rattle.mxf_views.specs.declared.index.place.StreamPlace.{StreamPlace}
 use Rattle.std.proofs.Common.{nat_cmp}
 use Rattle.std.proofs.lemmas.Bool.{eq-eqb, eqb-true, lt-ltb, ltb-true}

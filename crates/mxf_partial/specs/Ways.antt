@@ -1,6 +1,7 @@
 -- Where the way from a partition pack to its essence goes on over what isn't held (ST 377-1, Partition Pack; this
 -- project's profile).
-use Rattle.std.specs.Prelude.{◌≡◌, ℕ, ◌≤◌, ◌-◌, ◌==◌, Bool, ◌&&◌, find, is_some, not, if◌then◌else◌, Option, None, Some, List}
+use Rattle.std.specs.Prelude.{◌≡◌, ℕ, ◌≤◌, ◌-◌, ◌==◌, Bool, ◌&&◌, find, is_some, not, if◌then◌else◌, Option, None, Some}
+use Rattle.std.specs.Prelude.{List}
 use Rattle.std.specs.Option.{option_and_then, option_map, option_or}
 use Rattle.mxf_klv.specs.Parts.{NoteParts}
 use Rattle.mxf_klv.specs.Rising.{In}

@@ -1,15 +1,13 @@
 -- Ranges that runs lack, by the walk over the runs and by what they are.
-use Rattle.mxf_views.proofs.Common.{◌≡◌, ◌↔◌, ◌∙◌, ◌⊎◌, ◌<◌, ◌≤◌, ◌+◌, ◌-◌, ℕ, Bool, true, false}
-use Rattle.mxf_views.proofs.Common.{IsTrue, ◌&&◌, nat_le, nat_lt, max, min, if◌then◌else◌, List, []}
-use Rattle.mxf_views.proofs.Common.{◌∷◌, ◌++◌, filter, cond, Option, Some, None, append-nil, refl}
-use Rattle.mxf_views.proofs.Common.{sym, ap, subst, inl, inr, arith, lt-ltb, ltb-true, and_from}
-use Rattle.mxf_views.proofs.Common.{and_parts, cases_lt, false≢true, le-ltb, same_Some}
-use Rattle.mxf_views.proofs.Common.{option_map_or, In, In-append, list_any-In, IsCover, is_between}
-use Rattle.mxf_views.proofs.Common.{AreMaximal, LiesIn}
+use Rattle.mxf_views.proofs.Common.{◌≡◌, ◌↔◌, ◌∙◌, ◌⊎◌, ◌<◌, ◌≤◌, ◌+◌, ◌-◌, ℕ, Bool, true, false, IsTrue, ◌&&◌, nat_le}
+use Rattle.mxf_views.proofs.Common.{nat_lt, max, min, if◌then◌else◌, List, [], ◌∷◌, ◌++◌, filter, cond, Option, Some}
+use Rattle.mxf_views.proofs.Common.{None, append-nil, refl, sym, ap, subst, inl, inr, arith, lt-ltb, ltb-true, and_from}
+use Rattle.mxf_views.proofs.Common.{and_parts, cases_lt, false≢true, le-ltb, same_Some, option_map_or, In, In-append}
+use Rattle.mxf_views.proofs.Common.{list_any-In, IsCover, is_between, AreMaximal, LiesIn}
 use Rattle.mxf_catalogue.specs.declared.run.Run.{Run}
 use Rattle.std.proofs.Common.{leb-true, le-leb, ltb-false}
-use Rattle.mxf_places.specs.AtHand.{IsLacking, LiesBetween, LiesInRange, has_offset, has_offsets}
-use Rattle.mxf_places.specs.AtHand.{is_none, lacking, runs_end, some_range, up_to_bound}
+use Rattle.mxf_places.specs.AtHand.{IsLacking, LiesBetween, LiesInRange, has_offset, has_offsets, is_none, lacking}
+use Rattle.mxf_places.specs.AtHand.{runs_end, some_range, up_to_bound}
 use Rattle.mxf_places.specs.declared.at_hand.OffsetRange.{OffsetRange}
 
 -- ---- the first offset above all

@@ -1,7 +1,6 @@
 -- The bytes of runs.
-use Rattle.mxf_views.proofs.Common.{◌≤◌, ◌<◌, ◌+◌, ◌-◌, ℕ, List, [], ◌∷◌, arith, AllByRecursion}
-use Rattle.mxf_views.proofs.Common.{greatest_end, all-In, all_from_In, IsCover, IsRun, AreMaximal}
-use Rattle.mxf_views.proofs.Common.{has_byte}
+use Rattle.mxf_views.proofs.Common.{◌≤◌, ◌<◌, ◌+◌, ◌-◌, ℕ, List, [], ◌∷◌, arith, AllByRecursion, greatest_end, all-In}
+use Rattle.mxf_views.proofs.Common.{all_from_In, IsCover, IsRun, AreMaximal, has_byte}
 use Rattle.mxf_catalogue.specs.declared.run.Run.{Run}
 use Rattle.mxf_places.specs.Held.{bytes_of}
 

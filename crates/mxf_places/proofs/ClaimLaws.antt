@@ -1,24 +1,20 @@
 -- The claims of packs, by the list and by relations.
-use Rattle.mxf_views.proofs.Common.{◌≡◌, ◌≢◌, ◌↔◌, ◌∙◌, ◌==◌, ◌&&◌, ◌++◌, ℕ, true, false, List}
-use Rattle.mxf_views.proofs.Common.{Option, Some, None, refl, sym, ap, subst, inl, inr, nat_lt}
-use Rattle.mxf_views.proofs.Common.{cond, map, option_map, lt-ltb, ltb-true, eq-eqb, eqb-true}
-use Rattle.mxf_views.proofs.Common.{and_from, and_parts, same_Some, NoteParts, In, In-append}
-use Rattle.mxf_views.proofs.Common.{In-filter_map, In-map, guarded, IsContent, PartitionParts}
-use Rattle.mxf_views.proofs.Common.{partitions_of, rip_view_of}
+use Rattle.mxf_views.proofs.Common.{◌≡◌, ◌≢◌, ◌↔◌, ◌∙◌, ◌==◌, ◌&&◌, ◌++◌, ℕ, true, false, List, Option, Some, None}
+use Rattle.mxf_views.proofs.Common.{refl, sym, ap, subst, inl, inr, nat_lt, cond, map, option_map, lt-ltb, ltb-true}
+use Rattle.mxf_views.proofs.Common.{eq-eqb, eqb-true, and_from, and_parts, same_Some, NoteParts, In, In-append}
+use Rattle.mxf_views.proofs.Common.{In-filter_map, In-map, guarded, IsContent, PartitionParts, partitions_of}
+use Rattle.mxf_views.proofs.Common.{rip_view_of}
 use Rattle.mxf_sets.specs.declared.pack.random_index.RipEntry.{RipEntry}
 use Rattle.mxf_views.specs.declared.random_index.RipView.{RipView}
-use Rattle.mxf_views.specs.declared.random_index.RipView.TheVariants.{Absent, Several, Unreadable}
-use Rattle.mxf_views.specs.declared.random_index.RipView.TheVariants.{One}
+use Rattle.mxf_views.specs.declared.random_index.RipView.TheVariants.{Absent, Several, Unreadable, One}
 use Rattle.mxf_views.specs.declared.random_index.Standing.{Standing}
 use Rattle.std.specs.List.{filter_map}
-use Rattle.mxf_places.specs.Claims.{claims_of, entry_claim, entry_claims, footer_claim, place_claim}
-use Rattle.mxf_places.specs.Claims.{previous_claim, stretch_claim, zone_claim, zone_of, zone_reason}
-use Rattle.mxf_places.specs.Named.{IsClaim, IsClaimFor, NamesFooter, NamesPrevious, SaysEntry}
-use Rattle.mxf_places.specs.Named.{SaysPlace, SaysZone}
+use Rattle.mxf_places.specs.Claims.{claims_of, entry_claim, entry_claims, footer_claim, place_claim, previous_claim}
+use Rattle.mxf_places.specs.Claims.{stretch_claim, zone_claim, zone_of, zone_reason}
+use Rattle.mxf_places.specs.Named.{IsClaim, IsClaimFor, NamesFooter, NamesPrevious, SaysEntry, SaysPlace, SaysZone}
 use Rattle.mxf_places.specs.declared.claim.Claim.{Claim}
 use Rattle.mxf_places.specs.declared.reason.Reason.{Reason}
-use Rattle.mxf_places.specs.declared.reason.Reason.TheVariants.{Header, Footer, Metadata, Index}
-use Rattle.mxf_places.specs.declared.reason.Reason.TheVariants.{Entry, Previous, Gap}
+use Rattle.mxf_places.specs.declared.reason.Reason.TheVariants.{Header, Footer, Metadata, Index, Entry, Previous, Gap}
 use Rattle.mxf_places.specs.declared.stretch.Stretch.{Stretch}
 use Rattle.mxf_places.specs.declared.stretch.Zone.{Zone}
 use Rattle.mxf_places.proofs.ZoneLaws.{zone_says}

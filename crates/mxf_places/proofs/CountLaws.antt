@@ -1,11 +1,9 @@
 -- How many offsets of a range lie in runs, and how many of these pass a test.
-use Rattle.mxf_views.proofs.Common.{◌≡◌, ◌∙◌, ◌<◌, ◌≤◌, ◌+◌, ◌-◌, ℕ, zero, suc, Bool, true, false}
-use Rattle.mxf_views.proofs.Common.{◌&&◌, ◌||◌, not, cond, List, [], ◌∷◌, Some, filter, count_by}
-use Rattle.mxf_views.proofs.Common.{max, min, nat_le, nat_lt, inl, inr, refl, sym, ap, arith}
-use Rattle.mxf_views.proofs.Common.{lt-ltb, ltb-true, and_from, and_left, and_parts, cases_lt}
-use Rattle.mxf_views.proofs.Common.{false_from_ne_true, false≢true, range_with_len, count_by-cons}
-use Rattle.mxf_views.proofs.Common.{range-all, range-le, range-none, range-same, range-split, tally}
-use Rattle.mxf_views.proofs.Common.{is_between, AreMaximal, starts_above}
+use Rattle.mxf_views.proofs.Common.{◌≡◌, ◌∙◌, ◌<◌, ◌≤◌, ◌+◌, ◌-◌, ℕ, zero, suc, Bool, true, false, ◌&&◌, ◌||◌, not}
+use Rattle.mxf_views.proofs.Common.{cond, List, [], ◌∷◌, Some, filter, count_by, max, min, nat_le, nat_lt, inl, inr}
+use Rattle.mxf_views.proofs.Common.{refl, sym, ap, arith, lt-ltb, ltb-true, and_from, and_left, and_parts, cases_lt}
+use Rattle.mxf_views.proofs.Common.{false_from_ne_true, false≢true, range_with_len, count_by-cons, range-all, range-le}
+use Rattle.mxf_views.proofs.Common.{range-none, range-same, range-split, tally, is_between, AreMaximal, starts_above}
 use Rattle.mxf_catalogue.specs.declared.run.Run.{Run}
 use Rattle.std.proofs.Common.{leb-true, le-leb, ltb-false}
 use Rattle.mxf_places.specs.AtHand.{has_offset, outside_below}

@@ -1,7 +1,6 @@
 -- How far the file reaches, as the function and as the relation.
-use Rattle.mxf_views.proofs.Common.{◌≡◌, ◌↔◌, ◌∙◌, ◌<◌, ◌≤◌, ℕ, max, List, Some, None, refl, sym}
-use Rattle.mxf_views.proofs.Common.{ap, subst, inl, inr, arith, unwrap_or, same_Some, NoteParts}
-use Rattle.mxf_views.proofs.Common.{end_of, In, IsCover, LiesIn}
+use Rattle.mxf_views.proofs.Common.{◌≡◌, ◌↔◌, ◌∙◌, ◌<◌, ◌≤◌, ℕ, max, List, Some, None, refl, sym, ap, subst, inl, inr}
+use Rattle.mxf_views.proofs.Common.{arith, unwrap_or, same_Some, NoteParts, end_of, In, IsCover, LiesIn}
 use Rattle.mxf_places.specs.AtHand.{AtHandParts, IsEdge, IsTop, edge_of, runs_end}
 use Rattle.mxf_places.specs.Held.{end_of_file, top_of}
 use Rattle.mxf_places.proofs.AtHandLaws.{runs_end-bound}

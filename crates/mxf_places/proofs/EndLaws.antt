@@ -1,18 +1,15 @@
 -- The end of the file, what may lie in it, and of what isn't known what begins there: by functions and by relations.
-use Rattle.mxf_views.proofs.Common.{◌≡◌, ◌↔◌, ◌∙◌, ◌<◌, ◌≤◌, ◌+◌, ◌-◌, ◌||◌, ℕ, true, false, IsTrue}
-use Rattle.mxf_views.proofs.Common.{List, Option, Some, None, refl, sym, ap, subst, inl, inr}
-use Rattle.mxf_views.proofs.Common.{nat_lt, not, cond, find, option_and_then, option_map, arith}
-use Rattle.mxf_views.proofs.Common.{lt-ltb, ltb-true, eqb-true, ◌==◌, and_from, and_parts, or_cases}
-use Rattle.mxf_views.proofs.Common.{or_left, or_right, same_Some, option_map_or, NoteParts}
-use Rattle.mxf_views.proofs.Common.{covered_end, end_of, greatest_end, found-In, list_any-In}
-use Rattle.mxf_views.proofs.Common.{not_true, not-true-false, clear_notes, In-clear_notes}
-use Rattle.mxf_views.proofs.Common.{clear_at-found, covers_first, RipAtParts, rip_view_of}
+use Rattle.mxf_views.proofs.Common.{◌≡◌, ◌↔◌, ◌∙◌, ◌<◌, ◌≤◌, ◌+◌, ◌-◌, ◌||◌, ℕ, true, false, IsTrue, List, Option, Some}
+use Rattle.mxf_views.proofs.Common.{None, refl, sym, ap, subst, inl, inr, nat_lt, not, cond, find, option_and_then}
+use Rattle.mxf_views.proofs.Common.{option_map, arith, lt-ltb, ltb-true, eqb-true, ◌==◌, and_from, and_parts, or_cases}
+use Rattle.mxf_views.proofs.Common.{or_left, or_right, same_Some, option_map_or, NoteParts, covered_end, end_of}
+use Rattle.mxf_views.proofs.Common.{greatest_end, found-In, list_any-In, not_true, not-true-false, clear_notes}
+use Rattle.mxf_views.proofs.Common.{In-clear_notes, clear_at-found, covers_first, RipAtParts, rip_view_of}
 use Rattle.mxf_views.specs.declared.random_index.RipView.{RipView}
-use Rattle.mxf_views.specs.declared.random_index.RipView.TheVariants.{Absent, Several, Unreadable}
-use Rattle.mxf_views.specs.declared.random_index.RipView.TheVariants.{One}
+use Rattle.mxf_views.specs.declared.random_index.RipView.TheVariants.{Absent, Several, Unreadable, One}
 use Rattle.mxf_places.specs.Claims.{is_unknown}
-use Rattle.mxf_places.specs.Held.{IsEndOfFile, IsHeld, end_of_file, is_disputed_at, is_held}
-use Rattle.mxf_places.specs.Held.{is_in_file, reaches_past, rip_end_by}
+use Rattle.mxf_places.specs.Held.{IsEndOfFile, IsHeld, end_of_file, is_disputed_at, is_held, is_in_file, reaches_past}
+use Rattle.mxf_places.specs.Held.{rip_end_by}
 use Rattle.mxf_places.specs.Named.{IsInFile, IsUnknown}
 use Rattle.mxf_places.proofs.HeldLaws.{is_disputed_at-says, is_held-says}
 

@@ -1,7 +1,7 @@
 -- Going over fills, by notes, by the list of fills, and by a table.
-use Rattle.mxf_views.proofs.Common.{◌≡◌, ◌∙◌, ◌==◌, ℕ, true, false, List, [], ◌∷◌, refl, ap, cond}
-use Rattle.mxf_views.proofs.Common.{eqb-true, Some, unwrap_or, nat_cmp, BTreeMap, get, is_at}
-use Rattle.mxf_views.proofs.Common.{NoteParts, kind_of, end_of, at_equal, at_other, is_fill}
+use Rattle.mxf_views.proofs.Common.{◌≡◌, ◌∙◌, ◌==◌, ℕ, true, false, List, [], ◌∷◌, refl, ap, cond, eqb-true, Some}
+use Rattle.mxf_views.proofs.Common.{unwrap_or, nat_cmp, BTreeMap, get, is_at, NoteParts, kind_of, end_of, at_equal}
+use Rattle.mxf_views.proofs.Common.{at_other, is_fill}
 use Rattle.std.proofs.Math.Bool.{and-true, and-false}
 use Rattle.mxf_places.specs.Claims.{over_among}
 use Rattle.mxf_places.specs.Fills.{fill_at, fills_among, over_in, over_list}

@@ -1,28 +1,24 @@
 -- The order of the claims, and which of those of an offset goes first.
-use Rattle.mxf_views.proofs.Common.{◌≡◌, ◌↔◌, ◌∙◌, ◌<◌, ◌≤◌, ◌&&◌, ◌++◌, ℕ, IsTrue, true, false}
-use Rattle.mxf_views.proofs.Common.{List, [], ◌∷◌, Option, Some, None, refl, sym, ap, subst, inl}
-use Rattle.mxf_views.proofs.Common.{inr, nat_le, nat_lt, find, arith, ◌⊎◌, if◌then◌else◌}
-use Rattle.mxf_views.proofs.Common.{option_map, ltb-true, lt-ltb, and_from, and_parts, same_Some}
-use Rattle.mxf_views.proofs.Common.{cons_option, NoteParts, In, In-append, In-filter_map, all-In}
-use Rattle.mxf_views.proofs.Common.{all_append, all_from_In, find-none, found-In, none_found}
-use Rattle.mxf_views.proofs.Common.{IsRisingBy, guarded, IsContent, PartitionParts, partitions_of}
-use Rattle.mxf_views.proofs.Common.{RipAtParts, rip_view_of, end_of}
+use Rattle.mxf_views.proofs.Common.{◌≡◌, ◌↔◌, ◌∙◌, ◌<◌, ◌≤◌, ◌&&◌, ◌++◌, ℕ, IsTrue, true, false, List, [], ◌∷◌, Option}
+use Rattle.mxf_views.proofs.Common.{Some, None, refl, sym, ap, subst, inl, inr, nat_le, nat_lt, find, arith, ◌⊎◌}
+use Rattle.mxf_views.proofs.Common.{if◌then◌else◌, option_map, ltb-true, lt-ltb, and_from, and_parts, same_Some}
+use Rattle.mxf_views.proofs.Common.{cons_option, NoteParts, In, In-append, In-filter_map, all-In, all_append}
+use Rattle.mxf_views.proofs.Common.{all_from_In, find-none, found-In, none_found, IsRisingBy, guarded, IsContent}
+use Rattle.mxf_views.proofs.Common.{PartitionParts, partitions_of, RipAtParts, rip_view_of, end_of}
 use Rattle.mxf_views.specs.declared.random_index.RipView.TheVariants.{One}
 use Rattle.std.proofs.Common.{leb-true, le-leb}
 use Rattle.std.specs.List.{filter_map}
 use Rattle.mxf_views.proofs.KeyedLists.{rise_by}
 use Rattle.mxf_views.proofs.PartitionLaws.{one_there, partitions_rise}
-use Rattle.mxf_places.specs.Claims.{claim_at, claims_of, entry_claims, footer_claim, is_claimed}
-use Rattle.mxf_places.specs.Claims.{is_of_stretch, named_place, place_claim, previous_claim}
-use Rattle.mxf_places.specs.Claims.{stretch_claim, zone_claim, zone_of, zone_reason}
-use Rattle.mxf_places.specs.FirstClaims.{AreInOrder, GoesUpTo, IsFirstClaim, IsSourceUpTo, SpeaksOf}
-use Rattle.mxf_places.specs.FirstClaims.{reason_rank}
-use Rattle.mxf_places.specs.Named.{Follow, IsClaim, IsClaimFor, IsOfStretch, IsStretch, Names}
-use Rattle.mxf_places.specs.Named.{SaysEntry, SaysPlace, SaysZone}
+use Rattle.mxf_places.specs.Claims.{claim_at, claims_of, entry_claims, footer_claim, is_claimed, is_of_stretch}
+use Rattle.mxf_places.specs.Claims.{named_place, place_claim, previous_claim, stretch_claim, zone_claim, zone_of}
+use Rattle.mxf_places.specs.Claims.{zone_reason}
+use Rattle.mxf_places.specs.FirstClaims.{AreInOrder, GoesUpTo, IsFirstClaim, IsSourceUpTo, SpeaksOf, reason_rank}
+use Rattle.mxf_places.specs.Named.{Follow, IsClaim, IsClaimFor, IsOfStretch, IsStretch, Names, SaysEntry, SaysPlace}
+use Rattle.mxf_places.specs.Named.{SaysZone}
 use Rattle.mxf_places.specs.declared.claim.Claim.{Claim}
 use Rattle.mxf_places.specs.declared.reason.Reason.{Reason}
-use Rattle.mxf_places.specs.declared.reason.Reason.TheVariants.{Header, Footer, Metadata, Index}
-use Rattle.mxf_places.specs.declared.reason.Reason.TheVariants.{Entry, Previous, Gap}
+use Rattle.mxf_places.specs.declared.reason.Reason.TheVariants.{Header, Footer, Metadata, Index, Entry, Previous, Gap}
 use Rattle.mxf_places.specs.declared.stretch.Stretch.{Stretch}
 use Rattle.mxf_places.specs.declared.stretch.Zone.{Zone}
 use Rattle.mxf_places.proofs.ClaimLaws.{claims_say, entries_say}

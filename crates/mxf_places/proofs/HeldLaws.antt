@@ -1,16 +1,14 @@
 -- What is held, by tests and by relations.
-use Rattle.mxf_views.proofs.Common.{◌≡◌, ◌↔◌, ◌∙◌, ◌<◌, ◌≤◌, ◌+◌, ◌-◌, ℕ, true, false, IsTrue, List}
-use Rattle.mxf_views.proofs.Common.{[], ◌∷◌, arith, refl, sym, ap, subst, inl, inr, nat_le, nat_lt}
-use Rattle.mxf_views.proofs.Common.{map, ltb-true, lt-ltb, Some, None, option_and_then, cond}
-use Rattle.mxf_views.proofs.Common.{ltb-false, and_parts, and_from, NoteParts, IsCovered}
-use Rattle.mxf_views.proofs.Common.{covered_end, end_of, In, In-filter, In-map, list_any-In}
-use Rattle.mxf_views.proofs.Common.{same_bool, IsDisputed, disputed_notes, is_disputed, rip_view_of}
-use Rattle.mxf_views.proofs.Common.{union_of_runs, Covers, covered_run, covers_all, LiesIn}
-use Rattle.mxf_views.proofs.Common.{is_disputed-IsDisputed, notes-disputed_notes, covers_first}
+use Rattle.mxf_views.proofs.Common.{◌≡◌, ◌↔◌, ◌∙◌, ◌<◌, ◌≤◌, ◌+◌, ◌-◌, ℕ, true, false, IsTrue, List, [], ◌∷◌, arith}
+use Rattle.mxf_views.proofs.Common.{refl, sym, ap, subst, inl, inr, nat_le, nat_lt, map, ltb-true, lt-ltb, Some, None}
+use Rattle.mxf_views.proofs.Common.{option_and_then, cond, ltb-false, and_parts, and_from, NoteParts, IsCovered}
+use Rattle.mxf_views.proofs.Common.{covered_end, end_of, In, In-filter, In-map, list_any-In, same_bool, IsDisputed}
+use Rattle.mxf_views.proofs.Common.{disputed_notes, is_disputed, rip_view_of, union_of_runs, Covers, covered_run}
+use Rattle.mxf_views.proofs.Common.{covers_all, LiesIn, is_disputed-IsDisputed, notes-disputed_notes, covers_first}
 use Rattle.mxf_catalogue.specs.declared.run.Run.{Run}
 use Rattle.std.proofs.Common.{leb-true, le-leb}
-use Rattle.mxf_places.specs.Held.{AreDisputed, IsDisputedAt, IsHeld, covers, is_disputed_at}
-use Rattle.mxf_places.specs.Held.{is_held, reaches_past, top_of, end_of_file, held_end, rip_end_by}
+use Rattle.mxf_places.specs.Held.{AreDisputed, IsDisputedAt, IsHeld, covers, is_disputed_at, is_held, reaches_past}
+use Rattle.mxf_places.specs.Held.{top_of, end_of_file, held_end, rip_end_by}
 
 pub covers-says : (x : ℕ) (n : NoteParts) → IsTrue (covers x n) ↔ IsCovered n x
 covers-says x n = (

@@ -1,7 +1,6 @@
 -- Which offsets the packets of a file hold.
-use Rattle.mxf_views.proofs.Common.{◌≡◌, ◌≤◌, ◌<◌, ◌+◌, ℕ, List, [], ◌∷◌, ap, arith, inl, inr, refl}
-use Rattle.mxf_views.proofs.Common.{cases_lt, NoteParts, PacketParts, end_of, note_of, size_of}
-use Rattle.mxf_views.proofs.Common.{end_after, notes_from, In, end_up}
+use Rattle.mxf_views.proofs.Common.{◌≡◌, ◌≤◌, ◌<◌, ◌+◌, ℕ, List, [], ◌∷◌, ap, arith, inl, inr, refl, cases_lt}
+use Rattle.mxf_views.proofs.Common.{NoteParts, PacketParts, end_of, note_of, size_of, end_after, notes_from, In, end_up}
 use Rattle.mxf_places.specs.Held.{IsHeld}
 
 -- Each packet ends at or below the end of all.

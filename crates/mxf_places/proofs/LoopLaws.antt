@@ -1,7 +1,7 @@
 -- Loops over a list that append what a function answers of each item: what they hold so far, with what the function
 -- answers of the items to come, stays the same.
-use Rattle.mxf_views.proofs.Common.{◌≡◌, ◌∙◌, ◌<◌, ◌+◌, ◌++◌, [], ℕ, List, ap, append-nil}
-use Rattle.mxf_views.proofs.Common.{append_assoc, drop, flat_map, get_or, length, sym, at_drop_more}
+use Rattle.mxf_views.proofs.Common.{◌≡◌, ◌∙◌, ◌<◌, ◌+◌, ◌++◌, [], ℕ, List, ap, append-nil, append_assoc, drop, flat_map}
+use Rattle.mxf_views.proofs.Common.{get_or, length, sym, at_drop_more}
 
 -- The function answers a list, which was appended.
 pub appended-step : {X Y : Type 0} (f : X → List Y) (xs : List X) (i : ℕ) (d : X) (so_far new whole : List Y)

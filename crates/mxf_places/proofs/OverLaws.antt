@@ -1,11 +1,9 @@
 -- Going over fills leads to where none begins.
-use Rattle.mxf_views.proofs.Common.{◌≡◌, ◌≢◌, ◌↔◌, ◌⊎◌, ◌∙◌, ◌<◌, ◌≤◌, ◌==◌, ◌&&◌, ◌+◌, ℕ, true}
-use Rattle.mxf_views.proofs.Common.{false, IsTrue, List, [], ◌∷◌, refl, sym, subst, inl, inr, not}
-use Rattle.mxf_views.proofs.Common.{cond, arith, eqb-true, eq-eqb, and_from, and_parts, cases_lt}
-use Rattle.mxf_views.proofs.Common.{same_Some, Less, NoteParts, kind_of, end_of, note_cmp}
-use Rattle.mxf_views.proofs.Common.{note_total, In, less_in, IsContent, AreApart, is_disputed}
-use Rattle.mxf_views.proofs.Common.{undisputed_notes, In-undisputed_notes, IsContent-filter}
-use Rattle.mxf_views.proofs.Common.{undisputed_at-found, offset_le, is_fill}
+use Rattle.mxf_views.proofs.Common.{◌≡◌, ◌≢◌, ◌↔◌, ◌⊎◌, ◌∙◌, ◌<◌, ◌≤◌, ◌==◌, ◌&&◌, ◌+◌, ℕ, true, false, IsTrue, List}
+use Rattle.mxf_views.proofs.Common.{[], ◌∷◌, refl, sym, subst, inl, inr, not, cond, arith, eqb-true, eq-eqb, and_from}
+use Rattle.mxf_views.proofs.Common.{and_parts, cases_lt, same_Some, Less, NoteParts, kind_of, end_of, note_cmp}
+use Rattle.mxf_views.proofs.Common.{note_total, In, less_in, IsContent, AreApart, is_disputed, undisputed_notes}
+use Rattle.mxf_views.proofs.Common.{In-undisputed_notes, IsContent-filter, undisputed_at-found, offset_le, is_fill}
 use Rattle.mxf_catalogue.proofs.SpanLaws.{not_same}
 use Rattle.mxf_views.proofs.KindLaws.{fill_kind}
 use Rattle.mxf_places.specs.Claims.{over_among, over_fills}

@@ -1,14 +1,11 @@
 -- Stretches above all offsets.
-use Rattle.mxf_views.proofs.Common.{◌≡◌, ◌∙◌, ◌==◌, ◌&&◌, ◌<◌, ◌≤◌, ℕ, true, false, List, [], ◌∷◌}
-use Rattle.mxf_views.proofs.Common.{refl, ap, cond, arith, Option, None, Some, nat_lt, ne_eqb}
-use Rattle.mxf_views.proofs.Common.{eqb-true, inl, inr, ◌+◌, if◌then◌else◌, not, ◌||◌}
-use Rattle.mxf_views.proofs.Common.{option_and_then, lt-ltb, ◌≢◌, option_map_or, NoteParts, kind_of}
-use Rattle.mxf_views.proofs.Common.{IsNote, end_of, greatest_end, In, all-In, find-none}
-use Rattle.mxf_views.proofs.Common.{IsCatalogue, undisputed_notes, In-undisputed_notes}
-use Rattle.mxf_views.proofs.Common.{PartitionParts, is_fill}
+use Rattle.mxf_views.proofs.Common.{◌≡◌, ◌∙◌, ◌==◌, ◌&&◌, ◌<◌, ◌≤◌, ℕ, true, false, List, [], ◌∷◌, refl, ap, cond}
+use Rattle.mxf_views.proofs.Common.{arith, Option, None, Some, nat_lt, ne_eqb, eqb-true, inl, inr, ◌+◌, if◌then◌else◌}
+use Rattle.mxf_views.proofs.Common.{not, ◌||◌, option_and_then, lt-ltb, ◌≢◌, option_map_or, NoteParts, kind_of, IsNote}
+use Rattle.mxf_views.proofs.Common.{end_of, greatest_end, In, all-In, find-none, IsCatalogue, undisputed_notes}
+use Rattle.mxf_views.proofs.Common.{In-undisputed_notes, PartitionParts, is_fill}
 use Rattle.std.proofs.Common.{le-ltb}
-use Rattle.mxf_places.specs.Claims.{behind_metadata, index_of, begins, is_unknown, over_among}
-use Rattle.mxf_places.specs.Claims.{stretch_at, stretch_from}
+use Rattle.mxf_places.specs.Claims.{behind_metadata, index_of, begins, is_unknown, over_among, stretch_at, stretch_from}
 use Rattle.mxf_places.specs.Held.{end_of_file, is_disputed_at, is_held}
 use Rattle.mxf_places.specs.declared.stretch.Zone.{Zone}
 use Rattle.mxf_places.specs.declared.stretch.Zone.TheVariants as zones

@@ -1,20 +1,16 @@
 -- Stretches, and the zones of partitions, by functions and by relations.
-use Rattle.mxf_views.proofs.Common.{◌≡◌, ◌↔◌, ◌∙◌, ◌<◌, ◌==◌, ◌+◌, ◌||◌, ℕ, Bool, true, false}
-use Rattle.mxf_views.proofs.Common.{IsTrue, List, Option, Some, None, refl, sym, ap, subst, inl}
-use Rattle.mxf_views.proofs.Common.{inr, nat_lt, not, cond, find, is_some, option_and_then, arith}
-use Rattle.mxf_views.proofs.Common.{lt-ltb, ltb-true, eqb-true, eq-eqb, and_from, and_parts}
-use Rattle.mxf_views.proofs.Common.{ltb-false, or_cases, same_Some, option_map_or, NoteParts}
-use Rattle.mxf_views.proofs.Common.{kind_of, found-In, none_found, guarded, not-true-false}
-use Rattle.mxf_views.proofs.Common.{primer_at, read_as, IsContent, undisputed_notes}
-use Rattle.mxf_views.proofs.Common.{undisputed_at-found, is_primer, PartitionParts}
+use Rattle.mxf_views.proofs.Common.{◌≡◌, ◌↔◌, ◌∙◌, ◌<◌, ◌==◌, ◌+◌, ◌||◌, ℕ, Bool, true, false, IsTrue, List, Option}
+use Rattle.mxf_views.proofs.Common.{Some, None, refl, sym, ap, subst, inl, inr, nat_lt, not, cond, find, is_some}
+use Rattle.mxf_views.proofs.Common.{option_and_then, arith, lt-ltb, ltb-true, eqb-true, eq-eqb, and_from, and_parts}
+use Rattle.mxf_views.proofs.Common.{ltb-false, or_cases, same_Some, option_map_or, NoteParts, kind_of, found-In}
+use Rattle.mxf_views.proofs.Common.{none_found, guarded, not-true-false, primer_at, read_as, IsContent}
+use Rattle.mxf_views.proofs.Common.{undisputed_notes, undisputed_at-found, is_primer, PartitionParts}
 use Rattle.mxf_catalogue.proofs.DisputeLaws.{undisputed_at-lacked}
 use Rattle.mxf_views.proofs.KindLaws.{primer_kind, segment_kind}
 use Rattle.mxf_views.proofs.ReadingLaws.{is_some_readable}
-use Rattle.mxf_places.specs.Claims.{begins, begins_index, begins_metadata, behind_metadata}
-use Rattle.mxf_places.specs.Claims.{index_of, is_unknown, known_end, metadata_of, over_fills}
-use Rattle.mxf_places.specs.Claims.{stretch_at, stretch_from, zone_of}
-use Rattle.mxf_places.specs.Named.{AreMetadata, AreSegments, Begins, IsBehindMetadata, IsOver}
-use Rattle.mxf_places.specs.Named.{IsStretch, IsZone}
+use Rattle.mxf_places.specs.Claims.{begins, begins_index, begins_metadata, behind_metadata, index_of, is_unknown}
+use Rattle.mxf_places.specs.Claims.{known_end, metadata_of, over_fills, stretch_at, stretch_from, zone_of}
+use Rattle.mxf_places.specs.Named.{AreMetadata, AreSegments, Begins, IsBehindMetadata, IsOver, IsStretch, IsZone}
 use Rattle.mxf_places.specs.declared.stretch.Stretch.{Stretch}
 use Rattle.mxf_places.specs.declared.stretch.Zone.{Zone}
 use Rattle.mxf_places.proofs.EndLaws.{unknown_says}

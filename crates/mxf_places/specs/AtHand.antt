@@ -1,6 +1,6 @@
 -- What sources give of a file beside the packets that are noted of it (this project's profile).
-use Rattle.std.specs.Prelude.{◌≡◌, ℕ, ◌+◌, ◌<◌, ◌≤◌, ◌⊎◌, Bool, true, false, ◌&&◌, not, nat_le, nat_lt, max, min, if◌then◌else◌}
-use Rattle.std.specs.Prelude.{Option, None, Some, unwrap_or, List, [], ◌∷◌, ◌++◌, count_by}
+use Rattle.std.specs.Prelude.{◌≡◌, ℕ, ◌+◌, ◌<◌, ◌≤◌, ◌⊎◌, Bool, true, false, ◌&&◌, not, nat_le, nat_lt, max, min}
+use Rattle.std.specs.Prelude.{if◌then◌else◌, Option, None, Some, unwrap_or, List, [], ◌∷◌, ◌++◌, count_by}
 use Rattle.std.specs.List.{list_any, range_with_len}
 use Rattle.std.specs.Option.{option_map_or}
 use Rattle.mxf_klv.specs.Parts.{NoteParts}

@@ -1,7 +1,7 @@
 -- What packs say of places: where partitions stand, and where header metadata and index table segments lie (ST 377-1,
 -- Partition Pack and Random Index Pack; reasons and stretches are this project's profile).
-use Rattle.std.specs.Prelude.{ℕ, ◌+◌, Bool, true, false, ◌&&◌, ◌||◌, ◌==◌, not, nat_le, nat_lt}
-use Rattle.std.specs.Prelude.{if◌then◌else◌, Option, None, Some, is_some, List, [], ◌∷◌, ◌++◌, find, map}
+use Rattle.std.specs.Prelude.{ℕ, ◌+◌, Bool, true, false, ◌&&◌, ◌||◌, ◌==◌, not, nat_le, nat_lt, if◌then◌else◌, Option}
+use Rattle.std.specs.Prelude.{None, Some, is_some, List, [], ◌∷◌, ◌++◌, find, map}
 use Rattle.std.specs.Option.{option_and_then, option_map, option_map_or}
 use Rattle.std.specs.List.{filter_map}
 use Rattle.mxf_klv.specs.Parts.{NoteParts}

@@ -1,12 +1,10 @@
 -- What is known of a piece whose bytes come in parts.
-use Rattle.mxf_views.proofs.Common.{◌≡◌, ℕ, ◌+◌, ◌-◌, ◌<◌, ◌≤◌, List, [], ◌∷◌, ◌++◌, length, take}
-use Rattle.mxf_views.proofs.Common.{Option, None, Some, refl, sym, ap, subst, ◌∙◌, arith}
-use Rattle.mxf_views.proofs.Common.{append_assoc, append-nil, LengthParts, NoteParts, packet_parts}
-use Rattle.mxf_views.proofs.Common.{size_of, BeginsWithKeyAndLength, HasNoKeyAndLength, note_of}
-use Rattle.mxf_views.proofs.Common.{end_of, end_after, notes_from, IsHeadOf, IsNoHead, IsOpen}
-use Rattle.mxf_views.proofs.Common.{packet_at, packets_in, rest_in, stop_of, IsHeadNow, none_more}
-use Rattle.mxf_views.proofs.Common.{none_at_end, packets_in-none, rest_in-none, at_cut, stops}
-use Rattle.mxf_views.proofs.Common.{reduced_with, AreApart}
+use Rattle.mxf_views.proofs.Common.{◌≡◌, ℕ, ◌+◌, ◌-◌, ◌<◌, ◌≤◌, List, [], ◌∷◌, ◌++◌, length, take, Option, None, Some}
+use Rattle.mxf_views.proofs.Common.{refl, sym, ap, subst, ◌∙◌, arith, append_assoc, append-nil, LengthParts, NoteParts}
+use Rattle.mxf_views.proofs.Common.{packet_parts, size_of, BeginsWithKeyAndLength, HasNoKeyAndLength, note_of, end_of}
+use Rattle.mxf_views.proofs.Common.{end_after, notes_from, IsHeadOf, IsNoHead, IsOpen, packet_at, packets_in, rest_in}
+use Rattle.mxf_views.proofs.Common.{stop_of, IsHeadNow, none_more, none_at_end, packets_in-none, rest_in-none, at_cut}
+use Rattle.mxf_views.proofs.Common.{stops, reduced_with, AreApart}
 use Rattle.mxf_klv.specs.declared.piece.Stop.{Stop}
 use Rattle.mxf_klv.specs.declared.piece.Stop.TheVariants.{Truncated}
 use Rattle.std.specs.Prelude.{true, is_some}

@@ -1,11 +1,9 @@
 -- The parts so far, and those that are left; the history that gathers parts, and what it leaves.
-use Rattle.mxf_views.proofs.Common.{◌≡◌, ℕ, zero, suc, ◌+◌, ◌-◌, ◌<◌, ◌^◌, ◌⊎◌, ◌↔◌, List, [], ◌∷◌}
-use Rattle.mxf_views.proofs.Common.{◌++◌, length, take, Option, Some, refl, sym, ap, subst, ◌∙◌}
-use Rattle.mxf_views.proofs.Common.{arith, inl, inr, append_assoc, append-nil, length-append}
-use Rattle.mxf_views.proofs.Common.{slice_get, AllByRecursion, take_at, NoteParts, notes_in, In}
-use Rattle.mxf_views.proofs.Common.{IsFileOf, file_bytes, AreReduced, IsCatalogue, reduced_union}
-use Rattle.mxf_views.proofs.Common.{History, New, Add, Read, Absorb, Cut, Hands, content}
-use Rattle.mxf_views.proofs.Common.{written_file, In-content, IsTheRun, all_push}
+use Rattle.mxf_views.proofs.Common.{◌≡◌, ℕ, zero, suc, ◌+◌, ◌-◌, ◌<◌, ◌^◌, ◌⊎◌, ◌↔◌, List, [], ◌∷◌, ◌++◌, length, take}
+use Rattle.mxf_views.proofs.Common.{Option, Some, refl, sym, ap, subst, ◌∙◌, arith, inl, inr, append_assoc, append-nil}
+use Rattle.mxf_views.proofs.Common.{length-append, slice_get, AllByRecursion, take_at, NoteParts, notes_in, In}
+use Rattle.mxf_views.proofs.Common.{IsFileOf, file_bytes, AreReduced, IsCatalogue, reduced_union, History, New, Add}
+use Rattle.mxf_views.proofs.Common.{Read, Absorb, Cut, Hands, content, written_file, In-content, IsTheRun, all_push}
 use Rattle.mxf_catalogue.specs.History.{Join, Of}
 use Rattle.mxf_catalogue.proofs.FileLaws.{one_content}
 use Rattle.mxf_catalogue.proofs.HistoryLaws.{AreReduced-content}
@@ -17,9 +15,9 @@ use Rattle.mxf_read.specs.declared.gathering.fault.PartFault.{PartFault}
 use Rattle.mxf_read.specs.declared.gathering.fault.PartFault.TheVariants.{OutOfMemory}
 use Rattle.mxf_read.specs.Levels.{Adds, HoldsAll, merged_with}
 use Rattle.mxf_read.specs.Ranges.{range_notes}
-use Rattle.mxf_read.specs.Gathering.{AllTell, Gathers, HandedBy, HandsNote, HasFault, IsGatherFault}
-use Rattle.mxf_read.specs.Gathering.{IsGood, IsLeftBy, IsPieceOf, TakesPart, Tells, bytes_of}
-use Rattle.mxf_read.specs.Gathering.{piece_of, reports_from, reports_in, reports_of}
+use Rattle.mxf_read.specs.Gathering.{AllTell, Gathers, HandedBy, HandsNote, HasFault, IsGatherFault, IsGood, IsLeftBy}
+use Rattle.mxf_read.specs.Gathering.{IsPieceOf, TakesPart, Tells, bytes_of, piece_of, reports_from, reports_in}
+use Rattle.mxf_read.specs.Gathering.{reports_of}
 use Rattle.mxf_read.proofs.Taking.{slice_get_at}
 
 all_at : {K : Type 0} (P : K → Type 0) (xs ys : List K) (x : K) → AllByRecursion P (xs ++ x ∷ ys) → P x

@@ -1,19 +1,16 @@
 -- The rest of a piece from one of its packets on.
-use Rattle.mxf_views.proofs.Common.{◌≡◌, ℕ, zero, suc, ◌+◌, ◌-◌, ◌≤◌, List, [], ◌∷◌, ◌++◌, length}
-use Rattle.mxf_views.proofs.Common.{take, drop, length-append, Option, None, Some, Result, Ok, Err}
-use Rattle.mxf_views.proofs.Common.{refl, sym, ap, subst, ◌∙◌, arith, append_assoc, inl, inr}
-use Rattle.mxf_views.proofs.Common.{slice_get, IsSomeAnd, drop-drop, length-drop, take-append-le}
-use Rattle.mxf_views.proofs.Common.{NoteParts, PacketParts, note_of, size_of, end_after, notes_from}
-use Rattle.mxf_views.proofs.Common.{heads_at, notes_in, packet_at, packets_in, rest_in, stop_in}
-use Rattle.mxf_views.proofs.Common.{stop_of, head-size, ends_at, goes_on, packets_in-none}
-use Rattle.mxf_views.proofs.Common.{packets_in-some, seam, notes_from-append, reduced_union}
-use Rattle.mxf_views.proofs.Common.{History, Absorb, Cut, content}
+use Rattle.mxf_views.proofs.Common.{◌≡◌, ℕ, zero, suc, ◌+◌, ◌-◌, ◌≤◌, List, [], ◌∷◌, ◌++◌, length, take, drop}
+use Rattle.mxf_views.proofs.Common.{length-append, Option, None, Some, Result, Ok, Err, refl, sym, ap, subst, ◌∙◌}
+use Rattle.mxf_views.proofs.Common.{arith, append_assoc, inl, inr, slice_get, IsSomeAnd, drop-drop, length-drop}
+use Rattle.mxf_views.proofs.Common.{take-append-le, NoteParts, PacketParts, note_of, size_of, end_after, notes_from}
+use Rattle.mxf_views.proofs.Common.{heads_at, notes_in, packet_at, packets_in, rest_in, stop_in, stop_of, head-size}
+use Rattle.mxf_views.proofs.Common.{ends_at, goes_on, packets_in-none, packets_in-some, seam, notes_from-append}
+use Rattle.mxf_views.proofs.Common.{reduced_union, History, Absorb, Cut, content}
 use Rattle.mxf_klv.specs.PieceReading.{GoesOn}
 use Rattle.mxf_read.specs.declared.report.Report.{Report}
 use Rattle.mxf_read.specs.declared.report.AbsorbFault.{AbsorbFault}
 use Rattle.mxf_read.specs.declared.report.AbsorbFault.TheVariants.{OutOfMemory, ReadFault}
-use Rattle.mxf_read.specs.Absorbs.{AbsorbsFrom, Absorbs, AddsFirst, GoesOnAt, first_notes_in}
-use Rattle.mxf_read.specs.Absorbs.{history_with}
+use Rattle.mxf_read.specs.Absorbs.{AbsorbsFrom, Absorbs, AddsFirst, GoesOnAt, first_notes_in, history_with}
 use Rattle.mxf_read.specs.Reads.{Takes}
 use Rattle.mxf_read.proofs.Pieces.{head_begins, heads_few, notes_for_packets}
 use Rattle.mxf_read.proofs.Taking.{union_append}

@@ -1,6 +1,6 @@
 -- Catalogues that wait to be merged: what adding one leaves, in balance, and what merging all does.
-use Rattle.mxf_views.proofs.Common.{◌≡◌, List, [], ◌∷◌, ◌++◌, length, refl, sym, ap, ◌∙◌}
-use Rattle.mxf_views.proofs.Common.{append_assoc, NoteParts, reduced_union}
+use Rattle.mxf_views.proofs.Common.{◌≡◌, List, [], ◌∷◌, ◌++◌, length, refl, sym, ap, ◌∙◌, append_assoc, NoteParts}
+use Rattle.mxf_views.proofs.Common.{reduced_union}
 use Rattle.mxf_read.specs.Levels.{Adds, AreBalanced, EndsAbove, merged_with}
 
 pub balanced_front : (levels back : List (List NoteParts)) → AreBalanced (levels ++ back) → AreBalanced levels

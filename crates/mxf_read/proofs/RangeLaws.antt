@@ -1,8 +1,7 @@
 -- What was read of a range tells of all that its reader gives.
-use Rattle.mxf_views.proofs.Common.{◌≡◌, ℕ, ◌+◌, ◌-◌, ◌<◌, ◌≤◌, List, [], ◌∷◌, ◌++◌, length, take}
-use Rattle.mxf_views.proofs.Common.{drop, Option, Some, None, refl, sym, ap, subst, ◌∙◌, arith}
-use Rattle.mxf_views.proofs.Common.{option_map_or, Consumes, IfSome_then, take-take, take_rest}
-use Rattle.mxf_views.proofs.Common.{drop-take, drop-append-le, NoteParts, heads_at, head_at}
+use Rattle.mxf_views.proofs.Common.{◌≡◌, ℕ, ◌+◌, ◌-◌, ◌<◌, ◌≤◌, List, [], ◌∷◌, ◌++◌, length, take, drop, Option, Some}
+use Rattle.mxf_views.proofs.Common.{None, refl, sym, ap, subst, ◌∙◌, arith, option_map_or, Consumes, IfSome_then}
+use Rattle.mxf_views.proofs.Common.{take-take, take_rest, drop-take, drop-append-le, NoteParts, heads_at, head_at}
 use Rattle.mxf_views.proofs.Common.{notes_in, packets_in, rest_in, reduced_union, New, Absorb}
 use Rattle.std.specs.Prelude.{IfSome, IsSome, unwrap_or}
 use Rattle.std.specs.Fmt.{option_append}
@@ -12,8 +11,8 @@ use Rattle.mxf_read.specs.declared.gathering.report.PieceReport.{PieceReport}
 use Rattle.mxf_read.specs.Absorbs.{report_of}
 use Rattle.mxf_read.specs.Levels.{Adds}
 use Rattle.mxf_read.specs.Gathering.{TakesPart, Tells, piece_limit, piece_of}
-use Rattle.mxf_read.specs.Ranges.{LeavesTheRest, no_start, piece_bytes, piece_offset, range_notes}
-use Rattle.mxf_read.specs.Ranges.{range_report, start_in, window_limit, window_of}
+use Rattle.mxf_read.specs.Ranges.{LeavesTheRest, no_start, piece_bytes, piece_offset, range_notes, range_report}
+use Rattle.mxf_read.specs.Ranges.{start_in, window_limit, window_of}
 use Rattle.mxf_read.proofs.Starts.{no_start_is}
 
 abbrev reported : ℕ → ℕ → Report → PieceReport

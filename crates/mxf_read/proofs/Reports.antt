@@ -1,21 +1,17 @@
 -- What is reported of a piece whose bytes come in parts, and what a reader's piece adds.
-use Rattle.mxf_views.proofs.Common.{◌≡◌, ℕ, ◌+◌, ◌-◌, ◌≤◌, List, [], ◌∷◌, ◌++◌, length, take}
-use Rattle.mxf_views.proofs.Common.{Option, None, Some, Result, Ok, Err, refl, sym, ap, subst, ◌∙◌}
-use Rattle.mxf_views.proofs.Common.{arith, inl, inr, ◌⊎◌, append-nil, append_assoc, length-append}
-use Rattle.mxf_views.proofs.Common.{IsAtEnd, take-append-add, take_at, take_all, NoteParts}
-use Rattle.mxf_views.proofs.Common.{head_parts, HasNoKeyAndLength, end_after, notes_from, IsOpen}
-use Rattle.mxf_views.proofs.Common.{heads_at, notes_in, packets_in, rest_in, stop_in, stop_of, seam}
-use Rattle.mxf_views.proofs.Common.{notes_from-append, at_cut, stops, heads_at-cut, reduced_union}
-use Rattle.mxf_views.proofs.Common.{reduced_with}
+use Rattle.mxf_views.proofs.Common.{◌≡◌, ℕ, ◌+◌, ◌-◌, ◌≤◌, List, [], ◌∷◌, ◌++◌, length, take, Option, None, Some}
+use Rattle.mxf_views.proofs.Common.{Result, Ok, Err, refl, sym, ap, subst, ◌∙◌, arith, inl, inr, ◌⊎◌, append-nil}
+use Rattle.mxf_views.proofs.Common.{append_assoc, length-append, IsAtEnd, take-append-add, take_at, take_all, NoteParts}
+use Rattle.mxf_views.proofs.Common.{head_parts, HasNoKeyAndLength, end_after, notes_from, IsOpen, heads_at, notes_in}
+use Rattle.mxf_views.proofs.Common.{packets_in, rest_in, stop_in, stop_of, seam, notes_from-append, at_cut, stops}
+use Rattle.mxf_views.proofs.Common.{heads_at-cut, reduced_union, reduced_with}
 use Rattle.mxf_klv.specs.declared.piece.Stop.{Stop}
-use Rattle.mxf_klv.specs.declared.piece.Stop.TheVariants.{End, NotUl, BadLength, TooFar, Truncated}
-use Rattle.mxf_klv.specs.declared.piece.Stop.TheVariants.{NoStart}
+use Rattle.mxf_klv.specs.declared.piece.Stop.TheVariants.{End, NotUl, BadLength, TooFar, Truncated, NoStart}
 use Rattle.std.specs.Prelude.{true, false, is_some, nat_eq, IfOk, IfSome}
 use Rattle.std.proofs.lemmas.Bool.{eqb-true}
 use Rattle.mxf_klv.proofs.MoreBytes.{stop_is, stop_stays}
 use Rattle.mxf_klv.proofs.CutHeads.{heads_at-none}
-use Rattle.mxf_read.proofs.Pieces.{alone_first, alone_in, alone_packets, closed_notes, no_heads}
-use Rattle.mxf_read.proofs.Pieces.{notes_for_packets}
+use Rattle.mxf_read.proofs.Pieces.{alone_first, alone_in, alone_packets, closed_notes, no_heads, notes_for_packets}
 use Rattle.mxf_read.proofs.Taking.{union_append}
 use Rattle.mxf_read.specs.Absorbs.{Absorbs, AbsorbsFrom, AddsFirst, Finishes, report_of}
 use Rattle.mxf_read.specs.Feeding.{Fed, IsNext, Knows, NotesNone}

@@ -1,7 +1,6 @@
 -- What the bytes that were read of a part tell of all that its reader gives.
-use Rattle.mxf_views.proofs.Common.{◌≡◌, ℕ, ◌+◌, ◌<◌, ◌≤◌, List, [], ◌∷◌, ◌++◌, length, take}
-use Rattle.mxf_views.proofs.Common.{Option, Some, None, refl, sym, ap, subst, ◌∙◌, arith}
-use Rattle.mxf_views.proofs.Common.{append-nil, length-take, take_all, NoteParts, notes_in}
+use Rattle.mxf_views.proofs.Common.{◌≡◌, ℕ, ◌+◌, ◌<◌, ◌≤◌, List, [], ◌∷◌, ◌++◌, length, take, Option, Some, None, refl}
+use Rattle.mxf_views.proofs.Common.{sym, ap, subst, ◌∙◌, arith, append-nil, length-take, take_all, NoteParts, notes_in}
 use Rattle.mxf_views.proofs.Common.{reduced_union, IsFileOf, New, Read, Absorb}
 use Rattle.std.specs.Prelude.{IfSome, IsSome, unwrap_or}
 use Rattle.mxf_catalogue.specs.CatalogueFile.{IsRefused}
@@ -12,8 +11,8 @@ use Rattle.mxf_read.specs.declared.gathering.part.Part.TheVariants.{Piece, Saved
 use Rattle.mxf_read.specs.declared.gathering.report.PieceReport.{PieceReport}
 use Rattle.mxf_read.specs.declared.gathering.fault.PartFault.{PartFault}
 use Rattle.mxf_read.specs.Levels.{Adds}
-use Rattle.mxf_read.specs.Gathering.{IsSavedAs, IsSavedFault, TakesPart, Tells, bytes_of}
-use Rattle.mxf_read.specs.Gathering.{piece_limit, piece_of, saved_limit}
+use Rattle.mxf_read.specs.Gathering.{IsSavedAs, IsSavedFault, TakesPart, Tells, bytes_of, piece_limit, piece_of}
+use Rattle.mxf_read.specs.Gathering.{saved_limit}
 
 pub too_long : (o : Option (List ℕ)) (v : List ℕ) → IfSome o (λ all. v ≡ take (saved_limit + 1) all)
     → saved_limit < length v → IfSome o (λ all. saved_limit < length all)

@@ -1,20 +1,16 @@
 -- Where a piece may begin, by the tests, and the first such position.
-use Rattle.mxf_views.proofs.Common.{◌≡◌, ℕ, zero, suc, ◌+◌, ◌-◌, ◌<◌, ◌≤◌, Bool, true, false, not}
-use Rattle.mxf_views.proofs.Common.{◌&&◌, nat_le, List, [], ◌∷◌, length, take, drop, Option, None}
-use Rattle.mxf_views.proofs.Common.{Some, refl, sym, ap, subst, ◌∙◌, arith, inl, inr, ◌↔◌}
-use Rattle.mxf_views.proofs.Common.{slice_get, option_map_or, bytes_eq, leb-true, le-leb, and_parts}
-use Rattle.mxf_views.proofs.Common.{and_from, or_cases, or_left, or_right, false_from_ne_true}
-use Rattle.mxf_views.proofs.Common.{cases_lt, cases_order, cases_Bool, cond-false, bytes_eq-Decides}
-use Rattle.mxf_views.proofs.Common.{take_at, drop_at, drop-drop, take_all, length-drop, length-take}
-use Rattle.mxf_views.proofs.Common.{take-append-drop, LengthParts, packet_parts, begins_as_label}
-use Rattle.mxf_views.proofs.Common.{label_start, kind_of, BeginsWithKeyAndLength, greatest_end}
-use Rattle.mxf_views.proofs.Common.{size_of, IsHeadOf, IsNoHead, IsOpen, head_at, packet_at}
-use Rattle.mxf_views.proofs.Common.{head-size, head-width, head_at-head, packet_at-given, at_cut}
-use Rattle.mxf_views.proofs.Common.{stops}
+use Rattle.mxf_views.proofs.Common.{◌≡◌, ℕ, zero, suc, ◌+◌, ◌-◌, ◌<◌, ◌≤◌, Bool, true, false, not, ◌&&◌, nat_le, List}
+use Rattle.mxf_views.proofs.Common.{[], ◌∷◌, length, take, drop, Option, None, Some, refl, sym, ap, subst, ◌∙◌, arith}
+use Rattle.mxf_views.proofs.Common.{inl, inr, ◌↔◌, slice_get, option_map_or, bytes_eq, leb-true, le-leb, and_parts}
+use Rattle.mxf_views.proofs.Common.{and_from, or_cases, or_left, or_right, false_from_ne_true, cases_lt, cases_order}
+use Rattle.mxf_views.proofs.Common.{cases_Bool, cond-false, bytes_eq-Decides, take_at, drop_at, drop-drop, take_all}
+use Rattle.mxf_views.proofs.Common.{length-drop, length-take, take-append-drop, LengthParts, packet_parts}
+use Rattle.mxf_views.proofs.Common.{begins_as_label, label_start, kind_of, BeginsWithKeyAndLength, greatest_end}
+use Rattle.mxf_views.proofs.Common.{size_of, IsHeadOf, IsNoHead, IsOpen, head_at, packet_at, head-size, head-width}
+use Rattle.mxf_views.proofs.Common.{head_at-head, packet_at-given, at_cut, stops}
 use Rattle.mxf_klv.specs.declared.kinds.Kind.{Kind}
-use Rattle.mxf_klv.specs.declared.kinds.Kind.TheVariants.{Essence, Header, Body, Footer, Primer}
-use Rattle.mxf_klv.specs.declared.kinds.Kind.TheVariants.{Segment, Rip, Preface, Identification}
-use Rattle.mxf_klv.specs.declared.kinds.Kind.TheVariants.{ContentStorage, MaterialPackage}
+use Rattle.mxf_klv.specs.declared.kinds.Kind.TheVariants.{Essence, Header, Body, Footer, Primer, Segment, Rip, Preface}
+use Rattle.mxf_klv.specs.declared.kinds.Kind.TheVariants.{Identification, ContentStorage, MaterialPackage}
 use Rattle.mxf_klv.specs.declared.kinds.Kind.TheVariants.{SourcePackage, RawSet, Fill, Other}
 use Rattle.mxf_klv.specs.declared.piece.Stop.{Stop}
 use Rattle.mxf_klv.specs.declared.piece.Stop.TheVariants.{Truncated}
@@ -25,8 +21,7 @@ use Rattle.mxf_klv.proofs.KeyAndLengthLaws.{head-begins, head-past_key, head-pac
 use Rattle.mxf_klv.proofs.PieceLaws.{begins-test, head_at-stands, test-begins}
 use Rattle.memchr.specs.Find.{FindsNeedle, OccursAt}
 use Rattle.memchr.proofs.lemmas.MatchLemmas.{OccursAt-from_part}
-use Rattle.mxf_read.specs.Ranges.{IsStart, IsStartKey, MayBegin, is_other, is_start_key, may_begin}
-use Rattle.mxf_read.specs.Ranges.{start_in}
+use Rattle.mxf_read.specs.Ranges.{IsStart, IsStartKey, MayBegin, is_other, is_start_key, may_begin, start_in}
 
 -- ---- keys
 

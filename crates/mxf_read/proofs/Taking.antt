@@ -1,16 +1,14 @@
 -- The notes of a piece that are added so far, and those that are left; and a piece that is merged as a whole.
-use Rattle.mxf_views.proofs.Common.{◌≡◌, ◌≢◌, ℕ, zero, suc, ◌+◌, List, [], ◌∷◌, ◌++◌, length, take}
-use Rattle.mxf_views.proofs.Common.{Option, Some, refl, Result, Ok, Err, sym, ap, subst, ◌∙◌, arith}
-use Rattle.mxf_views.proofs.Common.{inl, inr, append_assoc, length-append, slice_get, IsSomeAnd}
-use Rattle.mxf_views.proofs.Common.{take_at, take_all, NoteParts, heads_at, notes_in, packets_in}
+use Rattle.mxf_views.proofs.Common.{◌≡◌, ◌≢◌, ℕ, zero, suc, ◌+◌, List, [], ◌∷◌, ◌++◌, length, take, Option, Some, refl}
+use Rattle.mxf_views.proofs.Common.{Result, Ok, Err, sym, ap, subst, ◌∙◌, arith, inl, inr, append_assoc, length-append}
+use Rattle.mxf_views.proofs.Common.{slice_get, IsSomeAnd, take_at, take_all, NoteParts, heads_at, notes_in, packets_in}
 use Rattle.mxf_views.proofs.Common.{stop_in, reduced_union, reduced_with, AreApart}
 use Rattle.mxf_klv.specs.declared.piece.Stop.{Stop}
 use Rattle.mxf_read.specs.declared.report.Report.{Report}
 use Rattle.mxf_read.specs.declared.report.AbsorbFault.{AbsorbFault}
 use Rattle.mxf_read.specs.declared.report.AbsorbFault.TheVariants.{OutOfMemory, ReadFault}
 use Rattle.mxf_read.specs.Absorbs.{Absorbs}
-use Rattle.mxf_read.proofs.Pieces.{alone, alone_first, alone_front, alone_in, first_begins}
-use Rattle.mxf_read.proofs.Pieces.{head_begins, heads_few}
+use Rattle.mxf_read.proofs.Pieces.{alone, alone_first, alone_front, alone_in, first_begins, head_begins, heads_few}
 
 -- ---- note after note
 

@@ -1,14 +1,12 @@
 -- Where a piece may begin by all bytes of a range, and by its window.
-use Rattle.mxf_views.proofs.Common.{◌≡◌, ℕ, suc, ◌+◌, ◌-◌, ◌≤◌, List, [], ◌∷◌, ◌++◌, length, take}
-use Rattle.mxf_views.proofs.Common.{drop, Option, None, Some, refl, sym, ap, subst, ◌∙◌, inl, inr}
-use Rattle.mxf_views.proofs.Common.{arith, append_assoc, length-append, option_map_or, cases_lt}
-use Rattle.mxf_views.proofs.Common.{drop-append-le, drop-take, length-drop, length-take}
-use Rattle.mxf_views.proofs.Common.{take-append-drop, take-take, drop_all, take-append-le, take_all}
-use Rattle.mxf_views.proofs.Common.{IsSpelledLength, LengthParts, label_start}
-use Rattle.mxf_views.proofs.Common.{BeginsWithKeyAndLength, head-size, head-width}
+use Rattle.mxf_views.proofs.Common.{◌≡◌, ℕ, suc, ◌+◌, ◌-◌, ◌≤◌, List, [], ◌∷◌, ◌++◌, length, take, drop, Option, None}
+use Rattle.mxf_views.proofs.Common.{Some, refl, sym, ap, subst, ◌∙◌, inl, inr, arith, append_assoc, length-append}
+use Rattle.mxf_views.proofs.Common.{option_map_or, cases_lt, drop-append-le, drop-take, length-drop, length-take}
+use Rattle.mxf_views.proofs.Common.{take-append-drop, take-take, drop_all, take-append-le, take_all, IsSpelledLength}
+use Rattle.mxf_views.proofs.Common.{LengthParts, label_start, BeginsWithKeyAndLength, head-size, head-width}
 use Rattle.mxf_klv.specs.Label.{BeginsAsLabel}
-use Rattle.mxf_read.specs.Ranges.{HasNoStart, IsStart, MayBegin, ShowsNextBefore, piece_bytes}
-use Rattle.mxf_read.specs.Ranges.{piece_offset, start_in, window_of}
+use Rattle.mxf_read.specs.Ranges.{HasNoStart, IsStart, MayBegin, ShowsNextBefore, piece_bytes, piece_offset, start_in}
+use Rattle.mxf_read.specs.Ranges.{window_of}
 use Rattle.mxf_read.proofs.Starts.{no_start_is, one_start}
 
 -- ---- the front of bytes

@@ -1,12 +1,11 @@
 -- The notes of all sources together.
-use Rattle.mxf_klv.proofs.Common.{◌≡◌, ◌≢◌, ◌↔◌, ◌⊎◌, ◌∙◌, ◌+◌, ◌++◌, ℕ, zero, suc, List, [], ◌∷◌}
-use Rattle.mxf_klv.proofs.Common.{refl, sym, ap, subst, inl, inr, get_or, true, false≢true}
-use Rattle.mxf_klv.proofs.Common.{AllByRecursion, NoteParts, head_note, In}
+use Rattle.mxf_klv.proofs.Common.{◌≡◌, ◌≢◌, ◌↔◌, ◌⊎◌, ◌∙◌, ◌+◌, ◌++◌, ℕ, zero, suc, List, [], ◌∷◌, refl, sym, ap, subst}
+use Rattle.mxf_klv.proofs.Common.{inl, inr, get_or, true, false≢true, AllByRecursion, NoteParts, head_note, In}
 use Rattle.mxf_klv.proofs.Lists.{all_append}
 use Rattle.mxf_catalogue.specs.Content.{AreReduced, IsContent, IsLocated, has_note, reduced_union}
 use Rattle.mxf_catalogue.specs.Reduced.{IsKnown}
-use Rattle.mxf_catalogue.proofs.HeadLaws.{AreReduced-reduced_union, In-located}
-use Rattle.mxf_catalogue.proofs.HeadLaws.{IsContent-reduced_union, has-reduced_union, one_reduced}
+use Rattle.mxf_catalogue.proofs.HeadLaws.{AreReduced-reduced_union, In-located, IsContent-reduced_union}
+use Rattle.mxf_catalogue.proofs.HeadLaws.{has-reduced_union, one_reduced}
 use Rattle.mxf_readings.specs.Readings.{IsHeld, all_notes, content_of, sources_of}
 use Rattle.mxf_readings.proofs.SourceLaws.{at_number, sources_say}
 

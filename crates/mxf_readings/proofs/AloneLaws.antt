@@ -1,17 +1,16 @@
 -- How often a source is the only one of a note of all.
-use Rattle.mxf_klv.proofs.Common.{◌≡◌, ◌==◌, ◌&&◌, ◌∙◌, ◌+◌, ℕ, Bool, true, false, List, [], ◌∷◌}
-use Rattle.mxf_klv.proofs.Common.{cond, count_by, filter, length, map, not, nat_le, nat_lt, IsTrue}
-use Rattle.mxf_klv.proofs.Common.{refl, sym, ap, subst, arith, eqb-true, eq-eqb, AllByRecursion}
-use Rattle.mxf_klv.proofs.Common.{ordering_then, nat_tests, nat_cmp_total, tied_itself}
-use Rattle.mxf_klv.proofs.Common.{sum_by-IsPermutation, NoteParts, note_cmp, note_total}
+use Rattle.mxf_klv.proofs.Common.{◌≡◌, ◌==◌, ◌&&◌, ◌∙◌, ◌+◌, ℕ, Bool, true, false, List, [], ◌∷◌, cond, count_by}
+use Rattle.mxf_klv.proofs.Common.{filter, length, map, not, nat_le, nat_lt, IsTrue, refl, sym, ap, subst, arith}
+use Rattle.mxf_klv.proofs.Common.{eqb-true, eq-eqb, AllByRecursion, ordering_then, nat_tests, nat_cmp_total}
+use Rattle.mxf_klv.proofs.Common.{tied_itself, sum_by-IsPermutation, NoteParts, note_cmp, note_total}
 use Rattle.mxf_klv.proofs.Common.{note_cmp-IsAntisymmetric, In, same_from_members}
 use Rattle.std.proofs.Common.{nat_cmp, Ordering, Less, Equal, Greater}
 use Rattle.mxf_klv.proofs.Counts.{tally, count_by-cons}
 use Rattle.mxf_klv.proofs.Lists.{all_from_In, In-filter, In-map}
 use Rattle.mxf_catalogue.specs.Content.{IsContent}
 use Rattle.mxf_catalogue.specs.ReducedLaws.{rising-filter}
-use Rattle.mxf_readings.specs.Holdings.{AreAlone, AreHoldings, HoldingParts, holding, holding_cmp}
-use Rattle.mxf_readings.specs.Holdings.{is_only, sources_alone}
+use Rattle.mxf_readings.specs.Holdings.{AreAlone, AreHoldings, HoldingParts, holding, holding_cmp, is_only}
+use Rattle.mxf_readings.specs.Holdings.{sources_alone}
 use Rattle.mxf_readings.specs.Readings.{all_notes, content_of, is_alone, is_held, sources_of}
 use Rattle.mxf_readings.proofs.AllNotesLaws.{whole_joined}
 use Rattle.mxf_readings.proofs.HoldingLaws.{rises_mapped, run_length}

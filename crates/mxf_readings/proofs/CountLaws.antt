@@ -1,7 +1,7 @@
 -- How many elements of a list pass a test.
 use Rattle.mxf_klv.proofs.Common.{AllWithin, sym, ◌∙◌, ap, inl, inr, arith, cases_lt, In}
-use Rattle.std.specs.Prelude.{◌≡◌, ◌+◌, ◌<◌, ◌≤◌, ℕ, zero, suc, Bool, true, false, not, ◌&&◌, List}
-use Rattle.std.specs.Prelude.{[], ◌∷◌, length, map, count_by, refl}
+use Rattle.std.specs.Prelude.{◌≡◌, ◌+◌, ◌<◌, ◌≤◌, ℕ, zero, suc, Bool, true, false, not, ◌&&◌, List, [], ◌∷◌, length}
+use Rattle.std.specs.Prelude.{map, count_by, refl}
 use Rattle.mxf_klv.proofs.Counts.{tally, count_by-cons, none-count}
 
 -- where exactly the first so many pass, so many are counted

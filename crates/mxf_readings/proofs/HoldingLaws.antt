@@ -1,15 +1,12 @@
 -- Holdings: what they say of sources, and where those of a note stand.
-use Rattle.mxf_klv.proofs.Common.{◌≡◌, ◌≢◌, ◌↔◌, ◌⊎◌, ◌+◌, ◌-◌, ◌≤◌, ◌<◌, ◌∙◌, ◌==◌, cond, ℕ, zero}
-use Rattle.mxf_klv.proofs.Common.{suc, Bool, true, false, List, [], ◌∷◌, IsTrue, refl, sym, ap}
-use Rattle.mxf_klv.proofs.Common.{subst, inl, inr, arith, get_or, eq-eqb, eqb-true, length, nat_lt}
-use Rattle.mxf_klv.proofs.Common.{drop, filter, map, take, IsTotalOrder, AllWithin}
-use Rattle.mxf_klv.proofs.Common.{IsNonDecreasingBy, IsPartitionedBy, IsSortedByKey, is_lt}
-use Rattle.mxf_klv.proofs.Common.{ordering_index, ordering_reverse, ordering_then, cases_lt}
-use Rattle.mxf_klv.proofs.Common.{false_from_ne_true, true≢false, nat_tests, nat_cmp_total}
-use Rattle.mxf_klv.proofs.Common.{tied_itself, get_or_default, length-drop, length-take}
-use Rattle.mxf_klv.proofs.Common.{IsPartitionedBy-ltb, searchable_from_sorted}
-use Rattle.mxf_klv.proofs.Common.{nat_cmp-IsAntisymmetric, NoteParts, note_cmp, note_total}
-use Rattle.mxf_klv.proofs.Common.{note_cmp-IsAntisymmetric, In, In-union, IsRising, less_in}
+use Rattle.mxf_klv.proofs.Common.{◌≡◌, ◌≢◌, ◌↔◌, ◌⊎◌, ◌+◌, ◌-◌, ◌≤◌, ◌<◌, ◌∙◌, ◌==◌, cond, ℕ, zero, suc, Bool, true}
+use Rattle.mxf_klv.proofs.Common.{false, List, [], ◌∷◌, IsTrue, refl, sym, ap, subst, inl, inr, arith, get_or, eq-eqb}
+use Rattle.mxf_klv.proofs.Common.{eqb-true, length, nat_lt, drop, filter, map, take, IsTotalOrder, AllWithin}
+use Rattle.mxf_klv.proofs.Common.{IsNonDecreasingBy, IsPartitionedBy, IsSortedByKey, is_lt, ordering_index}
+use Rattle.mxf_klv.proofs.Common.{ordering_reverse, ordering_then, cases_lt, false_from_ne_true, true≢false, nat_tests}
+use Rattle.mxf_klv.proofs.Common.{nat_cmp_total, tied_itself, get_or_default, length-drop, length-take}
+use Rattle.mxf_klv.proofs.Common.{IsPartitionedBy-ltb, searchable_from_sorted, nat_cmp-IsAntisymmetric, NoteParts}
+use Rattle.mxf_klv.proofs.Common.{note_cmp, note_total, note_cmp-IsAntisymmetric, In, In-union, IsRising, less_in}
 use Rattle.mxf_klv.proofs.Common.{same_from_members, union}
 use Rattle.std.proofs.Common.{nat_cmp, Ordering, Less, Equal, Greater}
 use Rattle.std.proofs.lemmas.Cmp.{is_eq_index}
@@ -17,8 +14,8 @@ use Rattle.std.proofs.lemmas.List.{get_or-map, length-map}
 use Rattle.mxf_klv.proofs.Lists.{all-In, all_from_In, In-append, In-at, In-filter, In-map}
 use Rattle.mxf_catalogue.specs.ReducedLaws.{is_same-Decides, rising-filter}
 use Rattle.mxf_readings.specs.HoldingOrder.{holding_total, holding_cmp-IsAntisymmetric}
-use Rattle.mxf_readings.specs.Holdings.{AreHoldings, HoldingParts, holding, holding_cmp}
-use Rattle.mxf_readings.specs.Holdings.{holdings_from, is_of, is_only, side}
+use Rattle.mxf_readings.specs.Holdings.{AreHoldings, HoldingParts, holding, holding_cmp, holdings_from, is_of, is_only}
+use Rattle.mxf_readings.specs.Holdings.{side}
 use Rattle.mxf_readings.specs.Readings.{content_of, sources_of}
 use Rattle.mxf_readings.proofs.SourceLaws.{at_number, sources_rise, sources_say}
 

@@ -1,16 +1,15 @@
 -- The sources of a note.
-use Rattle.mxf_klv.proofs.Common.{◌≡◌, ◌↔◌, ◌==◌, ◌+◌, ◌<◌, ◌∙◌, ℕ, zero, suc, true, false, cond}
-use Rattle.mxf_klv.proofs.Common.{List, [], ◌∷◌, IsTrue, refl, sym, subst, inl, inr, arith, get_or}
-use Rattle.mxf_klv.proofs.Common.{length, eqb-true, eq-eqb, and_from, and_parts, NoteParts}
-use Rattle.mxf_klv.proofs.Common.{note_total, note_cmp-IsAntisymmetric, In, IsRising}
+use Rattle.mxf_klv.proofs.Common.{◌≡◌, ◌↔◌, ◌==◌, ◌+◌, ◌<◌, ◌∙◌, ℕ, zero, suc, true, false, cond, List, [], ◌∷◌, IsTrue}
+use Rattle.mxf_klv.proofs.Common.{refl, sym, subst, inl, inr, arith, get_or, length, eqb-true, eq-eqb, and_from}
+use Rattle.mxf_klv.proofs.Common.{and_parts, NoteParts, note_total, note_cmp-IsAntisymmetric, In, IsRising}
 use Rattle.std.proofs.Common.{nat_cmp, Less}
 use Rattle.mxf_klv.proofs.Lists.{all_from_In, list_any-In}
 use Rattle.mxf_klv.proofs.Tests.{less_from_lt, lt_from_less}
 use Rattle.mxf_catalogue.specs.Disputes.{is_disputed, is_same_note}
 use Rattle.mxf_catalogue.specs.ReducedLaws.{is_same-Decides}
 use Rattle.mxf_catalogue.proofs.DisputeLaws.{is_disputed-IsDisputed}
-use Rattle.mxf_readings.specs.Readings.{IsAlone, IsDisputedThere, all_notes, content_of, is_alone}
-use Rattle.mxf_readings.specs.Readings.{is_disputed_there, is_held, sources_from, sources_of}
+use Rattle.mxf_readings.specs.Readings.{IsAlone, IsDisputedThere, all_notes, content_of, is_alone, is_disputed_there}
+use Rattle.mxf_readings.specs.Readings.{is_held, sources_from, sources_of}
 
 pub held_says : (n : NoteParts) (notes : List NoteParts) → IsTrue (is_held n notes) ↔ In n notes
 held_says n notes =

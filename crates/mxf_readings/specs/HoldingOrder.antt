@@ -7,9 +7,8 @@ use Rattle.std.specs.declared.cmp.Ordering.{Ordering}
 use Rattle.std.specs.declared.cmp.Ordering.TheVariants.{Less, Equal, Greater}
 use Rattle.std.proofs.Common.{refl}
 use Rattle.std.proofs.lemmas.Cmp.{on_total, then_total, nat_cmp_total, eq_by_cmp_equiv}
-use Rattle.mxf_klv.specs.NoteOrder.{note_total, note_cmp-IsAntisymmetric}
+use Rattle.mxf_klv.specs.NoteOrder.{note_total, note_cmp-IsAntisymmetric, ties}
 use Rattle.mxf_readings.specs.Holdings.{HoldingParts, holding_cmp}
-use Rattle.mxf_klv.specs.NoteOrder.{ties}
 
 pub holding_total : IsTotalOrder holding_cmp
 holding_total = then_total (on_total (λ h. h.note) note_total) (on_total (λ h. h.source) nat_cmp_total)

@@ -1,11 +1,10 @@
 -- What is asked for of a section, by the function and by the relation.
-use Rattle.mxf_views.proofs.Common.{◌≡◌, ◌↔◌, ◌⊎◌, ◌∙◌, ◌&&◌, ◌||◌, ◌==◌, ◌<◌, ◌≤◌, ◌+◌, ℕ, Bool}
-use Rattle.mxf_views.proofs.Common.{true, false, not, max, List, [], ◌∷◌, Option, None, Some}
-use Rattle.mxf_views.proofs.Common.{is_some, option_map, filter, if◌then◌else◌, nat_le, nat_lt}
-use Rattle.mxf_views.proofs.Common.{IsTrue, refl, sym, ap, subst, inl, inr, arith, lt-ltb, ltb-true}
-use Rattle.mxf_views.proofs.Common.{and_from, and_parts, cases_Bool, cases_lt, or_cases, or_left}
-use Rattle.mxf_views.proofs.Common.{or_right, same_Some, option_map_or, NoteParts, end_of, In}
-use Rattle.mxf_views.proofs.Common.{not-true-false, not_true, some_is, IsContent, IsCover}
+use Rattle.mxf_views.proofs.Common.{◌≡◌, ◌↔◌, ◌⊎◌, ◌∙◌, ◌&&◌, ◌||◌, ◌==◌, ◌<◌, ◌≤◌, ◌+◌, ℕ, Bool, true, false, not, max}
+use Rattle.mxf_views.proofs.Common.{List, [], ◌∷◌, Option, None, Some, is_some, option_map, filter, if◌then◌else◌}
+use Rattle.mxf_views.proofs.Common.{nat_le, nat_lt, IsTrue, refl, sym, ap, subst, inl, inr, arith, lt-ltb, ltb-true}
+use Rattle.mxf_views.proofs.Common.{and_from, and_parts, cases_Bool, cases_lt, or_cases, or_left, or_right, same_Some}
+use Rattle.mxf_views.proofs.Common.{option_map_or, NoteParts, end_of, In, not-true-false, not_true, some_is, IsContent}
+use Rattle.mxf_views.proofs.Common.{IsCover}
 use Rattle.std.proofs.Common.{leb-true, le-leb}
 use Rattle.mxf_places.specs.AtHand.{AtHandParts, edge_of, up_to_bound}
 use Rattle.mxf_places.specs.Claims.{claim_at}
@@ -15,8 +14,7 @@ use Rattle.mxf_places.specs.declared.claim.Claim.{Claim}
 use Rattle.mxf_places.specs.declared.reason.Reason.{Reason}
 use Rattle.mxf_places.specs.declared.reason.Reason.TheVariants.{Gap}
 use Rattle.mxf_places.proofs.HeldLaws.{top_of-bound}
-use Rattle.mxf_restore.specs.Orders.{IsAsked, IsAskedEnd, IsHeadTo, IsOpenAt, IsSectionEnd}
-use Rattle.mxf_restore.specs.Orders.{ReachesUpTo}
+use Rattle.mxf_restore.specs.Orders.{IsAsked, IsAskedEnd, IsHeadTo, IsOpenAt, IsSectionEnd, ReachesUpTo}
 use Rattle.mxf_restore.specs.Plan.{asked_by, asked_of, end_by, is_head_to, needed_of, start_of}
 use Rattle.mxf_restore.specs.declared.section.Section.{Section}
 use Rattle.mxf_restore.specs.declared.plan.Order.{Order}

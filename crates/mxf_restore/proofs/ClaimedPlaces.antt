@@ -1,5 +1,6 @@
 -- What a claim names: a place, or the end of its stretch.
-use Rattle.std.proofs.Common.{◌≡◌, ◌↔◌, ◌⊎◌, ℕ, Bool, true, false, if◌then◌else◌, Option, None, Some, refl, ap, inl, inr}
+use Rattle.std.proofs.Common.{◌≡◌, ◌↔◌, ◌⊎◌, ℕ, Bool, true, false, if◌then◌else◌, Option, None, Some, refl, ap, inl}
+use Rattle.std.proofs.Common.{inr}
 use Rattle.std.proofs.lemmas.Option.{same_Some}
 use Rattle.mxf_places.specs.Claims.{is_of_stretch}
 use Rattle.mxf_places.specs.Named.{IsOfStretch, Names}

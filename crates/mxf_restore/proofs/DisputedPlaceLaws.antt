@@ -1,7 +1,6 @@
 -- Disputed places of which each place stands once.
-use Rattle.mxf_views.proofs.Common.{◌≡◌, ◌∙◌, ◌&&◌, ◌==◌, ℕ, Bool, true, false, cond, not, filter}
-use Rattle.mxf_views.proofs.Common.{List, [], ◌∷◌, refl, sym, ap, eq-eqb, eqb-true, list_any}
-use Rattle.mxf_views.proofs.Common.{nat_cmp, is_at, same_bool}
+use Rattle.mxf_views.proofs.Common.{◌≡◌, ◌∙◌, ◌&&◌, ◌==◌, ℕ, Bool, true, false, cond, not, filter, List, [], ◌∷◌, refl}
+use Rattle.mxf_views.proofs.Common.{sym, ap, eq-eqb, eqb-true, list_any, nat_cmp, is_at, same_bool}
 use Rattle.std.specs.Cmp.{unsigned_ties}
 use Rattle.mxf_restore.specs.Plan.{first_by_place}
 use Rattle.mxf_restore.specs.declared.plan.DisputedPlace.{DisputedPlace}

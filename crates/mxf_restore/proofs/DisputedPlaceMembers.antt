@@ -1,10 +1,9 @@
 -- Disputed places, by the list and by what they are.
-use Rattle.mxf_views.proofs.Common.{◌≡◌, ◌↔◌, ◌∙◌, ◌&&◌, ◌==◌, ◌-◌, ◌+◌, ℕ, true, false, IsTrue}
-use Rattle.mxf_views.proofs.Common.{List, [], ◌∷◌, Option, Some, None, refl, sym, ap, subst, inl}
-use Rattle.mxf_views.proofs.Common.{inr, arith, filter_map, find, if◌then◌else◌, eq-eqb, eqb-true}
-use Rattle.mxf_views.proofs.Common.{option_and_then, Bool, cons_option, and_from, and_parts}
-use Rattle.mxf_views.proofs.Common.{same_Some, NoteParts, In, In-filter_map, all-In, found-In}
-use Rattle.mxf_views.proofs.Common.{none_found, guarded, IsContent}
+use Rattle.mxf_views.proofs.Common.{◌≡◌, ◌↔◌, ◌∙◌, ◌&&◌, ◌==◌, ◌-◌, ◌+◌, ℕ, true, false, IsTrue, List, [], ◌∷◌, Option}
+use Rattle.mxf_views.proofs.Common.{Some, None, refl, sym, ap, subst, inl, inr, arith, filter_map, find, if◌then◌else◌}
+use Rattle.mxf_views.proofs.Common.{eq-eqb, eqb-true, option_and_then, Bool, cons_option, and_from, and_parts}
+use Rattle.mxf_views.proofs.Common.{same_Some, NoteParts, In, In-filter_map, all-In, found-In, none_found, guarded}
+use Rattle.mxf_views.proofs.Common.{IsContent}
 use Rattle.mxf_places.specs.AtHand.{AtHandParts}
 use Rattle.mxf_places.specs.Claims.{claims_of}
 use Rattle.mxf_places.specs.FirstClaims.{AreInOrder, GoesUpTo}

@@ -1,11 +1,9 @@
 -- How many notes are disputed, and where they lie.
-use Rattle.mxf_views.proofs.Common.{◌≡◌, ◌↔◌, ◌⊎◌, ◌≤◌, ◌∙◌, ℕ, List, [], ◌∷◌, None, Some, ap}
-use Rattle.mxf_views.proofs.Common.{arith, inl, inr, length, map, max, min, refl, subst, sym}
-use Rattle.mxf_views.proofs.Common.{cases_lt, In-filter, In-map, covered_end, NoteParts, In}
-use Rattle.mxf_views.proofs.Common.{DisputedParts, IsDisputed, disputed_notes, is_disputed}
+use Rattle.mxf_views.proofs.Common.{◌≡◌, ◌↔◌, ◌⊎◌, ◌≤◌, ◌∙◌, ℕ, List, [], ◌∷◌, None, Some, ap, arith, inl, inr, length}
+use Rattle.mxf_views.proofs.Common.{map, max, min, refl, subst, sym, cases_lt, In-filter, In-map, covered_end}
+use Rattle.mxf_views.proofs.Common.{NoteParts, In, DisputedParts, IsDisputed, disputed_notes, is_disputed}
 use Rattle.mxf_views.proofs.Common.{is_disputed-IsDisputed, notes-disputed_notes}
-use Rattle.mxf_restore.specs.Disputes.{AreDisputes, IsDisputedIn, disputes_in, disputes_of}
-use Rattle.mxf_restore.specs.Disputes.{greatest_end, least_start}
+use Rattle.mxf_restore.specs.Disputes.{AreDisputes, IsDisputedIn, disputes_in, disputes_of, greatest_end, least_start}
 use Rattle.mxf_restore.specs.declared.disputes.Disputes.{Disputes}
 
 -- ---- members

@@ -1,15 +1,13 @@
 -- The front of what is looked for of a section.
-use Rattle.mxf_views.proofs.Common.{◌≡◌, ◌↔◌, ◌⊎◌, ◌∙◌, ◌<◌, ◌≤◌, ◌+◌, ◌==◌, ℕ, not, min, IsTrue}
-use Rattle.mxf_views.proofs.Common.{Option, None, Some, option_map, unwrap_or, List, [], ◌∷◌, arith}
-use Rattle.mxf_views.proofs.Common.{refl, sym, ap, subst, inl, inr, same_Some, NoteParts}
-use Rattle.mxf_views.proofs.Common.{greatest_end, In, not_equal, same_bool, IsContent, IsCover}
+use Rattle.mxf_views.proofs.Common.{◌≡◌, ◌↔◌, ◌⊎◌, ◌∙◌, ◌<◌, ◌≤◌, ◌+◌, ◌==◌, ℕ, not, min, IsTrue, Option, None, Some}
+use Rattle.mxf_views.proofs.Common.{option_map, unwrap_or, List, [], ◌∷◌, arith, refl, sym, ap, subst, inl, inr}
+use Rattle.mxf_views.proofs.Common.{same_Some, NoteParts, greatest_end, In, not_equal, same_bool, IsContent, IsCover}
 use Rattle.mxf_views.proofs.Common.{LiesIn, covers_first}
 use Rattle.std.specs.List.{slice_get}
 use Rattle.mxf_places.specs.AtHand.{AtHandParts, LiesBetween, has_offsets}
 use Rattle.mxf_places.specs.declared.at_hand.OffsetRange.{OffsetRange}
 use Rattle.mxf_places.proofs.AtHandLaws.{Rise, has_offsets-says, rise_above}
-use Rattle.mxf_restore.specs.Fronts.{IsFront, IsLookedFor, all_from, front_by, front_of}
-use Rattle.mxf_restore.specs.Fronts.{front_range, looked_for}
+use Rattle.mxf_restore.specs.Fronts.{IsFront, IsLookedFor, all_from, front_by, front_of, front_range, looked_for}
 use Rattle.mxf_restore.specs.Orders.{IsAsked, IsPart, IsStartOf}
 use Rattle.mxf_restore.specs.Plan.{asked_of, part_order, parts_of, start_of}
 use Rattle.mxf_restore.specs.declared.section.Section.{Section}

@@ -1,8 +1,7 @@
 -- Heads to an offset, taken one after another.
-use Rattle.mxf_views.proofs.Common.{◌≡◌, ◌∙◌, ◌&&◌, ◌==◌, ℕ, true, false, cond, max, filter, find}
-use Rattle.mxf_views.proofs.Common.{List, [], ◌∷◌, Option, None, Some, option_map, refl, sym, ap}
-use Rattle.mxf_views.proofs.Common.{arith, eq-eqb, if◌then◌else◌, nat_cmp, lookup, is_at, NoteParts}
-use Rattle.mxf_views.proofs.Common.{end_of}
+use Rattle.mxf_views.proofs.Common.{◌≡◌, ◌∙◌, ◌&&◌, ◌==◌, ℕ, true, false, cond, max, filter, find, List, [], ◌∷◌}
+use Rattle.mxf_views.proofs.Common.{Option, None, Some, option_map, refl, sym, ap, arith, eq-eqb, if◌then◌else◌}
+use Rattle.mxf_views.proofs.Common.{nat_cmp, lookup, is_at, NoteParts, end_of}
 use Rattle.mxf_places.specs.Held.{top_of}
 use Rattle.mxf_restore.specs.Heads.{AreHeads, head_of, with_head}
 use Rattle.mxf_restore.specs.Plan.{is_head_to, needed_of}

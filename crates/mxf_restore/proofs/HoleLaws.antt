@@ -1,10 +1,9 @@
 -- Holes are the maximal ranges of offsets that aren't held.
-use Rattle.mxf_views.proofs.Common.{◌≡◌, ◌↔◌, ◌⊎◌, ◌∙◌, ◌+◌, ◌-◌, ◌<◌, ◌≤◌, ℕ, true, false, List}
-use Rattle.mxf_views.proofs.Common.{[], ◌∷◌, None, Some, filter, is_some, map, if◌then◌else◌, refl}
-use Rattle.mxf_views.proofs.Common.{sym, ap, subst, inl, inr, arith, cases_lt, same_Some, NoteParts}
-use Rattle.mxf_views.proofs.Common.{covered_end, In, In-append, In-filter, In-map, IsContent}
-use Rattle.mxf_views.proofs.Common.{AreMaximal, IsWithin, LiesIn, covers_below_end, covers_first}
-use Rattle.mxf_views.proofs.Common.{has_byte, starts_above, IsGap, gaps_of}
+use Rattle.mxf_views.proofs.Common.{◌≡◌, ◌↔◌, ◌⊎◌, ◌∙◌, ◌+◌, ◌-◌, ◌<◌, ◌≤◌, ℕ, true, false, List, [], ◌∷◌, None, Some}
+use Rattle.mxf_views.proofs.Common.{filter, is_some, map, if◌then◌else◌, refl, sym, ap, subst, inl, inr, arith}
+use Rattle.mxf_views.proofs.Common.{cases_lt, same_Some, NoteParts, covered_end, In, In-append, In-filter, In-map}
+use Rattle.mxf_views.proofs.Common.{IsContent, AreMaximal, IsWithin, LiesIn, covers_below_end, covers_first, has_byte}
+use Rattle.mxf_views.proofs.Common.{starts_above, IsGap, gaps_of}
 use Rattle.mxf_catalogue.specs.declared.run.Run.{Run}
 use Rattle.mxf_views.proofs.GapsLaws.{gaps_are}
 use Rattle.mxf_places.specs.Held.{IsHeld, end_of_file, held_end, is_held}

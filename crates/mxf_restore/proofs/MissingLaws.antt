@@ -1,18 +1,16 @@
 -- Of an order no byte is held, but for the key and length of the head at its start.
-use Rattle.mxf_views.proofs.Common.{◌≡◌, ◌⊎◌, ◌∙◌, ◌<◌, ◌≤◌, ◌-◌, ℕ, Bool, true, false, nat_lt, max}
-use Rattle.mxf_views.proofs.Common.{min, List, [], ◌∷◌, Option, None, Some, filter, if◌then◌else◌}
-use Rattle.mxf_views.proofs.Common.{is_some, option_map, refl, sym, ap, subst, inl, inr, arith}
-use Rattle.mxf_views.proofs.Common.{ltb-true, cases_lt, same_Some, option_map_or, NoteParts}
+use Rattle.mxf_views.proofs.Common.{◌≡◌, ◌⊎◌, ◌∙◌, ◌<◌, ◌≤◌, ◌-◌, ℕ, Bool, true, false, nat_lt, max, min, List, [], ◌∷◌}
+use Rattle.mxf_views.proofs.Common.{Option, None, Some, filter, if◌then◌else◌, is_some, option_map, refl, sym, ap}
+use Rattle.mxf_views.proofs.Common.{subst, inl, inr, arith, ltb-true, cases_lt, same_Some, option_map_or, NoteParts}
 use Rattle.mxf_views.proofs.Common.{covered_end, In, In-append, In-filter, IsContent}
 use Rattle.mxf_catalogue.specs.declared.run.Run.{Run}
-use Rattle.mxf_places.specs.AtHand.{AtHandParts, LiesBetween, LiesInRange, lacking, some_range}
-use Rattle.mxf_places.specs.AtHand.{up_to_bound}
+use Rattle.mxf_places.specs.AtHand.{AtHandParts, LiesBetween, LiesInRange, lacking, some_range, up_to_bound}
 use Rattle.mxf_places.specs.Claims.{claim_at}
 use Rattle.mxf_places.specs.Held.{IsHeld}
 use Rattle.mxf_places.specs.declared.at_hand.OffsetRange.{OffsetRange}
 use Rattle.mxf_places.specs.declared.claim.Claim.{Claim}
-use Rattle.mxf_restore.specs.Plan.{LiesInOrder, asked, asked_of, begun_at, end_by, is_whole_needed}
-use Rattle.mxf_restore.specs.Plan.{needed_of, parts_among, parts_of, plan_of, start_of}
+use Rattle.mxf_restore.specs.Plan.{LiesInOrder, asked, asked_of, begun_at, end_by, is_whole_needed, needed_of}
+use Rattle.mxf_restore.specs.Plan.{parts_among, parts_of, plan_of, start_of}
 use Rattle.mxf_restore.specs.Sections.{sections_of}
 use Rattle.mxf_restore.specs.declared.section.Section.{Section}
 use Rattle.mxf_restore.specs.declared.plan.Order.{Order}

@@ -1,18 +1,16 @@
 -- Missing places, by the test and by what they are.
-use Rattle.mxf_views.proofs.Common.{◌≡◌, ◌↔◌, ◌∙◌, ◌⊎◌, ◌&&◌, ◌||◌, ◌==◌, ℕ, Bool, true, false}
-use Rattle.mxf_views.proofs.Common.{IsTrue, List, Option, Some, None, refl, ap, inl, inr, not}
-use Rattle.mxf_views.proofs.Common.{filter_map, find, eqb-true, and_from, and_parts, or_cases}
-use Rattle.mxf_views.proofs.Common.{or_left, or_right, option_map_or, NoteParts, In, In-filter}
-use Rattle.mxf_views.proofs.Common.{In-filter_map, found-In, not-true-false, not_true}
-use Rattle.mxf_views.proofs.Common.{undisputed_notes, undisputed_at-found}
+use Rattle.mxf_views.proofs.Common.{◌≡◌, ◌↔◌, ◌∙◌, ◌⊎◌, ◌&&◌, ◌||◌, ◌==◌, ℕ, Bool, true, false, IsTrue, List, Option}
+use Rattle.mxf_views.proofs.Common.{Some, None, refl, ap, inl, inr, not, filter_map, find, eqb-true, and_from}
+use Rattle.mxf_views.proofs.Common.{and_parts, or_cases, or_left, or_right, option_map_or, NoteParts, In, In-filter}
+use Rattle.mxf_views.proofs.Common.{In-filter_map, found-In, not-true-false, not_true, undisputed_notes}
+use Rattle.mxf_views.proofs.Common.{undisputed_at-found}
 use Rattle.mxf_places.specs.Claims.{claims_of, named_place}
 use Rattle.mxf_places.specs.Held.{IsHeld, begins_clear_head, is_disputed_at, is_held, is_in_file}
 use Rattle.mxf_places.proofs.EndLaws.{in_file_says}
 use Rattle.mxf_places.proofs.FirstLaws.{names_say}
 use Rattle.mxf_places.proofs.HeldLaws.{is_disputed_at-says, is_held-says}
 use Rattle.mxf_places.proofs.OverLaws.{alone, among, moved}
-use Rattle.mxf_restore.specs.Missing.{BeginsHead, IsMissing, IsMissingPlace, is_missing}
-use Rattle.mxf_restore.specs.Missing.{missing_places}
+use Rattle.mxf_restore.specs.Missing.{BeginsHead, IsMissing, IsMissingPlace, is_missing, missing_places}
 
 module _ (notes : List NoteParts) (x : ℕ) where
   head_says : IsTrue (begins_clear_head notes x) ↔ BeginsHead notes x

@@ -1,10 +1,9 @@
 -- Places that packs name and that are missing: by claims, by a list, and by a table.
-use Rattle.mxf_views.proofs.Common.{◌≡◌, ◌≢◌, ◌↔◌, ◌∙◌, ◌==◌, ℕ, Bool, true, false, cond, IsTrue}
-use Rattle.mxf_views.proofs.Common.{Option, None, Some, arith, option_map, List, [], ◌∷◌, ◌++◌}
-use Rattle.mxf_views.proofs.Common.{filter_map, find, map, refl, sym, ap, subst, inl, inr, eqb-true}
-use Rattle.mxf_views.proofs.Common.{eq-eqb, AllByRecursion, cons_option, lookup, is_at, nat_cmp}
-use Rattle.mxf_views.proofs.Common.{Less, false≢true, same_Some, NoteParts, In, IsRising}
-use Rattle.mxf_views.proofs.Common.{lt_from_less, at_equal, at_other}
+use Rattle.mxf_views.proofs.Common.{◌≡◌, ◌≢◌, ◌↔◌, ◌∙◌, ◌==◌, ℕ, Bool, true, false, cond, IsTrue, Option, None, Some}
+use Rattle.mxf_views.proofs.Common.{arith, option_map, List, [], ◌∷◌, ◌++◌, filter_map, find, map, refl, sym, ap, subst}
+use Rattle.mxf_views.proofs.Common.{inl, inr, eqb-true, eq-eqb, AllByRecursion, cons_option, lookup, is_at, nat_cmp}
+use Rattle.mxf_views.proofs.Common.{Less, false≢true, same_Some, NoteParts, In, IsRising, lt_from_less, at_equal}
+use Rattle.mxf_views.proofs.Common.{at_other}
 use Rattle.std.specs.List.Sorted.{IsStrictlySortedBy}
 use Rattle.std.specs.Map.{keys_of}
 use Rattle.std.specs.Option.{option_and_then}
@@ -17,8 +16,8 @@ use Rattle.mxf_places.specs.declared.claim.Claim.{Claim}
 use Rattle.mxf_places.specs.declared.reason.Reason.{Reason}
 use Rattle.mxf_places.specs.declared.reason.Reason.TheVariants.{Header}
 use Rattle.mxf_restore.specs.Missing.{is_missing}
-use Rattle.mxf_restore.specs.NamedPlaces.{AreFirst, IsNamedPlace, NamesPlace, entry_place}
-use Rattle.mxf_restore.specs.NamedPlaces.{is_header, named_place_of, place_cmp, source_in}
+use Rattle.mxf_restore.specs.NamedPlaces.{AreFirst, IsNamedPlace, NamesPlace, entry_place, is_header, named_place_of}
+use Rattle.mxf_restore.specs.NamedPlaces.{place_cmp, source_in}
 use Rattle.mxf_restore.specs.declared.named.NamedPlace.{NamedPlace}
 use Rattle.mxf_restore.proofs.Options.{some_from}
 

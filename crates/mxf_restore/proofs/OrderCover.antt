@@ -1,25 +1,21 @@
 -- Each byte of a gap below the edge lies in an order.
-use Rattle.mxf_views.proofs.Common.{◌≡◌, ◌⊎◌, ◌+◌, ◌-◌, ◌<◌, ◌≤◌, ◌&&◌, ◌||◌, ◌==◌, ℕ, Bool, true}
-use Rattle.mxf_views.proofs.Common.{false, not, max, nat_le, nat_lt, [], ◌∷◌, subst, sym, List}
-use Rattle.mxf_views.proofs.Common.{Option, None, Some, find, is_some, option_and_then, option_map}
-use Rattle.mxf_views.proofs.Common.{if◌then◌else◌, refl, ap, inl, inr, arith, lt-ltb, unwrap_or}
-use Rattle.mxf_views.proofs.Common.{eqb-true, and_parts, cases_lt, same_Some, option_map_or}
-use Rattle.mxf_views.proofs.Common.{NoteParts, covered_end, end_of, In, In-filter, In-flat_map}
-use Rattle.mxf_views.proofs.Common.{In-map, found-In, IsContent, clear_notes, IsWithin}
-use Rattle.mxf_views.proofs.Common.{In-clear_notes, covers_below_end, covers_first, IsGap, gaps_of}
-use Rattle.mxf_views.proofs.Common.{rip_view_of, LiesIn}
+use Rattle.mxf_views.proofs.Common.{◌≡◌, ◌⊎◌, ◌+◌, ◌-◌, ◌<◌, ◌≤◌, ◌&&◌, ◌||◌, ◌==◌, ℕ, Bool, true, false, not, max}
+use Rattle.mxf_views.proofs.Common.{nat_le, nat_lt, [], ◌∷◌, subst, sym, List, Option, None, Some, find, is_some}
+use Rattle.mxf_views.proofs.Common.{option_and_then, option_map, if◌then◌else◌, refl, ap, inl, inr, arith, lt-ltb}
+use Rattle.mxf_views.proofs.Common.{unwrap_or, eqb-true, and_parts, cases_lt, same_Some, option_map_or, NoteParts}
+use Rattle.mxf_views.proofs.Common.{covered_end, end_of, In, In-filter, In-flat_map, In-map, found-In, IsContent}
+use Rattle.mxf_views.proofs.Common.{clear_notes, IsWithin, In-clear_notes, covers_below_end, covers_first, IsGap}
+use Rattle.mxf_views.proofs.Common.{gaps_of, rip_view_of, LiesIn}
 use Rattle.mxf_catalogue.specs.declared.run.Run.{Run}
 use Rattle.mxf_views.specs.declared.random_index.RipView.{RipView}
-use Rattle.mxf_views.specs.declared.random_index.RipView.TheVariants.{Absent, Several, Unreadable}
-use Rattle.mxf_views.specs.declared.random_index.RipView.TheVariants.{One}
-use Rattle.mxf_places.specs.AtHand.{AtHandParts, LiesInRange, edge_of, lacking, runs_end}
-use Rattle.mxf_places.specs.AtHand.{up_to_bound}
+use Rattle.mxf_views.specs.declared.random_index.RipView.TheVariants.{Absent, Several, Unreadable, One}
+use Rattle.mxf_places.specs.AtHand.{AtHandParts, LiesInRange, edge_of, lacking, runs_end, up_to_bound}
 use Rattle.mxf_places.specs.Held.{IsHeld, end_of_file, held_end, reaches_past, rip_end_by, top_of}
 use Rattle.mxf_places.specs.Claims.{claim_at}
 use Rattle.mxf_restore.specs.Sections.{IsHole, LiesInSection, sections_of}
-use Rattle.mxf_restore.specs.Plan.{LiesInOrder, asked, asked_by, begun_at, end_by, found_orders}
-use Rattle.mxf_restore.specs.Plan.{is_head_to, is_whole_needed, needed_of, orders_by, orders_of}
-use Rattle.mxf_restore.specs.Plan.{part_order, parts_among, parts_of, start_of}
+use Rattle.mxf_restore.specs.Plan.{LiesInOrder, asked, asked_by, begun_at, end_by, found_orders, is_head_to}
+use Rattle.mxf_restore.specs.Plan.{is_whole_needed, needed_of, orders_by, orders_of, part_order, parts_among, parts_of}
+use Rattle.mxf_restore.specs.Plan.{start_of}
 use Rattle.mxf_places.specs.declared.claim.Claim.{Claim}
 use Rattle.mxf_places.specs.declared.at_hand.OffsetRange.{OffsetRange}
 use Rattle.mxf_restore.specs.declared.section.Section.{Section}
@@ -27,8 +23,8 @@ use Rattle.mxf_restore.specs.declared.plan.Order.{Order}
 use Rattle.mxf_places.specs.declared.reason.Reason.TheVariants.{Gap}
 use Rattle.mxf_places.proofs.AtHandLaws.{lacked_there}
 use Rattle.mxf_places.proofs.HeldLaws.{held_end-bound, is_held-says, top_of-bound}
-use Rattle.mxf_restore.proofs.HoleLaws.{apart, closed_is, gap_there, held_or_not, last_held}
-use Rattle.mxf_restore.proofs.HoleLaws.{maximal, open_is, run_there}
+use Rattle.mxf_restore.proofs.HoleLaws.{apart, closed_is, gap_there, held_or_not, last_held, maximal, open_is}
+use Rattle.mxf_restore.proofs.HoleLaws.{run_there}
 use Rattle.mxf_restore.proofs.SectionCover.{are_sections}
 
 -- ---- the end of the file is held

@@ -1,23 +1,22 @@
 -- No two orders have one start.
-use Rattle.mxf_views.proofs.Common.{◌≡◌, ◌⊎◌, ◌∙◌, ◌<◌, ◌≤◌, ◌+◌, ◌==◌, ℕ, Bool, true, false, not}
-use Rattle.mxf_views.proofs.Common.{nat_lt, List, [], ◌∷◌, map, max, nat_le, unwrap_or, is_some}
-use Rattle.mxf_views.proofs.Common.{◌&&◌, ◌||◌, Option, None, Some, cond, filter, find}
-use Rattle.mxf_views.proofs.Common.{if◌then◌else◌, option_map, ltb-true, refl, sym, ap, subst, inl}
-use Rattle.mxf_views.proofs.Common.{inr, arith, eqb-true, eq-eqb, and_parts, cases_lt, or_right}
-use Rattle.mxf_views.proofs.Common.{same_Some, option_map_or, NoteParts, covered_end, In, In-filter}
-use Rattle.mxf_views.proofs.Common.{In-map, found-In, IsContent, covers_first, IsCover}
+use Rattle.mxf_views.proofs.Common.{◌≡◌, ◌⊎◌, ◌∙◌, ◌<◌, ◌≤◌, ◌+◌, ◌==◌, ℕ, Bool, true, false, not, nat_lt, List, []}
+use Rattle.mxf_views.proofs.Common.{◌∷◌, map, max, nat_le, unwrap_or, is_some, ◌&&◌, ◌||◌, Option, None, Some, cond}
+use Rattle.mxf_views.proofs.Common.{filter, find, if◌then◌else◌, option_map, ltb-true, refl, sym, ap, subst, inl, inr}
+use Rattle.mxf_views.proofs.Common.{arith, eqb-true, eq-eqb, and_parts, cases_lt, or_right, same_Some, option_map_or}
+use Rattle.mxf_views.proofs.Common.{NoteParts, covered_end, In, In-filter, In-map, found-In, IsContent, covers_first}
+use Rattle.mxf_views.proofs.Common.{IsCover}
 use Rattle.std.proofs.Common.{leb-true, option_to_list}
 use Rattle.std.proofs.lemmas.Bool.{lt-ltb}
-use Rattle.mxf_places.specs.AtHand.{AtHandParts, edge_of, has_offsets, is_none, lacking}
-use Rattle.mxf_places.specs.AtHand.{nothing_at_hand, runs_end, up_to_bound}
+use Rattle.mxf_places.specs.AtHand.{AtHandParts, edge_of, has_offsets, is_none, lacking, nothing_at_hand, runs_end}
+use Rattle.mxf_places.specs.AtHand.{up_to_bound}
 use Rattle.mxf_places.specs.declared.at_hand.OffsetRange.{OffsetRange}
 use Rattle.mxf_places.specs.Held.{IsHeld, end_of_file, top_of}
 use Rattle.mxf_places.proofs.AtHandLaws.{Rise, lacking_rise, one_start, rise_above, rise_from}
 use Rattle.mxf_places.specs.Claims.{claim_at}
 use Rattle.mxf_restore.specs.Sections.{IsEndOfHole, LiesInSection, sections_of}
-use Rattle.mxf_restore.specs.Plan.{asked, asked_by, asked_of, begun_at, end_by, is_again}
-use Rattle.mxf_restore.specs.Plan.{is_head_to, is_whole_needed, needed_of, orders_by, orders_of}
-use Rattle.mxf_restore.specs.Plan.{part_order, parts_among, parts_of, plan_of, start_of}
+use Rattle.mxf_restore.specs.Plan.{asked, asked_by, asked_of, begun_at, end_by, is_again, is_head_to, is_whole_needed}
+use Rattle.mxf_restore.specs.Plan.{needed_of, orders_by, orders_of, part_order, parts_among, parts_of, plan_of}
+use Rattle.mxf_restore.specs.Plan.{start_of}
 use Rattle.mxf_places.specs.declared.reason.Reason.TheVariants.{Gap}
 use Rattle.mxf_places.specs.declared.claim.Claim.{Claim}
 use Rattle.mxf_restore.specs.declared.section.Section.{Section}

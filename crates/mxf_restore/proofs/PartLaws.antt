@@ -1,19 +1,15 @@
 -- What is ordered of a section, by the function and by the relation.
-use Rattle.mxf_views.proofs.Common.{◌≡◌, ◌↔◌, ◌⊎◌, ◌∙◌, ◌==◌, ◌<◌, ◌+◌, ℕ, Bool, true, false, not}
-use Rattle.mxf_views.proofs.Common.{nat_lt, IsTrue, List, [], ◌∷◌, Option, None, Some, filter}
-use Rattle.mxf_views.proofs.Common.{if◌then◌else◌, refl, sym, ap, subst, inl, inr, arith, eqb-true}
-use Rattle.mxf_views.proofs.Common.{eq-eqb, lt-ltb, ltb-true, or_cases, or_left, or_right}
-use Rattle.mxf_views.proofs.Common.{same_Some, option_map_or, NoteParts, In, In-filter, In-map}
-use Rattle.mxf_views.proofs.Common.{not-true-false, not_equal, not_true, same_bool, IsContent}
-use Rattle.mxf_views.proofs.Common.{IsCover}
+use Rattle.mxf_views.proofs.Common.{◌≡◌, ◌↔◌, ◌⊎◌, ◌∙◌, ◌==◌, ◌<◌, ◌+◌, ℕ, Bool, true, false, not, nat_lt, IsTrue, List}
+use Rattle.mxf_views.proofs.Common.{[], ◌∷◌, Option, None, Some, filter, if◌then◌else◌, refl, sym, ap, subst, inl, inr}
+use Rattle.mxf_views.proofs.Common.{arith, eqb-true, eq-eqb, lt-ltb, ltb-true, or_cases, or_left, or_right, same_Some}
+use Rattle.mxf_views.proofs.Common.{option_map_or, NoteParts, In, In-filter, In-map, not-true-false, not_equal}
+use Rattle.mxf_views.proofs.Common.{not_true, same_bool, IsContent, IsCover}
 use Rattle.mxf_places.specs.AtHand.{AtHandParts, has_offset, lacking}
 use Rattle.mxf_places.specs.declared.at_hand.OffsetRange.{OffsetRange}
-use Rattle.mxf_places.proofs.AtHandLaws.{Rise, has_offset-says, has_offsets-says, lacking_rise}
-use Rattle.mxf_places.proofs.AtHandLaws.{members, rise_above}
-use Rattle.mxf_restore.specs.Orders.{IsFirstLacking, IsLackingIn, IsOrder, IsPart, IsWholeNeeded}
-use Rattle.mxf_restore.specs.Orders.{WasHandedIn}
-use Rattle.mxf_restore.specs.Plan.{asked_of, begun_at, is_again, is_whole_needed, orders_by}
-use Rattle.mxf_restore.specs.Plan.{orders_of, part_order, parts_among, parts_of, plan_of}
+use Rattle.mxf_places.proofs.AtHandLaws.{Rise, has_offset-says, has_offsets-says, lacking_rise, members, rise_above}
+use Rattle.mxf_restore.specs.Orders.{IsFirstLacking, IsLackingIn, IsOrder, IsPart, IsWholeNeeded, WasHandedIn}
+use Rattle.mxf_restore.specs.Plan.{asked_of, begun_at, is_again, is_whole_needed, orders_by, orders_of, part_order}
+use Rattle.mxf_restore.specs.Plan.{parts_among, parts_of, plan_of}
 use Rattle.mxf_restore.specs.Sections.{sections_of}
 use Rattle.mxf_restore.specs.declared.section.Section.{Section}
 use Rattle.mxf_restore.specs.declared.plan.Order.{Order}

@@ -1,15 +1,13 @@
 -- Orders and disputed places in their order.
-use Rattle.mxf_views.proofs.Common.{◌≡◌, ◌∙◌, ℕ, Bool, true, false, Option, None, Some, [], ◌∷◌}
-use Rattle.mxf_views.proofs.Common.{get_or, refl, sym, ap, IsTotalOrder, options_total}
-use Rattle.mxf_views.proofs.Common.{nat_cmp-IsAntisymmetric, Equal, Less, nat_cmp_total, on_total}
-use Rattle.mxf_views.proofs.Common.{then_total, ties, bool_cmp, nat_cmp, ordering_then, option_cmp}
+use Rattle.mxf_views.proofs.Common.{◌≡◌, ◌∙◌, ℕ, Bool, true, false, Option, None, Some, [], ◌∷◌, get_or, refl, sym, ap}
+use Rattle.mxf_views.proofs.Common.{IsTotalOrder, options_total, nat_cmp-IsAntisymmetric, Equal, Less, nat_cmp_total}
+use Rattle.mxf_views.proofs.Common.{on_total, then_total, ties, bool_cmp, nat_cmp, ordering_then, option_cmp}
 use Rattle.std.specs.FinMap.{IsAntisymmetric}
 use Rattle.std.specs.Ordering.{ordering_reverse}
 use Rattle.mxf_restore.specs.Plan.{disputed_place_cmp, order_cmp}
 use Rattle.mxf_places.specs.FirstClaims.{reason_rank}
 use Rattle.mxf_places.specs.declared.reason.Reason.{Reason}
-use Rattle.mxf_places.specs.declared.reason.Reason.TheVariants.{Header, Footer, Metadata, Index}
-use Rattle.mxf_places.specs.declared.reason.Reason.TheVariants.{Entry, Previous, Gap}
+use Rattle.mxf_places.specs.declared.reason.Reason.TheVariants.{Header, Footer, Metadata, Index, Entry, Previous, Gap}
 use Rattle.mxf_restore.specs.declared.plan.Order.{Order}
 use Rattle.mxf_restore.specs.declared.plan.DisputedPlace.{DisputedPlace}
 use Rattle.mxf_places.specs.declared.reason.Reason.TheVariants as reasons

@@ -1,22 +1,19 @@
 -- What a plan orders, and what it disputed places.
-use Rattle.mxf_views.proofs.Common.{◌≡◌, ◌↔◌, ◌⊎◌, ◌∙◌, ◌<◌, ◌==◌, ℕ, true, false, not, cond, List}
-use Rattle.mxf_views.proofs.Common.{[], ◌∷◌, Some, filter, filter_map, find, refl, sym, ap, inl}
-use Rattle.mxf_views.proofs.Common.{inr, eqb-true, eq-eqb, false≢true, same_Some, NoteParts, In}
-use Rattle.mxf_views.proofs.Common.{IsRising, In-union, IsRising-union, In-filter, In-flat_map}
-use Rattle.mxf_views.proofs.Common.{not-true-false, not_true, IsContent, IsGap, LiesIn}
+use Rattle.mxf_views.proofs.Common.{◌≡◌, ◌↔◌, ◌⊎◌, ◌∙◌, ◌<◌, ◌==◌, ℕ, true, false, not, cond, List, [], ◌∷◌, Some}
+use Rattle.mxf_views.proofs.Common.{filter, filter_map, find, refl, sym, ap, inl, inr, eqb-true, eq-eqb, false≢true}
+use Rattle.mxf_views.proofs.Common.{same_Some, NoteParts, In, IsRising, In-union, IsRising-union, In-filter}
+use Rattle.mxf_views.proofs.Common.{In-flat_map, not-true-false, not_true, IsContent, IsGap, LiesIn}
 use Rattle.mxf_places.specs.AtHand.{AtHandParts, edge_of, has_offset}
 use Rattle.mxf_places.proofs.AtHandLaws.{has_offset-says}
 use Rattle.mxf_places.specs.Claims.{claims_of}
 use Rattle.mxf_restore.specs.Sections.{sections_of}
-use Rattle.mxf_restore.specs.Plan.{LiesInOrder, disputed_place_cmp, disputed_place_of}
-use Rattle.mxf_restore.specs.Plan.{first_by_place, found_disputed_places, found_orders, order_cmp}
-use Rattle.mxf_restore.specs.Plan.{orders_of, plan_of}
+use Rattle.mxf_restore.specs.Plan.{LiesInOrder, disputed_place_cmp, disputed_place_of, first_by_place}
+use Rattle.mxf_restore.specs.Plan.{found_disputed_places, found_orders, order_cmp, orders_of, plan_of}
 use Rattle.mxf_restore.specs.declared.section.Section.{Section}
 use Rattle.mxf_restore.specs.declared.plan.DisputedPlace.{DisputedPlace}
 use Rattle.mxf_restore.specs.declared.plan.Order.{Order}
 use Rattle.mxf_restore.proofs.OrderCover.{ordered_somewhere}
-use Rattle.mxf_restore.proofs.PlanLaws.{disputed_place_total, one_disputed_place, one_order}
-use Rattle.mxf_restore.proofs.PlanLaws.{order_total}
+use Rattle.mxf_restore.proofs.PlanLaws.{disputed_place_total, one_disputed_place, one_order, order_total}
 
 -- ---- orders
 

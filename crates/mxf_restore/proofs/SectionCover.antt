@@ -1,19 +1,16 @@
 -- The sections of holes cover them, and share no byte.
-use Rattle.mxf_views.proofs.Common.{◌≡◌, ◌↔◌, ◌⊎◌, ◌∙◌, ◌-◌, ◌<◌, ◌≤◌, ◌&&◌, ℕ, true, false, IsTrue}
-use Rattle.mxf_views.proofs.Common.{not, nat_lt, if◌then◌else◌, List, [], ◌∷◌, Option, None, Some}
-use Rattle.mxf_views.proofs.Common.{filter, filter_map, refl, sym, ap, subst, inl, inr, arith}
-use Rattle.mxf_views.proofs.Common.{ltb-true, lt-ltb, and_from, and_parts, cases_lt, nat_cmp_total}
-use Rattle.mxf_views.proofs.Common.{same_Some, nat_cmp-IsAntisymmetric, option_map_or, NoteParts}
-use Rattle.mxf_views.proofs.Common.{In, In-union, IsRising-union, all-In, In-filter, In-filter_map}
-use Rattle.mxf_views.proofs.Common.{In-flat_map, IsRisingBy, by_itself, rises-filter}
-use Rattle.mxf_views.proofs.Common.{not-true-false, not_true, IsContent}
+use Rattle.mxf_views.proofs.Common.{◌≡◌, ◌↔◌, ◌⊎◌, ◌∙◌, ◌-◌, ◌<◌, ◌≤◌, ◌&&◌, ℕ, true, false, IsTrue, not, nat_lt}
+use Rattle.mxf_views.proofs.Common.{if◌then◌else◌, List, [], ◌∷◌, Option, None, Some, filter, filter_map, refl, sym, ap}
+use Rattle.mxf_views.proofs.Common.{subst, inl, inr, arith, ltb-true, lt-ltb, and_from, and_parts, cases_lt}
+use Rattle.mxf_views.proofs.Common.{nat_cmp_total, same_Some, nat_cmp-IsAntisymmetric, option_map_or, NoteParts, In}
+use Rattle.mxf_views.proofs.Common.{In-union, IsRising-union, all-In, In-filter, In-filter_map, In-flat_map, IsRisingBy}
+use Rattle.mxf_views.proofs.Common.{by_itself, rises-filter, not-true-false, not_true, IsContent}
 use Rattle.mxf_places.specs.Held.{IsHeld, is_held, is_in_file}
 use Rattle.mxf_places.specs.Claims.{claims_of}
 use Rattle.mxf_places.specs.declared.claim.Claim.{Claim}
 use Rattle.mxf_places.specs.AtHand.{LiesInRange}
-use Rattle.mxf_restore.specs.Sections.{AreSections, CutsAt, IsCut, IsEndOfHole, IsHole}
-use Rattle.mxf_restore.specs.Sections.{LiesInSection, cut_of, cuts_of, holes_of, is_inside}
-use Rattle.mxf_restore.specs.Sections.{sections_from, sections_in, sections_of}
+use Rattle.mxf_restore.specs.Sections.{AreSections, CutsAt, IsCut, IsEndOfHole, IsHole, LiesInSection, cut_of, cuts_of}
+use Rattle.mxf_restore.specs.Sections.{holes_of, is_inside, sections_from, sections_in, sections_of}
 use Rattle.mxf_places.specs.declared.at_hand.OffsetRange.{OffsetRange}
 use Rattle.mxf_restore.specs.declared.section.Section.{Section}
 use Rattle.mxf_places.proofs.EndLaws.{in_file_says}

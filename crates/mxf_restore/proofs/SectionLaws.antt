@@ -1,7 +1,6 @@
 -- Cuts that are left, those inside a hole, and sections.
-use Rattle.mxf_views.proofs.Common.{◌≡◌, ◌&&◌, ℕ, true, false, cond, not, if◌then◌else◌, List, []}
-use Rattle.mxf_views.proofs.Common.{◌∷◌, Option, Some, None, refl, ap, filter, filter_map}
-use Rattle.mxf_views.proofs.Common.{cons_option, NoteParts}
+use Rattle.mxf_views.proofs.Common.{◌≡◌, ◌&&◌, ℕ, true, false, cond, not, if◌then◌else◌, List, [], ◌∷◌, Option, Some}
+use Rattle.mxf_views.proofs.Common.{None, refl, ap, filter, filter_map, cons_option, NoteParts}
 use Rattle.std.specs.Option.{option_and_then}
 use Rattle.mxf_places.specs.Held.{is_held, is_in_file}
 use Rattle.mxf_restore.specs.Sections.{cut_of, free_cut}

@@ -1,10 +1,9 @@
 -- Where the packet begins of which a section is the rest, by the function and by the relation.
-use Rattle.mxf_views.proofs.Common.{◌≡◌, ◌↔◌, ◌∙◌, ◌&&◌, ◌==◌, ◌≤◌, ℕ, Bool, true, false, not, cond}
-use Rattle.mxf_views.proofs.Common.{find, filter, IsTrue, List, [], ◌∷◌, None, Some, refl, sym, ap}
-use Rattle.mxf_views.proofs.Common.{subst, inl, inr, arith, eqb-true, eq-eqb, and_from, and_parts}
-use Rattle.mxf_views.proofs.Common.{cases_Bool, same_Some, option_map_or, Less, NoteParts}
-use Rattle.mxf_views.proofs.Common.{covered_end, note_cmp, In, In-filter, all-In, found-In}
-use Rattle.mxf_views.proofs.Common.{none_found, not-true-false, IsContent, offset_le}
+use Rattle.mxf_views.proofs.Common.{◌≡◌, ◌↔◌, ◌∙◌, ◌&&◌, ◌==◌, ◌≤◌, ℕ, Bool, true, false, not, cond, find, filter}
+use Rattle.mxf_views.proofs.Common.{IsTrue, List, [], ◌∷◌, None, Some, refl, sym, ap, subst, inl, inr, arith, eqb-true}
+use Rattle.mxf_views.proofs.Common.{eq-eqb, and_from, and_parts, cases_Bool, same_Some, option_map_or, Less, NoteParts}
+use Rattle.mxf_views.proofs.Common.{covered_end, note_cmp, In, In-filter, all-In, found-In, none_found, not-true-false}
+use Rattle.mxf_views.proofs.Common.{IsContent, offset_le}
 use Rattle.mxf_restore.specs.Orders.{IsHeadTo, IsStartOf}
 use Rattle.mxf_restore.specs.Plan.{is_head_to, start_of}
 

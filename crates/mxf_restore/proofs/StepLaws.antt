@@ -1,8 +1,7 @@
 -- Steps of lists of which one is laid over the other, and the search in steps.
-use Rattle.mxf_views.proofs.Common.{◌≡◌, ◌<◌, ◌≤◌, ◌∙◌, ◌++◌, ℕ, zero, suc, true, false, nat_le}
-use Rattle.mxf_views.proofs.Common.{if◌then◌else◌, List, [], ◌∷◌, Option, None, refl, sym, ap}
-use Rattle.mxf_views.proofs.Common.{arith, length, get_or, map, option_or, AllWithin}
-use Rattle.mxf_views.proofs.Common.{IsNonDecreasingBy, leb-true, leb-false, le-leb, lt-leb}
+use Rattle.mxf_views.proofs.Common.{◌≡◌, ◌<◌, ◌≤◌, ◌∙◌, ◌++◌, ℕ, zero, suc, true, false, nat_le, if◌then◌else◌, List}
+use Rattle.mxf_views.proofs.Common.{[], ◌∷◌, Option, None, refl, sym, ap, arith, length, get_or, map, option_or}
+use Rattle.mxf_views.proofs.Common.{AllWithin, IsNonDecreasingBy, leb-true, leb-false, le-leb, lt-leb}
 use Rattle.std.proofs.lemmas.List.Folds.{find-append}
 use Rattle.mxf_places.specs.Claims.{is_claimed}
 use Rattle.mxf_restore.specs.Steps.{AreSteps, NeverFall, overlay, overlay_with, step, value_from}

@@ -1,14 +1,12 @@
 -- Nothing is ordered of a whole file.
-use Rattle.mxf_views.proofs.Common.{◌≡◌, ◌∙◌, ◌⊎◌, ◌<◌, ◌≤◌, ◌+◌, ◌-◌, ℕ, true, false, cond, List}
-use Rattle.mxf_views.proofs.Common.{[], ◌∷◌, Option, Some, None, refl, sym, ap, subst, inl, inr}
-use Rattle.mxf_views.proofs.Common.{arith, is_some, IsSome, cases_lt, same_Some, AllByRecursion}
-use Rattle.mxf_views.proofs.Common.{option_map_or, kind_of, covered_end, end_of, note_of, size_of}
-use Rattle.mxf_views.proofs.Common.{NoteParts, PacketParts, end_after, notes_from, In, RipParts}
-use Rattle.mxf_views.proofs.Common.{IsContent, IsCover, clear-laid, is_whole, In-clear_notes}
-use Rattle.mxf_views.proofs.Common.{IsContent-laid, PartitionParts, RipAtParts, is_rip, one_by_one}
-use Rattle.mxf_views.proofs.Common.{partitions_read, rip_read, EndsWithRandomIndex}
-use Rattle.mxf_views.proofs.Common.{IsRandomIndexPack, IsReadable, IsWellFormed, BeginsWithHeader}
-use Rattle.mxf_views.proofs.Common.{is_readable_as, end_up}
+use Rattle.mxf_views.proofs.Common.{◌≡◌, ◌∙◌, ◌⊎◌, ◌<◌, ◌≤◌, ◌+◌, ◌-◌, ℕ, true, false, cond, List, [], ◌∷◌, Option}
+use Rattle.mxf_views.proofs.Common.{Some, None, refl, sym, ap, subst, inl, inr, arith, is_some, IsSome, cases_lt}
+use Rattle.mxf_views.proofs.Common.{same_Some, AllByRecursion, option_map_or, kind_of, covered_end, end_of, note_of}
+use Rattle.mxf_views.proofs.Common.{size_of, NoteParts, PacketParts, end_after, notes_from, In, RipParts, IsContent}
+use Rattle.mxf_views.proofs.Common.{IsCover, clear-laid, is_whole, In-clear_notes, IsContent-laid, PartitionParts}
+use Rattle.mxf_views.proofs.Common.{RipAtParts, is_rip, one_by_one, partitions_read, rip_read, EndsWithRandomIndex}
+use Rattle.mxf_views.proofs.Common.{IsRandomIndexPack, IsReadable, IsWellFormed, BeginsWithHeader, is_readable_as}
+use Rattle.mxf_views.proofs.Common.{end_up}
 use Rattle.mxf_views.specs.declared.random_index.RipView.TheVariants.{Absent, One}
 use Rattle.mxf_views.specs.Records.{read_rip}
 use Rattle.mxf_views.proofs.KindLaws.{rip_kind}

@@ -1,6 +1,6 @@
 -- What is ordered of a section, sentence by sentence (this project's profile).
-use Rattle.std.specs.Prelude.{◌≡◌, ◌↔◌, ◌≢◌, ℕ, ◌+◌, ◌<◌, ◌≤◌, ◌⊎◌, true, false, IsTrue, IsSome, Option, None}
-use Rattle.std.specs.Prelude.{Some, List}
+use Rattle.std.specs.Prelude.{◌≡◌, ◌↔◌, ◌≢◌, ℕ, ◌+◌, ◌<◌, ◌≤◌, ◌⊎◌, true, false, IsTrue, IsSome, Option, None, Some}
+use Rattle.std.specs.Prelude.{List}
 use Rattle.mxf_klv.specs.Parts.{NoteParts}
 use Rattle.mxf_klv.specs.Note.{covered_end, end_of}
 use Rattle.mxf_klv.specs.Rising.{In}

@@ -1,6 +1,6 @@
 -- What to restore next (this project's profile).
-use Rattle.std.specs.Prelude.{ℕ, ◌+◌, ◌-◌, Bool, true, false, ◌&&◌, ◌||◌, ◌==◌, not, nat_le, nat_lt, max}
-use Rattle.std.specs.Prelude.{if◌then◌else◌, Option, None, Some, is_some, List, [], ◌∷◌, filter, find, flat_map, map}
+use Rattle.std.specs.Prelude.{ℕ, ◌+◌, ◌-◌, Bool, true, false, ◌&&◌, ◌||◌, ◌==◌, not, nat_le, nat_lt, max, if◌then◌else◌}
+use Rattle.std.specs.Prelude.{Option, None, Some, is_some, List, [], ◌∷◌, filter, find, flat_map, map}
 use Rattle.std.specs.Option.{option_and_then, option_cmp, option_map, option_map_or}
 use Rattle.std.specs.List.{filter_map}
 use Rattle.std.specs.Ordering.{bool_cmp, nat_cmp, on, then_cmp}

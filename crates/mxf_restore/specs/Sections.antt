@@ -1,7 +1,7 @@
 -- Holes of a file, cut into sections at the places where packets begin, as far as what is held says (this project's
 -- profile).
-use Rattle.std.specs.Prelude.{◌≡◌, ℕ, ◌+◌, ◌⊎◌, Bool, true, false, ◌&&◌, not, nat_lt}
-use Rattle.std.specs.Prelude.{if◌then◌else◌, Option, None, Some, is_some, List, [], ◌∷◌, ◌++◌, filter, flat_map, map}
+use Rattle.std.specs.Prelude.{◌≡◌, ℕ, ◌+◌, ◌⊎◌, Bool, true, false, ◌&&◌, not, nat_lt, if◌then◌else◌, Option, None, Some}
+use Rattle.std.specs.Prelude.{is_some, List, [], ◌∷◌, ◌++◌, filter, flat_map, map}
 use Rattle.std.specs.Option.{option_and_then, option_map_or}
 use Rattle.std.specs.List.{filter_map}
 use Rattle.std.specs.Ordering.{nat_cmp}

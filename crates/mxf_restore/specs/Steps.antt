@@ -1,6 +1,6 @@
 -- First claims of all offsets, as steps that rise: what a step says holds from its offset up to the next one's.
-use Rattle.std.specs.Prelude.{◌≡◌, ℕ, Bool, true, false, ◌<◌, ◌≤◌, ◌^◌, nat_le, if◌then◌else◌, Option, None}
-use Rattle.std.specs.Prelude.{List, [], ◌∷◌, find, map}
+use Rattle.std.specs.Prelude.{◌≡◌, ℕ, Bool, true, false, ◌<◌, ◌≤◌, ◌^◌, nat_le, if◌then◌else◌, Option, None, List, []}
+use Rattle.std.specs.Prelude.{◌∷◌, find, map}
 use Rattle.std.specs.Option.{option_or}
 use Rattle.mxf_places.specs.Claims.{is_claimed}
 use Rattle.mxf_places.specs.declared.claim.Claim.{Claim}

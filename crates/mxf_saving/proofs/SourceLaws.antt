@@ -6,8 +6,8 @@ use Rattle.std.specs.Char.{is_ascii_digit}
 use Rattle.std.specs.Str.{all_ascii_digits}
 use Rattle.std.proofs.lemmas.Bool.{and_parts}
 use Rattle.std.proofs.lemmas.Str.Parse.{IsNumeralModel, numerals_by_fold, not_in_digits}
-use Rattle.mxf_saving.specs.Sources.{SourceParts, Piece, Range, Saved, at_scheme, cat_scheme, range_scheme, decimal_from}
-use Rattle.mxf_saving.specs.Sources.{IsPlaced, ReadsPlace, ReadsSource, SplitsSource}
+use Rattle.mxf_saving.specs.Sources.{SourceParts, Piece, Range, Saved, at_scheme, cat_scheme, range_scheme}
+use Rattle.mxf_saving.specs.Sources.{decimal_from, IsPlaced, ReadsPlace, ReadsSource, SplitsSource}
 use Rattle.mxf_saving.specs.declared.source.SourceWordFault.{SourceWordFault}
 use Rattle.mxf_saving.specs.declared.source.SourceWordFault.TheVariants.{NoScheme, BadOffset, NoPath}
 

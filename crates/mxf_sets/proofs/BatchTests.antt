@@ -1,7 +1,7 @@
 -- What the test of a batch says, and when it passes.
-use Rattle.mxf_klv.proofs.Common.{AreBytes, ◌≡◌, ℕ, ◌+◌, ◌-◌, ◌*◌, ◌≤◌, ◌⊎◌, ◌++◌, inl, inr, true}
-use Rattle.mxf_klv.proofs.Common.{false, List, length, take, drop, refl, ap, ◌∙◌, sym, arith}
-use Rattle.mxf_klv.proofs.Common.{eq-eqb, eqb-true, or_cases, drop-drop, drop-take, take_rest}
+use Rattle.mxf_klv.proofs.Common.{AreBytes, ◌≡◌, ℕ, ◌+◌, ◌-◌, ◌*◌, ◌≤◌, ◌⊎◌, ◌++◌, inl, inr, true, false, List, length}
+use Rattle.mxf_klv.proofs.Common.{take, drop, refl, ap, ◌∙◌, sym, arith, eq-eqb, eqb-true, or_cases, drop-drop}
+use Rattle.mxf_klv.proofs.Common.{drop-take, take_rest}
 use Rattle.byteorder.specs.Endian.{big_bytes, big_number}
 use Rattle.byteorder.specs.Numbers.{big_from-take, big_from-lt}
 use Rattle.mxf_klv.proofs.RoundTrips.{AreBytes-take, AreBytes-drop}

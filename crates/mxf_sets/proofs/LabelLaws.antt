@@ -1,8 +1,7 @@
 -- The labels of a tag among the items of a batch.
-use Rattle.mxf_klv.proofs.Common.{◌≡◌, ℕ, zero, suc, ◌+◌, ◌*◌, ◌<◌, ◌↔◌, List, [], ◌∷◌, true}
-use Rattle.mxf_klv.proofs.Common.{length, take, drop, Option, None, Some, refl, sym, ap, subst, ◌∙◌}
-use Rattle.mxf_klv.proofs.Common.{arith, inl, inr, eq-eqb, eqb-true, zero-mul, MatchOption}
-use Rattle.mxf_klv.proofs.Common.{AllByRecursion, list_all, bytes_eq, drop-drop, length-drop}
+use Rattle.mxf_klv.proofs.Common.{◌≡◌, ℕ, zero, suc, ◌+◌, ◌*◌, ◌<◌, ◌↔◌, List, [], ◌∷◌, true, length, take, drop}
+use Rattle.mxf_klv.proofs.Common.{Option, None, Some, refl, sym, ap, subst, ◌∙◌, arith, inl, inr, eq-eqb, eqb-true}
+use Rattle.mxf_klv.proofs.Common.{zero-mul, MatchOption, AllByRecursion, list_all, bytes_eq, drop-drop, length-drop}
 use Rattle.mxf_klv.proofs.Common.{length-take, In, bytes_eq-Decides, and_parts}
 use Rattle.byteorder.specs.Endian.{big_number}
 use Rattle.mxf_sets.specs.Batch.{BatchParts, HasItemsOf, batch_items, item_in, sized_items}

@@ -1,7 +1,7 @@
 -- Numbers that stand in bytes, one after another.
-use Rattle.mxf_klv.proofs.Common.{◌≡◌, ℕ, ◌+◌, ◌^◌, ◌<◌, ◌≤◌, List, ◌++◌, length, take, drop, sym}
-use Rattle.mxf_klv.proofs.Common.{ap, ◌∙◌, arith, append_assoc, length-append, take_at, drop_at}
-use Rattle.mxf_klv.proofs.Common.{take-append-drop, length-take, AreBytes}
+use Rattle.mxf_klv.proofs.Common.{◌≡◌, ℕ, ◌+◌, ◌^◌, ◌<◌, ◌≤◌, List, ◌++◌, length, take, drop, sym, ap, ◌∙◌, arith}
+use Rattle.mxf_klv.proofs.Common.{append_assoc, length-append, take_at, drop_at, take-append-drop, length-take}
+use Rattle.mxf_klv.proofs.Common.{AreBytes}
 use Rattle.byteorder.specs.Endian.{big_number, big_bytes}
 use Rattle.byteorder.specs.Numbers.{big_number-reads_back, length-bytes_high_first}
 use Rattle.mxf_klv.proofs.RoundTrips.{bytes_again}

@@ -1,7 +1,7 @@
 -- The readings of packs, computed: they are what the relations say, both ways.
-use Rattle.std.proofs.Common.{◌≡◌, ℕ, ◌+◌, ◌-◌, ◌%◌, ◌≤◌, ◌↔◌, ◌++◌, List, true, false, cond, length}
-use Rattle.std.proofs.Common.{length-drop, take, drop, None, Some, Result, Ok, Err, refl, sym, ap, subst, ◌∙◌, arith}
-use Rattle.std.proofs.Common.{inl, inr, leb-true, eq-eqb, eqb-true}
+use Rattle.std.proofs.Common.{◌≡◌, ℕ, ◌+◌, ◌-◌, ◌%◌, ◌≤◌, ◌↔◌, ◌++◌, List, true, false, cond, length, length-drop, take}
+use Rattle.std.proofs.Common.{drop, None, Some, Result, Ok, Err, refl, sym, ap, subst, ◌∙◌, arith, inl, inr, leb-true}
+use Rattle.std.proofs.Common.{eq-eqb, eqb-true}
 use Rattle.std.proofs.lemmas.Bool.{leb-false, and_parts, and_cases}
 use Rattle.std.proofs.lemmas.List.{take-append-drop, drop-drop, length-take}
 use Rattle.std.specs.Prelude.{nat_le, ◌==◌, ◌&&◌}

@@ -1,6 +1,6 @@
 -- The kinds of partition packs, by their parts and statuses.
-use Rattle.mxf_klv.proofs.Common.{Bool, Err, List, Ok, Some, ap, cond, drop, false, is_some, length}
-use Rattle.mxf_klv.proofs.Common.{nat_le, refl, sym, true, ℕ, ◌∙◌, ◌≡◌, result_ok}
+use Rattle.mxf_klv.proofs.Common.{Bool, Err, List, Ok, Some, ap, cond, drop, false, is_some, length, nat_le, refl, sym}
+use Rattle.mxf_klv.proofs.Common.{true, ℕ, ◌∙◌, ◌≡◌, result_ok}
 use Rattle.mxf_klv.specs.declared.kinds.Kind.{Kind}
 use Rattle.mxf_klv.specs.declared.kinds.Status.{Status}
 use Rattle.mxf_sets.specs.Fields.{is_batch}

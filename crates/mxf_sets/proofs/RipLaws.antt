@@ -1,16 +1,15 @@
 -- The entries of random index packs, and that a value is one, or one of the faults.
-use Rattle.mxf_klv.proofs.Common.{◌≡◌, ℕ, zero, suc, ◌+◌, ◌-◌, ◌*◌, ◌/◌, ◌%◌, ◌^◌, ◌<◌, ◌≤◌, List}
-use Rattle.mxf_klv.proofs.Common.{[], ◌∷◌, ◌++◌, length, take, drop, Ok, Err, Some, Result, refl}
-use Rattle.mxf_klv.proofs.Common.{sym, ap, subst, ◌∙◌, arith, append_assoc, length-append}
-use Rattle.mxf_klv.proofs.Common.{slice_get, flat_map, AllByRecursion, drop_at, take-append-drop}
-use Rattle.mxf_klv.proofs.Common.{drop-drop, length-drop, nil_from_length, flat_map-cons, AreBytes}
+use Rattle.mxf_klv.proofs.Common.{◌≡◌, ℕ, zero, suc, ◌+◌, ◌-◌, ◌*◌, ◌/◌, ◌%◌, ◌^◌, ◌<◌, ◌≤◌, List, [], ◌∷◌, ◌++◌}
+use Rattle.mxf_klv.proofs.Common.{length, take, drop, Ok, Err, Some, Result, refl, sym, ap, subst, ◌∙◌, arith}
+use Rattle.mxf_klv.proofs.Common.{append_assoc, length-append, slice_get, flat_map, AllByRecursion, drop_at}
+use Rattle.mxf_klv.proofs.Common.{take-append-drop, drop-drop, length-drop, nil_from_length, flat_map-cons, AreBytes}
 use Rattle.byteorder.specs.Endian.{big_number, big_bytes}
 use Rattle.byteorder.specs.Numbers.{big_from-lt, big_from-take, big_number-reads_back}
 use Rattle.mxf_klv.proofs.RoundTrips.{bytes_again, AreBytes-take, AreBytes-drop}
 use Rattle.mxf_sets.specs.declared.pack.PackFault.{PackFault}
 use Rattle.mxf_sets.specs.declared.pack.random_index.RipEntry.{RipEntry}
-use Rattle.mxf_sets.specs.RandomIndexPack.{IsEntry, entry_bytes, RipParts, packet_length, IsRip}
-use Rattle.mxf_sets.specs.RandomIndexPack.{ReadsRip, entry_in, entries_by, entries_of, rip_parts}
+use Rattle.mxf_sets.specs.RandomIndexPack.{IsEntry, entry_bytes, RipParts, packet_length, IsRip, ReadsRip, entry_in}
+use Rattle.mxf_sets.specs.RandomIndexPack.{entries_by, entries_of, rip_parts}
 use Rattle.mxf_sets.proofs.Numbers.{number_in_front, same_number}
 
 -- ---- the entries of bytes

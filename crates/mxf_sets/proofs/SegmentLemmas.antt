@@ -1,7 +1,6 @@
 -- What the items of a segment say of its entries.
-use Rattle.mxf_klv.proofs.Common.{◌≡◌, ℕ, ◌+◌, ◌*◌, ◌%◌, ◌<◌, ◌≤◌, true, false, List, [], ◌∷◌, Some}
-use Rattle.mxf_klv.proofs.Common.{length, drop, refl, ap, ◌∙◌, arith, ints, is_negative}
-use Rattle.mxf_klv.proofs.Common.{AllByRecursion}
+use Rattle.mxf_klv.proofs.Common.{◌≡◌, ℕ, ◌+◌, ◌*◌, ◌%◌, ◌<◌, ◌≤◌, true, false, List, [], ◌∷◌, Some, length, drop, refl}
+use Rattle.mxf_klv.proofs.Common.{ap, ◌∙◌, arith, ints, is_negative, AllByRecursion}
 use Rattle.std.proofs.Common.{length-drop, ltb-false}
 use Rattle.std.specs.Prelude.{nat_lt, Ok}
 use Rattle.std.proofs.Math.Nat.{mul-mod_left}
@@ -10,8 +9,7 @@ use Rattle.mxf_sets.specs.declared.segment.numbers.SegmentNumbers.{SegmentNumber
 use Rattle.mxf_sets.specs.Items.{ItemParts, IsItem}
 use Rattle.mxf_sets.specs.Lookup.{value_of}
 use Rattle.mxf_sets.specs.Fields.{is_batch}
-use Rattle.mxf_sets.specs.Segment.{entries_in, entry_size, segment_numbers, segment_of}
-use Rattle.mxf_sets.specs.Segment.{segment_parts, IsSegment}
+use Rattle.mxf_sets.specs.Segment.{entries_in, entry_size, segment_numbers, segment_of, segment_parts, IsSegment}
 
 pub batch_items : (size : ℕ) (v : List ℕ) → is_batch size v ≡ true → length v ≡ 8 + big_number 4 v * size
 batch_items size v h = grind arith

@@ -1,7 +1,7 @@
 -- A written segment is read back.
-use Rattle.std.proofs.Common.{◌≡◌, ℕ, ◌+◌, ◌*◌, ◌-◌, ◌^◌, ◌<◌, ◌≤◌, Bool, true, false, cond, List, [], ◌∷◌, ◌++◌}
-use Rattle.std.proofs.Common.{Some, Ok, length, refl, ap, ◌∙◌, sym, arith, length-append, FitsSigned, ℤ}
-use Rattle.std.proofs.Common.{pos, ◌≤ℤ◌, Err, ltb-true}
+use Rattle.std.proofs.Common.{◌≡◌, ℕ, ◌+◌, ◌*◌, ◌-◌, ◌^◌, ◌<◌, ◌≤◌, Bool, true, false, cond, List, [], ◌∷◌, ◌++◌, Some}
+use Rattle.std.proofs.Common.{Ok, length, refl, ap, ◌∙◌, sym, arith, length-append, FitsSigned, ℤ, pos, ◌≤ℤ◌, Err}
+use Rattle.std.proofs.Common.{ltb-true}
 use Rattle.std.specs.Prelude.{nat_lt, ◌==◌}
 use Rattle.std.specs.Int.{w32, w64, cast_signed, cast_unsigned, is_negative}
 use Rattle.std.specs.List.{flat_map, AllByRecursion}

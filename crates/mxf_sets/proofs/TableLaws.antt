@@ -1,7 +1,7 @@
 -- The labels of a tag agree on what a table of them tells, taken one after another.
-use Rattle.mxf_klv.proofs.Common.{◌≡◌, ℕ, List, [], ◌∷◌, Option, Some, None, true, false, refl, sym}
-use Rattle.mxf_klv.proofs.Common.{ap, subst, ◌∙◌, Bool, cond, drop, eqb-true, list_all, bytes_eq}
-use Rattle.mxf_klv.proofs.Common.{lookup, nat_cmp, is_eq, Less, Equal, Greater, is_at}
+use Rattle.mxf_klv.proofs.Common.{◌≡◌, ℕ, List, [], ◌∷◌, Option, Some, None, true, false, refl, sym, ap, subst, ◌∙◌}
+use Rattle.mxf_klv.proofs.Common.{Bool, cond, drop, eqb-true, list_all, bytes_eq, lookup, nat_cmp, is_eq, Less, Equal}
+use Rattle.mxf_klv.proofs.Common.{Greater, is_at}
 use Rattle.std.specs.Prelude.{◌==◌, ◌&&◌, nat_lt, if◌then◌else◌, filter, map}
 use Rattle.std.specs.Cmp.{nat_cmp_is}
 use Rattle.byteorder.specs.Endian.{big_number}

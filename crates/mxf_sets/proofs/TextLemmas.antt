@@ -1,6 +1,5 @@
 -- The units of a text, one after another.
-use Rattle.mxf_klv.proofs.Common.{◌≡◌, ℕ, ◌≤◌, ◌≢◌, List, ◌∷◌, length, take, drop, arith, ne_eqb}
-use Rattle.mxf_klv.proofs.Common.{w16, from_be_bytes}
+use Rattle.mxf_klv.proofs.Common.{◌≡◌, ℕ, ◌≤◌, ◌≢◌, List, ◌∷◌, length, take, drop, arith, ne_eqb, w16, from_be_bytes}
 use Rattle.std.specs.Prelude.{◌==◌, not}
 use Rattle.std.specs.List.{prefix_len}
 use Rattle.mxf_sets.specs.Text.{text_units}

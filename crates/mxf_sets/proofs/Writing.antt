@@ -1,7 +1,6 @@
 -- A value that is written part by part: what is told of a part is told of the whole.
-use Rattle.mxf_klv.proofs.Common.{◌≡◌, ℕ, ◌+◌, ◌<◌, List, ◌++◌, suc, length, take, drop, get_or}
-use Rattle.mxf_klv.proofs.Common.{sym, subst, arith, length-append, take-append-le, flat_map}
-use Rattle.mxf_klv.proofs.Common.{Appends, StopsIn, WritesPart, counted}
+use Rattle.mxf_klv.proofs.Common.{◌≡◌, ℕ, ◌+◌, ◌<◌, List, ◌++◌, suc, length, take, drop, get_or, sym, subst, arith}
+use Rattle.mxf_klv.proofs.Common.{length-append, take-append-le, flat_map, Appends, StopsIn, WritesPart, counted}
 use Rattle.mxf_klv.specs.declared.writing.WriteFault.{WriteFault}
 use Rattle.std.specs.Prelude.{Option, Result}
 use Rattle.mxf_klv.proofs.WrittenParts.{StopsIn-middle, StopsIn-part, WritesPart-after, flat_map-at}

@@ -1,7 +1,7 @@
 -- The place of an edit unit in its essence stream by an index table segment, and its entry (ST 377-1, look-up of the
 -- stream offset; duration 0 of a segment with entries is this project's profile). Start and duration aren't negative.
-use Rattle.std.specs.Prelude.{ℕ, ◌+◌, ◌-◌, ◌*◌, nat_lt, nat_le, ◌==◌, ◌&&◌, ◌||◌, Bool, if◌then◌else◌, drop}
-use Rattle.std.specs.Prelude.{Option, Some, None, slice_index, unsigned_abs}
+use Rattle.std.specs.Prelude.{ℕ, ◌+◌, ◌-◌, ◌*◌, nat_lt, nat_le, ◌==◌, ◌&&◌, ◌||◌, Bool, if◌then◌else◌, drop, Option}
+use Rattle.std.specs.Prelude.{Some, None, slice_index, unsigned_abs}
 use Rattle.std.specs.Int.{w8, cast_signed}
 use Rattle.byteorder.specs.Endian.{big_number}
 use Rattle.mxf_sets.specs.Segment.{SegmentParts, entry_count, entry_size, is_constant}

@@ -1,5 +1,6 @@
 -- What is asked of a verification, and what it leaves open (this project's profile).
-use Rattle.std.specs.Prelude.{◌≡◌, ◌==◌, ◌&&◌, not, if◌then◌else◌, ◌+◌, ℕ, Bool, List, Option, None, Some, Result, Ok, Err}
+use Rattle.std.specs.Prelude.{◌≡◌, ◌==◌, ◌&&◌, not, if◌then◌else◌, ◌+◌, ℕ, Bool, List, Option, None, Some, Result, Ok}
+use Rattle.std.specs.Prelude.{Err}
 use Rattle.mxf_klv.specs.Parts.{NoteParts}
 use Rattle.mxf_places.specs.AtHand.{without_hand}
 use Rattle.mxf_verify.specs.Fixities.{AreVerifiedUnits, VerifiedUnitsParts}

@@ -1,8 +1,7 @@
 -- The offsets where no essence can lie.
-use Rattle.mxf_views.proofs.Common.{◌≡◌, ◌≢◌, ◌↔◌, ℕ, Bool, true, IsTrue, List, [], ap, filter, map}
-use Rattle.mxf_views.proofs.Common.{not, refl, kind_of, NoteParts, In, In-filter, list_any-In}
-use Rattle.mxf_views.proofs.Common.{not-true-false, not_true, union_of_runs, undisputed_notes}
-use Rattle.mxf_views.proofs.Common.{covered_run, covers_all, In-undisputed_notes}
+use Rattle.mxf_views.proofs.Common.{◌≡◌, ◌≢◌, ◌↔◌, ℕ, Bool, true, IsTrue, List, [], ap, filter, map, not, refl, kind_of}
+use Rattle.mxf_views.proofs.Common.{NoteParts, In, In-filter, list_any-In, not-true-false, not_true, union_of_runs}
+use Rattle.mxf_views.proofs.Common.{undisputed_notes, covered_run, covers_all, In-undisputed_notes}
 use Rattle.mxf_klv.specs.declared.kinds.Kind.{Kind}
 use Rattle.mxf_places.specs.Held.{covers}
 use Rattle.mxf_places.proofs.HeldLaws.{covers-says}

@@ -1,14 +1,12 @@
 -- Up to where units reach.
-use Rattle.mxf_views.proofs.Common.{◌≡◌, ◌∙◌, ◌↔◌, ◌+◌, ◌^◌, ◌≤◌, ◌⊎◌, ◌&&◌, ℕ, Bool, true, false}
-use Rattle.mxf_views.proofs.Common.{not, List, Option, None, Some, ap, arith, if◌then◌else◌, inl}
-use Rattle.mxf_views.proofs.Common.{inr, lt-ltb, ltb-true, nat_lt, option_and_then, refl, subst}
-use Rattle.mxf_views.proofs.Common.{sym, and_from, and_parts, cases_lt, le-ltb, option_map_or}
-use Rattle.mxf_views.proofs.Common.{NoteParts, list_any-In, IsGiven, SegmentAtParts, segments_of}
+use Rattle.mxf_views.proofs.Common.{◌≡◌, ◌∙◌, ◌↔◌, ◌+◌, ◌^◌, ◌≤◌, ◌⊎◌, ◌&&◌, ℕ, Bool, true, false, not, List, Option}
+use Rattle.mxf_views.proofs.Common.{None, Some, ap, arith, if◌then◌else◌, inl, inr, lt-ltb, ltb-true, nat_lt}
+use Rattle.mxf_views.proofs.Common.{option_and_then, refl, subst, sym, and_from, and_parts, cases_lt, le-ltb}
+use Rattle.mxf_views.proofs.Common.{option_map_or, NoteParts, list_any-In, IsGiven, SegmentAtParts, segments_of}
 use Rattle.mxf_views.specs.declared.index.place.StreamPlace.{StreamPlace}
 use Rattle.mxf_units.specs.declared.essence_zone.EssenceZone.{EssenceZone}
 use Rattle.mxf_units.specs.Extents.{HasOffset, IsEndPlaceOf, IsExtentEnd, IsNextUnit, IsWithin}
-use Rattle.mxf_units.specs.Streams.{IsNext, IsNextOf, is_given, is_same_place, next_of}
-use Rattle.mxf_units.specs.Streams.{segments_for}
+use Rattle.mxf_units.specs.Streams.{IsNext, IsNextOf, is_given, is_same_place, next_of, segments_for}
 use Rattle.mxf_units.specs.Units.{end_place, extent_in, file_offset, has_next_unit, is_behind}
 use Rattle.mxf_units.proofs.NextLaws.{next-told}
 use Rattle.mxf_units.proofs.StandingPlaces.{In-given, given-In, given_places}

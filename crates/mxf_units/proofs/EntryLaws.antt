@@ -1,9 +1,8 @@
 -- The entry of a unit by the segments that list it, and what the unit says by it.
-use Rattle.mxf_views.proofs.Common.{◌≡◌, ◌∙◌, ◌+◌, ◌-◌, ◌^◌, ◌<◌, ℕ, suc, Bool, true, false, List}
-use Rattle.mxf_views.proofs.Common.{Option, None, Some, refl, ap, arith, filter_map, if◌then◌else◌}
-use Rattle.mxf_views.proofs.Common.{inl, inr, ltb-true, nat_le, nat_lt, option_and_then, option_map}
-use Rattle.mxf_views.proofs.Common.{subst, sym, unsigned_abs, false_from_ne_true, leb-false}
-use Rattle.mxf_views.proofs.Common.{leb-true, ltb-false, NoteParts, In, In-filter_map, index_entry}
+use Rattle.mxf_views.proofs.Common.{◌≡◌, ◌∙◌, ◌+◌, ◌-◌, ◌^◌, ◌<◌, ℕ, suc, Bool, true, false, List, Option, None, Some}
+use Rattle.mxf_views.proofs.Common.{refl, ap, arith, filter_map, if◌then◌else◌, inl, inr, ltb-true, nat_le, nat_lt}
+use Rattle.mxf_views.proofs.Common.{option_and_then, option_map, subst, sym, unsigned_abs, false_from_ne_true}
+use Rattle.mxf_views.proofs.Common.{leb-false, leb-true, ltb-false, NoteParts, In, In-filter_map, index_entry}
 use Rattle.mxf_views.proofs.Common.{SegmentAtParts}
 use Rattle.mxf_sets.specs.declared.segment.offset.IndexEntry.{IndexEntry}
 use Rattle.std.proofs.lemmas.Int.{ints}

@@ -1,8 +1,7 @@
 -- Where the bytes of units lie, and of which units that is told.
-use Rattle.mxf_views.proofs.Common.{◌≡◌, ◌↔◌, ◌<◌, ◌≤◌, ℕ, Bool, true, false, List, Option, None}
-use Rattle.mxf_views.proofs.Common.{Some, Result, Ok, Err, IsSome, ap, arith, if◌then◌else◌, inl}
-use Rattle.mxf_views.proofs.Common.{inr, is_some, option_map, refl, subst, cases_lt, same_Some}
-use Rattle.mxf_views.proofs.Common.{NoteParts, guarded, PartitionParts, IsOnlyPlace, segments_of}
+use Rattle.mxf_views.proofs.Common.{◌≡◌, ◌↔◌, ◌<◌, ◌≤◌, ℕ, Bool, true, false, List, Option, None, Some, Result, Ok, Err}
+use Rattle.mxf_views.proofs.Common.{IsSome, ap, arith, if◌then◌else◌, inl, inr, is_some, option_map, refl, subst}
+use Rattle.mxf_views.proofs.Common.{cases_lt, same_Some, NoteParts, guarded, PartitionParts, IsOnlyPlace, segments_of}
 use Rattle.mxf_views.specs.declared.index.place.StreamPlace.{StreamPlace}
 use Rattle.mxf_places.specs.AtHand.{KnownParts}
 use Rattle.mxf_units.specs.declared.standing.UnitStanding.{UnitStanding}
@@ -13,8 +12,8 @@ use Rattle.mxf_units.specs.EssenceZones.{first_packet, parts_of, zone_at, zone_b
 use Rattle.mxf_units.specs.Extents.{HasOffset, IsExtentEnd, IsExtentOf, IsTold}
 use Rattle.mxf_units.specs.Standings.{IsStandingIn, IsZone, LiesElsewhere}
 use Rattle.mxf_units.specs.Streams.{place_of, segments_for}
-use Rattle.mxf_units.specs.Units.{end_place, extent_by, extent_in, is_told, location_at}
-use Rattle.mxf_units.specs.Units.{location_in, location_of, standing_by, standing_in, unit_of}
+use Rattle.mxf_units.specs.Units.{end_place, extent_by, extent_in, is_told, location_at, location_in, location_of}
+use Rattle.mxf_units.specs.Units.{standing_by, standing_in, unit_of}
 use Rattle.mxf_units.proofs.HeldUnits.{location-untold}
 use Rattle.mxf_units.proofs.LimitLaws.{zone-by}
 use Rattle.mxf_units.proofs.EndPlaceLaws.{extent_end-told, in_zone}

@@ -1,8 +1,7 @@
 -- Units that are held.
-use Rattle.mxf_views.proofs.Common.{◌≡◌, ◌∙◌, ◌<◌, ◌+◌, ℕ, Bool, true, false, not, List, [], ◌∷◌}
-use Rattle.mxf_views.proofs.Common.{Option, None, Some, Result, Ok, Err, refl, sym, ap, subst}
-use Rattle.mxf_views.proofs.Common.{is_some, unwrap_or, if◌then◌else◌, ◌==◌, filter, filter_map}
-use Rattle.mxf_views.proofs.Common.{and_parts, ok_or, NoteParts, some_is, SegmentAtParts, place_in}
+use Rattle.mxf_views.proofs.Common.{◌≡◌, ◌∙◌, ◌<◌, ◌+◌, ℕ, Bool, true, false, not, List, [], ◌∷◌, Option, None, Some}
+use Rattle.mxf_views.proofs.Common.{Result, Ok, Err, refl, sym, ap, subst, is_some, unwrap_or, if◌then◌else◌, ◌==◌}
+use Rattle.mxf_views.proofs.Common.{filter, filter_map, and_parts, ok_or, NoteParts, some_is, SegmentAtParts, place_in}
 use Rattle.mxf_views.specs.declared.index.place.StreamPlace.{StreamPlace}
 use Rattle.mxf_places.specs.AtHand.{KnownParts}
 use Rattle.mxf_units.specs.declared.standing.UnitStanding.{UnitStanding}
@@ -12,9 +11,8 @@ use Rattle.mxf_units.specs.declared.location.Location.{Location}
 use Rattle.mxf_units.specs.declared.unit.Extent.{Extent}
 use Rattle.mxf_units.specs.Streams.{is_other_place, only_place, place_of, segments_for}
 use Rattle.mxf_units.specs.EssenceZones.{begins_up_to, chosen, parts_of, zone_at}
-use Rattle.mxf_units.specs.Units.{IsKnownWhole, are_all_held, are_all_known, asked_end, extent_by}
-use Rattle.mxf_units.specs.Units.{is_told, location_at, location_in, location_of, standing_by}
-use Rattle.mxf_units.specs.Units.{standing_in, unit_of, IsHeldWhole}
+use Rattle.mxf_units.specs.Units.{IsKnownWhole, are_all_held, are_all_known, asked_end, extent_by, is_told, location_at}
+use Rattle.mxf_units.specs.Units.{location_in, location_of, standing_by, standing_in, unit_of, IsHeldWhole}
 use Rattle.mxf_units.proofs.RangeLaws.{all_held-says, all_known-says}
 use Rattle.mxf_units.specs.declared.standing.UnitStanding.TheVariants as standings
 

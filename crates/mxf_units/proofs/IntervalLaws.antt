@@ -1,10 +1,9 @@
 -- Intervals that may have a number.
-use Rattle.mxf_views.proofs.Common.{◌≡◌, ◌∙◌, ◌<◌, ◌≤◌, ◌+◌, ◌++◌, ℕ, zero, suc, List, [], ◌∷◌}
-use Rattle.mxf_views.proofs.Common.{Option, None, refl, sym, ap, append-nil, append_assoc, arith}
-use Rattle.mxf_views.proofs.Common.{drop, filter_map, get_or, length, max, min, subst, take}
-use Rattle.mxf_views.proofs.Common.{AllByRecursion, AllWithin, cons_option, IsNonDecreasing}
-use Rattle.mxf_views.proofs.Common.{IsNonDecreasingBy, nat_cmp, nat_tests, length-take}
-use Rattle.mxf_views.proofs.Common.{take-append-drop, take-take, filter_map-append}
+use Rattle.mxf_views.proofs.Common.{◌≡◌, ◌∙◌, ◌<◌, ◌≤◌, ◌+◌, ◌++◌, ℕ, zero, suc, List, [], ◌∷◌, Option, None, refl, sym}
+use Rattle.mxf_views.proofs.Common.{ap, append-nil, append_assoc, arith, drop, filter_map, get_or, length, max, min}
+use Rattle.mxf_views.proofs.Common.{subst, take, AllByRecursion, AllWithin, cons_option, IsNonDecreasing}
+use Rattle.mxf_views.proofs.Common.{IsNonDecreasingBy, nat_cmp, nat_tests, length-take, take-append-drop, take-take}
+use Rattle.mxf_views.proofs.Common.{filter_map-append}
 use Rattle.std.specs.Ordering.{ord_max}
 use Rattle.mxf_units.specs.Intervals.{AreByFirst, IsAround, greatest_ends}
 

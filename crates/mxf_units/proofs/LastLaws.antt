@@ -1,19 +1,16 @@
 -- The last unit of an index: of one segment, and of those that a loop has passed.
-use Rattle.mxf_views.proofs.Common.{◌≡◌, ◌∙◌, ◌↔◌, ◌<◌, ◌≤◌, ◌+◌, ◌-◌, ◌*◌, ◌==◌, ◌&&◌, ◌||◌, ◌++◌}
-use Rattle.mxf_views.proofs.Common.{◌∷◌, ◌⊎◌, ◌≢◌, [], ℕ, Bool, true, false, List, Option, None}
-use Rattle.mxf_views.proofs.Common.{Some, MatchOption, refl, sym, ap, subst, inl, inr, append-nil}
-use Rattle.mxf_views.proofs.Common.{append_assoc, arith, eqb-true, if◌then◌else◌, lt-ltb, ltb-true}
-use Rattle.mxf_views.proofs.Common.{max, min, nat_le, nat_lt, of_z, to_z, unsigned_abs, unwrap_or}
-use Rattle.mxf_views.proofs.Common.{w64, pos, negsuc, ℤ, and_from, and_parts, cases_lt, le-leb}
-use Rattle.mxf_views.proofs.Common.{le-ltb, leb-true, NoteParts, In, In-append, In-end}
-use Rattle.mxf_views.proofs.Common.{covers_constant, covers_entry, entry_offset, stream_offset}
-use Rattle.mxf_views.proofs.Common.{SegmentParts, entry_count, is_constant, SegmentAtParts}
-use Rattle.mxf_views.proofs.Common.{greatest_unit, segments_of}
+use Rattle.mxf_views.proofs.Common.{◌≡◌, ◌∙◌, ◌↔◌, ◌<◌, ◌≤◌, ◌+◌, ◌-◌, ◌*◌, ◌==◌, ◌&&◌, ◌||◌, ◌++◌, ◌∷◌, ◌⊎◌, ◌≢◌, []}
+use Rattle.mxf_views.proofs.Common.{ℕ, Bool, true, false, List, Option, None, Some, MatchOption, refl, sym, ap, subst}
+use Rattle.mxf_views.proofs.Common.{inl, inr, append-nil, append_assoc, arith, eqb-true, if◌then◌else◌, lt-ltb}
+use Rattle.mxf_views.proofs.Common.{ltb-true, max, min, nat_le, nat_lt, of_z, to_z, unsigned_abs, unwrap_or, w64, pos}
+use Rattle.mxf_views.proofs.Common.{negsuc, ℤ, and_from, and_parts, cases_lt, le-leb, le-ltb, leb-true, NoteParts, In}
+use Rattle.mxf_views.proofs.Common.{In-append, In-end, covers_constant, covers_entry, entry_offset, stream_offset}
+use Rattle.mxf_views.proofs.Common.{SegmentParts, entry_count, is_constant, SegmentAtParts, greatest_unit, segments_of}
 use Rattle.std.proofs.Common.{FitsSigned, ◌≤ℤ◌}
 use Rattle.std.proofs.lemmas.Int.{to_z-of_z}
 use Rattle.mxf_views.proofs.SegmentLaws.{segments_are}
-use Rattle.mxf_units.specs.LastUnits.{GivesPlace, HasNoEnd, HasNoLastUnit, IsEndless, IsLastUnit}
-use Rattle.mxf_units.specs.LastUnits.{IsLastWith, IsPlaced, NoneWith}
+use Rattle.mxf_units.specs.LastUnits.{GivesPlace, HasNoEnd, HasNoLastUnit, IsEndless, IsLastUnit, IsLastWith, IsPlaced}
+use Rattle.mxf_units.specs.LastUnits.{NoneWith}
 
 -- ---- the units of one segment
 

@@ -1,14 +1,12 @@
 -- The least of numbers above another.
-use Rattle.mxf_views.proofs.Common.{◌≡◌, ◌∙◌, ◌^◌, ◌<◌, ◌≤◌, ◌++◌, ◌==◌, ◌&&◌, ◌||◌, ℕ, zero, suc}
-use Rattle.mxf_views.proofs.Common.{Bool, true, false, Option, None, Some, List, [], ◌∷◌, refl, sym}
-use Rattle.mxf_views.proofs.Common.{ap, subst, inl, inr, arith, length, drop, get_or, nat_lt}
-use Rattle.mxf_views.proofs.Common.{nat_le, min, eq-eqb, eqb-true, ltb-true, lt-ltb, if◌then◌else◌}
-use Rattle.mxf_views.proofs.Common.{◌⊎◌, and_from, and_parts, cases_lt, le-leb, le-ltb, leb-true}
-use Rattle.mxf_views.proofs.Common.{ltb-false, filter_map-append, AllByRecursion, AllWithin}
-use Rattle.mxf_views.proofs.Common.{cons_option, IsPartitionedBy, nat_cmp, Less, nat_cmp_total}
-use Rattle.mxf_views.proofs.Common.{nat_cmp-IsAntisymmetric, In, In-union, IsRising, SameMembers}
-use Rattle.mxf_views.proofs.Common.{less_in, union, In-at, In-filter_map, all-In, all_from_In}
-use Rattle.mxf_views.proofs.Common.{either, lt_from_less, place_cmp, IsBelow}
+use Rattle.mxf_views.proofs.Common.{◌≡◌, ◌∙◌, ◌^◌, ◌<◌, ◌≤◌, ◌++◌, ◌==◌, ◌&&◌, ◌||◌, ℕ, zero, suc, Bool, true, false}
+use Rattle.mxf_views.proofs.Common.{Option, None, Some, List, [], ◌∷◌, refl, sym, ap, subst, inl, inr, arith, length}
+use Rattle.mxf_views.proofs.Common.{drop, get_or, nat_lt, nat_le, min, eq-eqb, eqb-true, ltb-true, lt-ltb}
+use Rattle.mxf_views.proofs.Common.{if◌then◌else◌, ◌⊎◌, and_from, and_parts, cases_lt, le-leb, le-ltb, leb-true}
+use Rattle.mxf_views.proofs.Common.{ltb-false, filter_map-append, AllByRecursion, AllWithin, cons_option}
+use Rattle.mxf_views.proofs.Common.{IsPartitionedBy, nat_cmp, Less, nat_cmp_total, nat_cmp-IsAntisymmetric, In}
+use Rattle.mxf_views.proofs.Common.{In-union, IsRising, SameMembers, less_in, union, In-at, In-filter_map, all-In}
+use Rattle.mxf_views.proofs.Common.{all_from_In, either, lt_from_less, place_cmp, IsBelow}
 use Rattle.mxf_views.specs.declared.index.place.StreamPlace.{StreamPlace}
 use Rattle.std.proofs.Common.{slice_get}
 use Rattle.std.specs.Option.{option_and_then}

@@ -1,36 +1,30 @@
 -- First packets of essence, and where the essence of a partition lies, by tests and by relations.
-use Rattle.mxf_views.proofs.Common.{◌≡◌, ◌∙◌, ◌↔◌, ◌<◌, ◌+◌, ◌-◌, ◌==◌, ◌&&◌, ◌||◌, ◌⊎◌, ℕ, Bool}
-use Rattle.mxf_views.proofs.Common.{true, false, not, IsTrue, List, Option, None, Some, refl, sym}
-use Rattle.mxf_views.proofs.Common.{ap, subst, inl, inr, arith, eq-eqb, eqb-true, filter_map, find}
-use Rattle.mxf_views.proofs.Common.{if◌then◌else◌, is_some, lt-ltb, ltb-true, map, nat_lt}
-use Rattle.mxf_views.proofs.Common.{option_and_then, and_from, and_parts, ltb-false, or_cases}
-use Rattle.mxf_views.proofs.Common.{option_map_or, option_or, NoteParts, end_of, kind_of, In}
-use Rattle.mxf_views.proofs.Common.{In-append, In-filter_map, In-map, find-only, found-In, either}
-use Rattle.mxf_views.proofs.Common.{IsContent, undisputed_notes, In-undisputed_notes}
-use Rattle.mxf_views.proofs.Common.{undisputed_at-found, PartitionParts, partitions_of, previous_of}
-use Rattle.mxf_views.proofs.Common.{segments_of, RipAtParts, rip_view_of}
+use Rattle.mxf_views.proofs.Common.{◌≡◌, ◌∙◌, ◌↔◌, ◌<◌, ◌+◌, ◌-◌, ◌==◌, ◌&&◌, ◌||◌, ◌⊎◌, ℕ, Bool, true, false, not}
+use Rattle.mxf_views.proofs.Common.{IsTrue, List, Option, None, Some, refl, sym, ap, subst, inl, inr, arith, eq-eqb}
+use Rattle.mxf_views.proofs.Common.{eqb-true, filter_map, find, if◌then◌else◌, is_some, lt-ltb, ltb-true, map, nat_lt}
+use Rattle.mxf_views.proofs.Common.{option_and_then, and_from, and_parts, ltb-false, or_cases, option_map_or, option_or}
+use Rattle.mxf_views.proofs.Common.{NoteParts, end_of, kind_of, In, In-append, In-filter_map, In-map, find-only}
+use Rattle.mxf_views.proofs.Common.{found-In, either, IsContent, undisputed_notes, In-undisputed_notes}
+use Rattle.mxf_views.proofs.Common.{undisputed_at-found, PartitionParts, partitions_of, previous_of, segments_of}
+use Rattle.mxf_views.proofs.Common.{RipAtParts, rip_view_of}
 use Rattle.mxf_klv.specs.declared.kinds.Kind.{Kind}
 use Rattle.mxf_views.specs.declared.random_index.RipView.{RipView}
-use Rattle.mxf_views.specs.declared.random_index.RipView.TheVariants.{Absent, Several, Unreadable}
-use Rattle.mxf_views.specs.declared.random_index.RipView.TheVariants.{One}
+use Rattle.mxf_views.specs.declared.random_index.RipView.TheVariants.{Absent, Several, Unreadable, One}
 use Rattle.mxf_views.proofs.PartitionSearch.{one_partition}
-use Rattle.mxf_places.specs.Held.{IsDisputedAt, IsHeld, begins_clear_head, end_of_file}
-use Rattle.mxf_places.specs.Held.{is_disputed_at, is_held, is_in_file}
-use Rattle.mxf_places.specs.Claims.{behind_metadata, claims_of, index_of, known_end, named_place}
-use Rattle.mxf_places.specs.Claims.{over_fills}
+use Rattle.mxf_places.specs.Held.{IsDisputedAt, IsHeld, begins_clear_head, end_of_file, is_disputed_at, is_held}
+use Rattle.mxf_places.specs.Held.{is_in_file}
+use Rattle.mxf_places.specs.Claims.{behind_metadata, claims_of, index_of, known_end, named_place, over_fills}
 use Rattle.mxf_places.specs.Named.{AreSegments}
 use Rattle.mxf_places.specs.declared.claim.Claim.{Claim}
 use Rattle.mxf_places.specs.declared.stretch.Stretch.{Stretch}
 use Rattle.mxf_places.proofs.HeldLaws.{is_disputed_at-says, is_held-says}
 use Rattle.mxf_places.proofs.OverLaws.{over_says}
 use Rattle.mxf_places.proofs.ZoneLaws.{behind_says, zone_says}
-use Rattle.mxf_units.specs.EssenceZones.{behind_index, begins_inside, bounds_of, essence_at}
-use Rattle.mxf_units.specs.EssenceZones.{first_packet, is_clip_wrapped, is_essence, is_one}
-use Rattle.mxf_units.specs.EssenceZones.{is_open_place, is_sure, limit_of, may_be_essence}
-use Rattle.mxf_units.specs.EssenceZones.{names_before, open_place, rip_place_by, zone_by}
-use Rattle.mxf_units.specs.Limits.{BeginsHead, IsAlone, IsBehindIndex, IsBound, IsClipWrapped}
-use Rattle.mxf_units.specs.Limits.{IsEssenceZone, IsFirstPacket, IsLimit, IsOpenPlace, IsRipPlace}
-use Rattle.mxf_units.specs.Limits.{IsSure}
+use Rattle.mxf_units.specs.EssenceZones.{behind_index, begins_inside, bounds_of, essence_at, first_packet}
+use Rattle.mxf_units.specs.EssenceZones.{is_clip_wrapped, is_essence, is_one, is_open_place, is_sure, limit_of}
+use Rattle.mxf_units.specs.EssenceZones.{may_be_essence, names_before, open_place, rip_place_by, zone_by}
+use Rattle.mxf_units.specs.Limits.{BeginsHead, IsAlone, IsBehindIndex, IsBound, IsClipWrapped, IsEssenceZone}
+use Rattle.mxf_units.specs.Limits.{IsFirstPacket, IsLimit, IsOpenPlace, IsRipPlace, IsSure}
 use Rattle.mxf_units.specs.declared.essence_zone.EssenceZone.{EssenceZone}
 use Rattle.mxf_units.specs.Streams.{least_above, next_of}
 use Rattle.mxf_units.proofs.LeastLaws.{IsLeast, least-is}

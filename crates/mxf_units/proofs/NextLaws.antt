@@ -1,17 +1,15 @@
 -- The next place of a stream, by the least of some places and by all that segments give.
-use Rattle.mxf_views.proofs.Common.{◌≡◌, ◌∙◌, ◌↔◌, ◌<◌, ◌≤◌, ◌+◌, ◌-◌, ◌*◌, ◌/◌, ◌%◌, ◌==◌, ◌&&◌}
-use Rattle.mxf_views.proofs.Common.{◌||◌, ℕ, zero, suc, Bool, true, false, List, Option, None, Some}
-use Rattle.mxf_views.proofs.Common.{refl, sym, ap, subst, inl, inr, arith, eq-eqb, eqb-true}
-use Rattle.mxf_views.proofs.Common.{filter_map, flat_map, if◌then◌else◌, lt-ltb, ltb-true, max}
-use Rattle.mxf_views.proofs.Common.{nat_le, nat_lt, option_map, unsigned_abs, mul-le-mul_left}
-use Rattle.mxf_views.proofs.Common.{and_from, and_parts, cases_lt, le-leb, leb-true, range_with_len}
-use Rattle.mxf_views.proofs.Common.{In, NoteParts, In-append, In-filter, In-filter_map, In-flat_map}
-use Rattle.mxf_views.proofs.Common.{covers_constant, covers_entry, entry_offset, stream_offset}
-use Rattle.mxf_views.proofs.Common.{SegmentParts, entry_count, is_constant, SegmentAtParts}
-use Rattle.mxf_views.proofs.Common.{segments_of, in_stream, place_in}
+use Rattle.mxf_views.proofs.Common.{◌≡◌, ◌∙◌, ◌↔◌, ◌<◌, ◌≤◌, ◌+◌, ◌-◌, ◌*◌, ◌/◌, ◌%◌, ◌==◌, ◌&&◌, ◌||◌, ℕ, zero, suc}
+use Rattle.mxf_views.proofs.Common.{Bool, true, false, List, Option, None, Some, refl, sym, ap, subst, inl, inr, arith}
+use Rattle.mxf_views.proofs.Common.{eq-eqb, eqb-true, filter_map, flat_map, if◌then◌else◌, lt-ltb, ltb-true, max}
+use Rattle.mxf_views.proofs.Common.{nat_le, nat_lt, option_map, unsigned_abs, mul-le-mul_left, and_from, and_parts}
+use Rattle.mxf_views.proofs.Common.{cases_lt, le-leb, leb-true, range_with_len, In, NoteParts, In-append, In-filter}
+use Rattle.mxf_views.proofs.Common.{In-filter_map, In-flat_map, covers_constant, covers_entry, entry_offset}
+use Rattle.mxf_views.proofs.Common.{stream_offset, SegmentParts, entry_count, is_constant, SegmentAtParts, segments_of}
+use Rattle.mxf_views.proofs.Common.{in_stream, place_in}
 use Rattle.mxf_views.specs.declared.index.place.StreamPlace.{StreamPlace}
-use Rattle.mxf_units.specs.Streams.{IsNextOf, IsStreamPlace, listed_in, next_of, offset_in}
-use Rattle.mxf_units.specs.Streams.{offsets_in, places_above, segments_for, sized_above}
+use Rattle.mxf_units.specs.Streams.{IsNextOf, IsStreamPlace, listed_in, next_of, offset_in, offsets_in, places_above}
+use Rattle.mxf_units.specs.Streams.{segments_for, sized_above}
 use Rattle.mxf_units.proofs.LeastLaws.{IsLeast, least-is, offset_in-says}
 
 -- ---- what segments give

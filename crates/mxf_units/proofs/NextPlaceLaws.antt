@@ -1,27 +1,24 @@
 -- The next place by what segments list and by units of one size.
-use Rattle.mxf_views.proofs.Common.{◌≡◌, ◌∙◌, ◌<◌, ◌≤◌, ◌+◌, ◌-◌, ◌*◌, ◌/◌, ◌^◌, ◌++◌, ◌==◌, ◌&&◌}
-use Rattle.mxf_views.proofs.Common.{◌||◌, ℕ, Bool, true, false, List, [], ◌∷◌, Option, None, Some}
-use Rattle.mxf_views.proofs.Common.{refl, sym, ap, subst, inl, inr, arith, eq-eqb, eqb-true}
-use Rattle.mxf_views.proofs.Common.{filter_map, flat_map, if◌then◌else◌, lt-ltb, ltb-true, max, min}
-use Rattle.mxf_views.proofs.Common.{nat_lt, option_map, unsigned_abs, mul-le-mul_left, cases_lt}
-use Rattle.mxf_views.proofs.Common.{le-leb, filter_map-append, Contains-permutation}
-use Rattle.mxf_views.proofs.Common.{IsPermutation-sym, AllByRecursion, cons_option}
-use Rattle.mxf_views.proofs.Common.{IsNonDecreasingBy, IsPermutation, In, SameMembers}
-use Rattle.mxf_views.proofs.Common.{Contains-from_In, In-append, In-filter_map, In-from_Contains}
-use Rattle.mxf_views.proofs.Common.{all-In, all_from_In, covers_constant, covers_entry}
-use Rattle.mxf_views.proofs.Common.{entry_offset, is_constant, SegmentAtParts, in_stream, place_in}
+use Rattle.mxf_views.proofs.Common.{◌≡◌, ◌∙◌, ◌<◌, ◌≤◌, ◌+◌, ◌-◌, ◌*◌, ◌/◌, ◌^◌, ◌++◌, ◌==◌, ◌&&◌, ◌||◌, ℕ, Bool, true}
+use Rattle.mxf_views.proofs.Common.{false, List, [], ◌∷◌, Option, None, Some, refl, sym, ap, subst, inl, inr, arith}
+use Rattle.mxf_views.proofs.Common.{eq-eqb, eqb-true, filter_map, flat_map, if◌then◌else◌, lt-ltb, ltb-true, max, min}
+use Rattle.mxf_views.proofs.Common.{nat_lt, option_map, unsigned_abs, mul-le-mul_left, cases_lt, le-leb}
+use Rattle.mxf_views.proofs.Common.{filter_map-append, Contains-permutation, IsPermutation-sym, AllByRecursion}
+use Rattle.mxf_views.proofs.Common.{cons_option, IsNonDecreasingBy, IsPermutation, In, SameMembers, Contains-from_In}
+use Rattle.mxf_views.proofs.Common.{In-append, In-filter_map, In-from_Contains, all-In, all_from_In, covers_constant}
+use Rattle.mxf_views.proofs.Common.{covers_entry, entry_offset, is_constant, SegmentAtParts, in_stream, place_in}
 use Rattle.mxf_sets.specs.declared.segment.numbers.SegmentNumbers.{SegmentNumbers}
 use Rattle.mxf_views.specs.declared.index.place.StreamPlace.{StreamPlace}
 use Rattle.std.proofs.Common.{slice_get}
 use Rattle.std.specs.Option.{option_and_then}
-use Rattle.mxf_units.specs.NextPlaces.{AreNextPlaces, AreSized, constant_units, end_number}
-use Rattle.mxf_units.specs.NextPlaces.{first_number, greatest_offset, number_of, place_above}
+use Rattle.mxf_units.specs.NextPlaces.{AreNextPlaces, AreSized, constant_units, end_number, first_number}
+use Rattle.mxf_units.specs.NextPlaces.{greatest_offset, number_of, place_above}
 use Rattle.mxf_units.specs.Intervals.{IsAround}
-use Rattle.mxf_units.specs.Streams.{in_order, least_above, lesser, listed_in, offset_above}
-use Rattle.mxf_units.specs.Streams.{offset_in, offsets_in, sized_above}
+use Rattle.mxf_units.specs.Streams.{in_order, least_above, lesser, listed_in, offset_above, offset_in, offsets_in}
+use Rattle.mxf_units.specs.Streams.{sized_above}
 use Rattle.mxf_units.specs.declared.constant_units.ConstantUnits.{ConstantUnits}
-use Rattle.mxf_units.proofs.LeastLaws.{IsLeast, least-append, least-in_order, least-is, least-same}
-use Rattle.mxf_units.proofs.LeastLaws.{next-parts, offset_in-says, one_least}
+use Rattle.mxf_units.proofs.LeastLaws.{IsLeast, least-append, least-in_order, least-is, least-same, next-parts}
+use Rattle.mxf_units.proofs.LeastLaws.{offset_in-says, one_least}
 use Rattle.mxf_units.proofs.NextLaws.{begins_behind, first_behind}
 
 -- ---- members and their order

@@ -1,8 +1,7 @@
 -- A unit has one standing.
-use Rattle.mxf_views.proofs.Common.{◌≡◌, ◌≢◌, ◌∙◌, ◌⊎◌, ◌==◌, ℕ, true, false, List, Option, None}
-use Rattle.mxf_views.proofs.Common.{Some, Result, Ok, Err, IsSome, refl, sym, ap, subst, inl, inr}
-use Rattle.mxf_views.proofs.Common.{is_some, eq-eqb, eqb-true, NoteParts, PartitionParts, IsGiven}
-use Rattle.mxf_views.proofs.Common.{IsOnlyPlace, segments_of}
+use Rattle.mxf_views.proofs.Common.{◌≡◌, ◌≢◌, ◌∙◌, ◌⊎◌, ◌==◌, ℕ, true, false, List, Option, None, Some, Result, Ok, Err}
+use Rattle.mxf_views.proofs.Common.{IsSome, refl, sym, ap, subst, inl, inr, is_some, eq-eqb, eqb-true, NoteParts}
+use Rattle.mxf_views.proofs.Common.{PartitionParts, IsGiven, IsOnlyPlace, segments_of}
 use Rattle.mxf_views.specs.declared.index.place.StreamPlace.{StreamPlace}
 use Rattle.mxf_views.proofs.PartitionSearch.{one_partition}
 use Rattle.mxf_places.specs.AtHand.{KnownParts}

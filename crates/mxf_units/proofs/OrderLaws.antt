@@ -1,8 +1,7 @@
 -- Places and parts in their order.
-use Rattle.mxf_views.proofs.Common.{true, false, None, Some, List, [], refl, ap, IsTotalOrder}
-use Rattle.mxf_views.proofs.Common.{options_total, nat_cmp-IsAntisymmetric, Ordering, nat_cmp_total}
-use Rattle.mxf_views.proofs.Common.{on_total, then_total, bool_cmp, option_cmp, ties, IsRising}
-use Rattle.mxf_views.proofs.Common.{IsRising-union, place_cmp}
+use Rattle.mxf_views.proofs.Common.{true, false, None, Some, List, [], refl, ap, IsTotalOrder, options_total}
+use Rattle.mxf_views.proofs.Common.{nat_cmp-IsAntisymmetric, Ordering, nat_cmp_total, on_total, then_total, bool_cmp}
+use Rattle.mxf_views.proofs.Common.{option_cmp, ties, IsRising, IsRising-union, place_cmp}
 use Rattle.mxf_views.specs.declared.index.place.StreamPlace.{StreamPlace}
 use Rattle.std.specs.Cmp.{bool_cmp_total}
 use Rattle.std.specs.FinMap.{IsAntisymmetric}

@@ -1,9 +1,8 @@
 -- First packets of essence.
-use Rattle.mxf_views.proofs.Common.{◌≡◌, ◌≢◌, ◌∙◌, ◌==◌, ◌≤◌, ◌+◌, ℕ, Bool, List, ap, arith, find}
-use Rattle.mxf_views.proofs.Common.{Option, None, Some, eqb-true, if◌then◌else◌, option_and_then}
-use Rattle.mxf_views.proofs.Common.{sym, NoteParts, kind_of, IsNote, greatest_end, In, all-In}
-use Rattle.mxf_views.proofs.Common.{find-none, IsCatalogue, undisputed_notes, In-undisputed_notes}
-use Rattle.mxf_views.proofs.Common.{PartitionParts}
+use Rattle.mxf_views.proofs.Common.{◌≡◌, ◌≢◌, ◌∙◌, ◌==◌, ◌≤◌, ◌+◌, ℕ, Bool, List, ap, arith, find, Option, None, Some}
+use Rattle.mxf_views.proofs.Common.{eqb-true, if◌then◌else◌, option_and_then, sym, NoteParts, kind_of, IsNote}
+use Rattle.mxf_views.proofs.Common.{greatest_end, In, all-In, find-none, IsCatalogue, undisputed_notes}
+use Rattle.mxf_views.proofs.Common.{In-undisputed_notes, PartitionParts}
 use Rattle.mxf_places.specs.Claims.{over_fills}
 use Rattle.mxf_units.specs.EssenceZones.{behind_index, essence_at, first_packet, may_be_essence}
 use Rattle.mxf_places.proofs.StretchLaws.{over_none}

@@ -1,17 +1,15 @@
 -- Parts of streams from the last to the first.
-use Rattle.mxf_views.proofs.Common.{◌≡◌, ◌∙◌, ◌<◌, ◌≤◌, ◌++◌, ◌==◌, ◌&&◌, ◌||◌, ◌⊎◌, ℕ, zero, suc}
-use Rattle.mxf_views.proofs.Common.{Bool, true, false, not, Err, List, [], ◌∷◌, refl, sym, ap}
-use Rattle.mxf_views.proofs.Common.{subst, inl, inr, arith, cond, drop, filter, get_or, is_some}
-use Rattle.mxf_views.proofs.Common.{length, map, nat_le, nat_lt, reverse, eq-eqb, eqb-true}
-use Rattle.mxf_views.proofs.Common.{ltb-true, lt-ltb, if◌then◌else◌, and_from, and_parts, cases_lt}
-use Rattle.mxf_views.proofs.Common.{false_from_ne_true, le-leb, leb-true, nat_cmp-IsAntisymmetric}
-use Rattle.mxf_views.proofs.Common.{AllByRecursion, AllWithin, IsPartitionedBy, ok_or, option_cmp}
-use Rattle.mxf_views.proofs.Common.{nat_cmp, ordering_then, Ordering, Less, Equal, Greater}
-use Rattle.mxf_views.proofs.Common.{IsRising, IsRising-union, union, all-In, all_push, filter_none}
-use Rattle.mxf_views.proofs.Common.{In-at, either, lt_from_less, NoteParts, partitions_of}
+use Rattle.mxf_views.proofs.Common.{◌≡◌, ◌∙◌, ◌<◌, ◌≤◌, ◌++◌, ◌==◌, ◌&&◌, ◌||◌, ◌⊎◌, ℕ, zero, suc, Bool, true, false}
+use Rattle.mxf_views.proofs.Common.{not, Err, List, [], ◌∷◌, refl, sym, ap, subst, inl, inr, arith, cond, drop, filter}
+use Rattle.mxf_views.proofs.Common.{get_or, is_some, length, map, nat_le, nat_lt, reverse, eq-eqb, eqb-true, ltb-true}
+use Rattle.mxf_views.proofs.Common.{lt-ltb, if◌then◌else◌, and_from, and_parts, cases_lt, false_from_ne_true, le-leb}
+use Rattle.mxf_views.proofs.Common.{leb-true, nat_cmp-IsAntisymmetric, AllByRecursion, AllWithin, IsPartitionedBy}
+use Rattle.mxf_views.proofs.Common.{ok_or, option_cmp, nat_cmp, ordering_then, Ordering, Less, Equal, Greater, IsRising}
+use Rattle.mxf_views.proofs.Common.{IsRising-union, union, all-In, all_push, filter_none, In-at, either, lt_from_less}
+use Rattle.mxf_views.proofs.Common.{NoteParts, partitions_of}
 use mathlib.Core.List.{reverse-cons}
-use Rattle.mxf_units.specs.EssenceZones.{IsFalling, begins_up_to, by_first, by_second, chosen}
-use Rattle.mxf_units.specs.EssenceZones.{part_cmp, part_of, parts_of, zone_cmp}
+use Rattle.mxf_units.specs.EssenceZones.{IsFalling, begins_up_to, by_first, by_second, chosen, part_cmp, part_of}
+use Rattle.mxf_units.specs.EssenceZones.{parts_of, zone_cmp}
 use Rattle.mxf_units.specs.declared.essence_zone.part.StreamPart.{StreamPart}
 use Rattle.mxf_units.proofs.OrderLaws.{one_part, part_total}
 use Rattle.mxf_units.specs.declared.standing.UnitStanding.TheVariants as standings

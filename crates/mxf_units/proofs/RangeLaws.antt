@@ -1,16 +1,14 @@
 -- What is held and disputed of ranges.
-use Rattle.mxf_views.proofs.Common.{◌≡◌, ◌∙◌, ◌↔◌, ◌⊎◌, ◌<◌, ◌≤◌, ◌+◌, ◌-◌, ℕ, zero, suc, Bool}
-use Rattle.mxf_views.proofs.Common.{true, false, IsTrue, List, [], ◌∷◌, refl, sym, ap, subst, inl}
-use Rattle.mxf_views.proofs.Common.{inr, arith, min, ◌||◌, ◌++◌, append_assoc, filter_map, nat_le}
-use Rattle.mxf_views.proofs.Common.{Option, None, Some, and_from, and_parts, cases_lt}
-use Rattle.mxf_views.proofs.Common.{false_from_ne_true, leb-true, cons_option, list_all, list_any}
-use Rattle.mxf_views.proofs.Common.{range_with_len, NoteParts, covered_end, either, same_bool}
+use Rattle.mxf_views.proofs.Common.{◌≡◌, ◌∙◌, ◌↔◌, ◌⊎◌, ◌<◌, ◌≤◌, ◌+◌, ◌-◌, ℕ, zero, suc, Bool, true, false, IsTrue}
+use Rattle.mxf_views.proofs.Common.{List, [], ◌∷◌, refl, sym, ap, subst, inl, inr, arith, min, ◌||◌, ◌++◌, append_assoc}
+use Rattle.mxf_views.proofs.Common.{filter_map, nat_le, Option, None, Some, and_from, and_parts, cases_lt}
+use Rattle.mxf_views.proofs.Common.{false_from_ne_true, leb-true, cons_option, list_all, list_any, range_with_len}
+use Rattle.mxf_views.proofs.Common.{NoteParts, covered_end, either, same_bool}
 use Rattle.mxf_places.specs.Held.{IsDisputedAt, IsHeld, held_end, is_disputed_at, is_held}
 use Rattle.mxf_places.specs.AtHand.{KnownParts, has_offset}
 use Rattle.mxf_places.proofs.AtHandLaws.{has_offset-says}
 use Rattle.mxf_places.proofs.HeldLaws.{held_end-bound, is_disputed_at-says, is_held-says}
-use Rattle.mxf_units.specs.Units.{IsKnown, are_all_held, are_all_known, is_any_disputed}
-use Rattle.mxf_units.specs.Units.{is_any_known, is_known}
+use Rattle.mxf_units.specs.Units.{IsKnown, are_all_held, are_all_known, is_any_disputed, is_any_known, is_known}
 
 pub either-says : (a b : Bool) → (a || b) ≡ true → (a ≡ true) ⊎ (b ≡ true)
 either-says true b e = inl refl

@@ -1,15 +1,13 @@
 -- The IndexSIDs that segments have, and those that partitions name, each once, rising.
-use Rattle.mxf_views.proofs.Common.{◌≡◌, ◌↔◌, ◌∙◌, ◌<◌, ◌==◌, ◌&&◌, ℕ, IsTrue, List, [], ◌∷◌, Some}
-use Rattle.mxf_views.proofs.Common.{None, ap, inl, inr, eq-eqb, eqb-true, filter, filter_map}
-use Rattle.mxf_views.proofs.Common.{if◌then◌else◌, lt-ltb, ltb-true, map, nat_lt, not, refl, subst}
-use Rattle.mxf_views.proofs.Common.{sym, and_from, and_parts, nat_cmp_total, same_Some}
-use Rattle.mxf_views.proofs.Common.{nat_cmp-IsAntisymmetric, cons_option, list_any, nat_cmp}
-use Rattle.mxf_views.proofs.Common.{NoteParts, In, In-union, IsRising, IsRising-union, union}
-use Rattle.mxf_views.proofs.Common.{In-filter, In-filter_map, In-map, list_any-In, guarded}
-use Rattle.mxf_views.proofs.Common.{not-true-false, not_true, PartitionParts, in_numbers}
-use Rattle.mxf_views.proofs.Common.{partitions_of, SegmentAtParts, segments_of}
-use Rattle.mxf_units.specs.Indexes.{HasSegment, IsNamedIndex, has_segment, index_sid_named}
-use Rattle.mxf_units.specs.Indexes.{index_sids_of, named_index_sids_of}
+use Rattle.mxf_views.proofs.Common.{◌≡◌, ◌↔◌, ◌∙◌, ◌<◌, ◌==◌, ◌&&◌, ℕ, IsTrue, List, [], ◌∷◌, Some, None, ap, inl, inr}
+use Rattle.mxf_views.proofs.Common.{eq-eqb, eqb-true, filter, filter_map, if◌then◌else◌, lt-ltb, ltb-true, map, nat_lt}
+use Rattle.mxf_views.proofs.Common.{not, refl, subst, sym, and_from, and_parts, nat_cmp_total, same_Some}
+use Rattle.mxf_views.proofs.Common.{nat_cmp-IsAntisymmetric, cons_option, list_any, nat_cmp, NoteParts, In, In-union}
+use Rattle.mxf_views.proofs.Common.{IsRising, IsRising-union, union, In-filter, In-filter_map, In-map, list_any-In}
+use Rattle.mxf_views.proofs.Common.{guarded, not-true-false, not_true, PartitionParts, in_numbers, partitions_of}
+use Rattle.mxf_views.proofs.Common.{SegmentAtParts, segments_of}
+use Rattle.mxf_units.specs.Indexes.{HasSegment, IsNamedIndex, has_segment, index_sid_named, index_sids_of}
+use Rattle.mxf_units.specs.Indexes.{named_index_sids_of}
 
 abbrev sid_of : SegmentAtParts → ℕ
 sid_of s = s.segment.numbers.index_sid

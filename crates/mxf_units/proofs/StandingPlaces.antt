@@ -1,9 +1,8 @@
 -- The places that segments give a unit, by the walk over them and by the set of those that are given.
-use Rattle.mxf_views.proofs.Common.{◌≡◌, ◌≢◌, ◌∙◌, ◌==◌, ℕ, List, Option, None, Some, Result, Ok}
-use Rattle.mxf_views.proofs.Common.{Err, sym, ap, inl, inr, filter_map, option_map, eq-eqb}
-use Rattle.mxf_views.proofs.Common.{eqb-true, subst, NoteParts, In, In-filter, In-filter_map}
-use Rattle.mxf_views.proofs.Common.{stream_offset, IsGiven, IsOnlyPlace, SegmentAtParts}
-use Rattle.mxf_views.proofs.Common.{segments_of, in_stream, place_in}
+use Rattle.mxf_views.proofs.Common.{◌≡◌, ◌≢◌, ◌∙◌, ◌==◌, ℕ, List, Option, None, Some, Result, Ok, Err, sym, ap, inl}
+use Rattle.mxf_views.proofs.Common.{inr, filter_map, option_map, eq-eqb, eqb-true, subst, NoteParts, In, In-filter}
+use Rattle.mxf_views.proofs.Common.{In-filter_map, stream_offset, IsGiven, IsOnlyPlace, SegmentAtParts, segments_of}
+use Rattle.mxf_views.proofs.Common.{in_stream, place_in}
 use Rattle.mxf_views.specs.declared.index.place.StreamPlace.{StreamPlace}
 use Rattle.mxf_units.specs.declared.standing.UnitStanding.{UnitStanding}
 use Rattle.mxf_units.specs.Streams.{place_of, segments_for}

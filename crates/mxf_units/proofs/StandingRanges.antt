@@ -1,8 +1,7 @@
 -- How bytes stand, by the tests and by the causes.
-use Rattle.std.proofs.Common.{◌≡◌, ◌∙◌, ◌<◌, ◌≤◌, ◌&&◌, ◌⊎◌, ℕ, Bool, true, false, not, Option, None, Some}
-use Rattle.std.proofs.Common.{List, refl, ap, inl, inr, is_some, IsSome, nat_le, nat_lt, if◌then◌else◌}
+use Rattle.std.proofs.Common.{◌≡◌, ◌∙◌, ◌<◌, ◌≤◌, ◌&&◌, ◌⊎◌, ℕ, Bool, true, false, not, Option, None, Some, List, refl}
+use Rattle.std.proofs.Common.{ap, inl, inr, is_some, IsSome, nat_le, nat_lt, if◌then◌else◌, ltb-true, lt-ltb}
 use Rattle.std.proofs.lemmas.Bool.{and_from, and_parts, false_from_ne_true, le-leb, leb-true}
-use Rattle.std.proofs.Common.{ltb-true, lt-ltb}
 use Rattle.std.specs.Option.{option_map_or}
 use Rattle.mxf_places.specs.AtHand.{KnownParts}
 use Rattle.mxf_klv.specs.Parts.{NoteParts}

@@ -1,18 +1,16 @@
 -- The essence zone in which an offset is to be found, by the parts in their order and by the partitions.
-use Rattle.mxf_views.proofs.Common.{◌≡◌, ◌≢◌, ◌∙◌, ◌↔◌, ◌<◌, ◌≤◌, ◌==◌, ℕ, Bool, true, false, not}
-use Rattle.mxf_views.proofs.Common.{List, [], ◌∷◌, Option, None, Some, Err, refl, sym, ap, subst}
-use Rattle.mxf_views.proofs.Common.{inl, inr, filter, map, arith, reverse, eq-eqb, eqb-true, nat_le}
-use Rattle.mxf_views.proofs.Common.{is_some, if◌then◌else◌, and_from, and_parts, cases_lt, le-leb}
-use Rattle.mxf_views.proofs.Common.{leb-true, nat_cmp_total, tied_itself, ok_or, option_cmp}
-use Rattle.mxf_views.proofs.Common.{nat_cmp, ordering_then, Ordering, Less, Equal, Greater}
-use Rattle.mxf_views.proofs.Common.{NoteParts, In, In-union, union, In-end, In-filter, In-map}
-use Rattle.mxf_views.proofs.Common.{all-In, all-filter, PartitionParts, partitions_of}
+use Rattle.mxf_views.proofs.Common.{◌≡◌, ◌≢◌, ◌∙◌, ◌↔◌, ◌<◌, ◌≤◌, ◌==◌, ℕ, Bool, true, false, not, List, [], ◌∷◌}
+use Rattle.mxf_views.proofs.Common.{Option, None, Some, Err, refl, sym, ap, subst, inl, inr, filter, map, arith}
+use Rattle.mxf_views.proofs.Common.{reverse, eq-eqb, eqb-true, nat_le, is_some, if◌then◌else◌, and_from, and_parts}
+use Rattle.mxf_views.proofs.Common.{cases_lt, le-leb, leb-true, nat_cmp_total, tied_itself, ok_or, option_cmp, nat_cmp}
+use Rattle.mxf_views.proofs.Common.{ordering_then, Ordering, Less, Equal, Greater, NoteParts, In, In-union, union}
+use Rattle.mxf_views.proofs.Common.{In-end, In-filter, In-map, all-In, all-filter, PartitionParts, partitions_of}
 use mathlib.Core.List.{reverse-cons}
 use Rattle.mxf_views.proofs.PartitionSearch.{one_partition}
 use Rattle.mxf_units.specs.declared.essence_zone.EssenceZone.{EssenceZone}
 use Rattle.mxf_units.specs.declared.essence_zone.part.StreamPart.{StreamPart}
-use Rattle.mxf_units.specs.EssenceZones.{IsFalling, begins_up_to, chosen, part_cmp, part_of}
-use Rattle.mxf_units.specs.EssenceZones.{parts_of, zone_at, zone_cmp, zone_of}
+use Rattle.mxf_units.specs.EssenceZones.{IsFalling, begins_up_to, chosen, part_cmp, part_of, parts_of, zone_at}
+use Rattle.mxf_units.specs.EssenceZones.{zone_cmp, zone_of}
 use Rattle.mxf_units.specs.Standings.{BeginsUpTo, IsLast, IsZone}
 use Rattle.mxf_units.proofs.OrderLaws.{one_part, part_total}
 use Rattle.mxf_units.proofs.PartLaws.{follows, parts-fall}

@@ -1,14 +1,11 @@
 -- The place and the entry that all of some are: whichever way these stand, and by those segments alone that may have them.
-use Rattle.mxf_views.proofs.Common.{◌≡◌, ◌≢◌, ◌∙◌, ◌⊎◌, ◌==◌, ◌&&◌, ◌||◌, ◌<◌, ◌≤◌, ◌+◌, ◌-◌, ◌^◌}
-use Rattle.mxf_views.proofs.Common.{ℕ, Bool, true, false, not, List, [], ◌∷◌, Option, None, Some}
-use Rattle.mxf_views.proofs.Common.{Result, Ok, Err, refl, sym, ap, inl, inr, arith, eq-eqb}
-use Rattle.mxf_views.proofs.Common.{eqb-true, ◌*◌, filter_map, if◌then◌else◌, nat_le, nat_lt}
-use Rattle.mxf_views.proofs.Common.{option_map, unsigned_abs, min, ltb-true, and_from, and_parts}
-use Rattle.mxf_views.proofs.Common.{false_from_ne_true, leb-true, cons_option, list_any}
-use Rattle.mxf_views.proofs.Common.{IsPermutation, option_map_or, In, SameMembers, list_any-In}
-use Rattle.mxf_views.proofs.Common.{same_bool, covers_constant, covers_entry, entry_offset}
-use Rattle.mxf_views.proofs.Common.{index_entry, entry_count, is_constant, SegmentAtParts}
-use Rattle.mxf_views.proofs.Common.{in_stream, place_in}
+use Rattle.mxf_views.proofs.Common.{◌≡◌, ◌≢◌, ◌∙◌, ◌⊎◌, ◌==◌, ◌&&◌, ◌||◌, ◌<◌, ◌≤◌, ◌+◌, ◌-◌, ◌^◌, ℕ, Bool, true, false}
+use Rattle.mxf_views.proofs.Common.{not, List, [], ◌∷◌, Option, None, Some, Result, Ok, Err, refl, sym, ap, inl, inr}
+use Rattle.mxf_views.proofs.Common.{arith, eq-eqb, eqb-true, ◌*◌, filter_map, if◌then◌else◌, nat_le, nat_lt, option_map}
+use Rattle.mxf_views.proofs.Common.{unsigned_abs, min, ltb-true, and_from, and_parts, false_from_ne_true, leb-true}
+use Rattle.mxf_views.proofs.Common.{cons_option, list_any, IsPermutation, option_map_or, In, SameMembers, list_any-In}
+use Rattle.mxf_views.proofs.Common.{same_bool, covers_constant, covers_entry, entry_offset, index_entry, entry_count}
+use Rattle.mxf_views.proofs.Common.{is_constant, SegmentAtParts, in_stream, place_in}
 use Rattle.mxf_sets.specs.declared.segment.offset.IndexEntry.{IndexEntry}
 use Rattle.mxf_views.specs.declared.index.place.StreamPlace.{StreamPlace}
 use Rattle.std.specs.Cmp.{signed_Decides}
@@ -17,8 +14,7 @@ use Rattle.mxf_klv.proofs.Tests.{not_both}
 use Rattle.mxf_sets.specs.Offset.{entry_at}
 use Rattle.mxf_units.specs.NextPlaces.{first_unit, units_end}
 use Rattle.mxf_units.specs.Intervals.{IsAround}
-use Rattle.mxf_units.specs.Streams.{entry_of, is_given, is_same_entry, is_same_place, only_entry}
-use Rattle.mxf_units.specs.Streams.{only_place, place_of}
+use Rattle.mxf_units.specs.Streams.{entry_of, is_given, is_same_entry, is_same_place, only_entry, only_place, place_of}
 use Rattle.mxf_units.specs.declared.standing.UnitStanding.{UnitStanding}
 use Rattle.mxf_units.proofs.NextPlaceLaws.{permuted, same-filter_map}
 use Rattle.mxf_units.proofs.IntervalLaws.{near_alone}

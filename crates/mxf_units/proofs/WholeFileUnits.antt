@@ -1,7 +1,6 @@
 -- The units of a file that is held whole.
-use Rattle.mxf_views.proofs.Common.{◌≡◌, ◌+◌, ◌<◌, ◌≤◌, ℕ, List, Some, IsSome, ap, arith, inl, inr}
-use Rattle.mxf_views.proofs.Common.{refl, subst, sym, unwrap_or, NoteParts, PacketParts, end_after}
-use Rattle.mxf_views.proofs.Common.{notes_from}
+use Rattle.mxf_views.proofs.Common.{◌≡◌, ◌+◌, ◌<◌, ◌≤◌, ℕ, List, Some, IsSome, ap, arith, inl, inr, refl, subst, sym}
+use Rattle.mxf_views.proofs.Common.{unwrap_or, NoteParts, PacketParts, end_after, notes_from}
 use Rattle.mxf_catalogue.proofs.ClearLaws.{no_dispute}
 use Rattle.mxf_places.specs.AtHand.{AtHandParts, KnownParts}
 use Rattle.mxf_places.specs.Held.{IsHeld}

@@ -1,7 +1,7 @@
 -- Edit units of one size, and the next place after an offset of a stream by them and by what other segments list (ST
 -- 377-1, Index Table Segment). A law says that it is the next place of all segments.
-use Rattle.std.specs.Prelude.{◌≡◌, ◌+◌, ◌-◌, ◌*◌, ◌/◌, ◌^◌, ◌<◌, ◌==◌, ◌||◌, ℕ, max, min, nat_lt, if◌then◌else◌}
-use Rattle.std.specs.Prelude.{List, Option, None, Some, unsigned_abs}
+use Rattle.std.specs.Prelude.{◌≡◌, ◌+◌, ◌-◌, ◌*◌, ◌/◌, ◌^◌, ◌<◌, ◌==◌, ◌||◌, ℕ, max, min, nat_lt, if◌then◌else◌, List}
+use Rattle.std.specs.Prelude.{Option, None, Some, unsigned_abs}
 use Rattle.std.specs.List.{filter_map}
 use Rattle.mxf_sets.specs.Segment.{entry_count, is_constant}
 use Rattle.mxf_views.specs.Places.{SegmentAtParts}

@@ -1,8 +1,7 @@
 -- Places in essence streams, and what segments of an index say of an edit unit (ST 377-1, Index Table Segment; what
 -- holds if segments disagree is this project's profile).
 use Rattle.std.specs.Prelude.{◌≡◌, ℕ, ◌+◌, ◌/◌, ◌^◌, ◌<◌, ◌≤◌, Bool, false, ◌&&◌, ◌==◌, not, nat_lt, max, min}
-use Rattle.std.specs.Prelude.{if◌then◌else◌}
-use Rattle.std.specs.Prelude.{Option, None, Some, Result, Err, List, [], ◌∷◌, ◌++◌, filter, unsigned_abs}
+use Rattle.std.specs.Prelude.{if◌then◌else◌, Option, None, Some, Result, Err, List, [], ◌∷◌, ◌++◌, filter, unsigned_abs}
 use Rattle.std.specs.Option.{ok_or, option_map_or}
 use Rattle.std.specs.List.{filter_map, flat_map, list_any, range_with_len}
 use Rattle.std.specs.Ordering.{int_eq}

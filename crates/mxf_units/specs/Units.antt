@@ -1,8 +1,8 @@
 -- Where the stored edit units lie in the file, and which of their bytes are held (ST 377-1, Index Table Segment; the
 -- standings are this project's profile).
 use Rattle.std.specs.Prelude.{◌≡◌, ◌≢◌, ◌↔◌, ◌⊎◌, ℕ, ◌+◌, ◌-◌, ◌^◌, ◌<◌, ◌≤◌, Bool, true, false, ◌&&◌, ◌||◌, nat_le}
-use Rattle.std.specs.Prelude.{nat_lt, not, is_some, unwrap_or}
-use Rattle.std.specs.Prelude.{if◌then◌else◌, Option, None, Some, Result, Ok, Err, List, filter, unsigned_abs}
+use Rattle.std.specs.Prelude.{nat_lt, not, is_some, unwrap_or, if◌then◌else◌, Option, None, Some, Result, Ok, Err, List}
+use Rattle.std.specs.Prelude.{filter, unsigned_abs}
 use Rattle.std.specs.Option.{option_and_then, option_map, option_map_or, option_or}
 use Rattle.std.specs.List.{list_all, list_any, range_with_len}
 use Rattle.std.specs.Int.{is_negative}

@@ -1,10 +1,8 @@
 -- A saved catalogue beside a reference, and the join of both.
-use Rattle.mxf_views.proofs.Common.{◌≡◌, ◌↔◌, ◌+◌, ◌<◌, ◌≤◌, ◌∙◌, ℕ, false, IsTrue, List, [], ◌∷◌}
-use Rattle.mxf_views.proofs.Common.{cond, map, refl, sym, ap, subst, inl, inr, arith, false≢true}
-use Rattle.mxf_views.proofs.Common.{IsCovered, covered_end, end_of, head_note, NoteParts, In}
-use Rattle.mxf_views.proofs.Common.{In-map, AreReduced, IsCatalogue, has_note, reduced_union}
-use Rattle.mxf_views.proofs.Common.{AreReduced-reduced_union, IsContent-reduced_union}
-use Rattle.mxf_views.proofs.Common.{has-reduced_union, one_reduced}
+use Rattle.mxf_views.proofs.Common.{◌≡◌, ◌↔◌, ◌+◌, ◌<◌, ◌≤◌, ◌∙◌, ℕ, false, IsTrue, List, [], ◌∷◌, cond, map, refl, sym}
+use Rattle.mxf_views.proofs.Common.{ap, subst, inl, inr, arith, false≢true, IsCovered, covered_end, end_of, head_note}
+use Rattle.mxf_views.proofs.Common.{NoteParts, In, In-map, AreReduced, IsCatalogue, has_note, reduced_union}
+use Rattle.mxf_views.proofs.Common.{AreReduced-reduced_union, IsContent-reduced_union, has-reduced_union, one_reduced}
 use Rattle.mxf_verify.specs.Comparing.{IsHeadOf, SharesHeldByte, is_head_of}
 use Rattle.mxf_verify.specs.Opposing.{is_had}
 use Rattle.mxf_readings.specs.Readings.{all_notes}

@@ -1,17 +1,15 @@
 -- Whether a later reading is of another recording.
-use Rattle.mxf_views.proofs.Common.{ap, subst, arith, cond, and_from, and_parts, false_from_ne_true}
-use Rattle.mxf_views.proofs.Common.{kind_of, note_total, note_cmp-IsAntisymmetric, NoteParts, In}
-use Rattle.mxf_views.proofs.Common.{same_from_members, IsContent, has_note, In-filter}
-use Rattle.mxf_views.proofs.Common.{length-filter_le, IsContent-filter}
+use Rattle.mxf_views.proofs.Common.{ap, subst, arith, cond, and_from, and_parts, false_from_ne_true, kind_of}
+use Rattle.mxf_views.proofs.Common.{note_total, note_cmp-IsAntisymmetric, NoteParts, In, same_from_members, IsContent}
+use Rattle.mxf_views.proofs.Common.{has_note, In-filter, length-filter_le, IsContent-filter}
 use Rattle.mxf_klv.specs.declared.kinds.Kind.{Kind}
 use Rattle.mxf_klv.specs.declared.kinds.Kind.TheVariants.{Essence}
-use Rattle.std.specs.Prelude.{◌≡◌, ◌↔◌, ◌+◌, ◌<◌, ◌≤◌, ◌&&◌, Bool, true, false, IsTrue, List, []}
-use Rattle.std.specs.Prelude.{◌∷◌, filter, length, refl}
+use Rattle.std.specs.Prelude.{◌≡◌, ◌↔◌, ◌+◌, ◌<◌, ◌≤◌, ◌&&◌, Bool, true, false, IsTrue, List, [], ◌∷◌, filter, length}
+use Rattle.std.specs.Prelude.{refl}
 use Rattle.std.proofs.lemmas.Bool.{lt-ltb, ltb-true}
 use Rattle.mxf_verify.specs.Opposing.{IsOpposed, is_had, is_opposed}
-use Rattle.mxf_verify.specs.Renewing.{AreNotesWhere, IsDropped, IsEssence, IsOfAnother}
-use Rattle.mxf_verify.specs.Renewing.{dropped_essence, dropped_of, had_essence, is_essence}
-use Rattle.mxf_verify.specs.Renewing.{is_essence_kind, is_of_another}
+use Rattle.mxf_verify.specs.Renewing.{AreNotesWhere, IsDropped, IsEssence, IsOfAnother, dropped_essence, dropped_of}
+use Rattle.mxf_verify.specs.Renewing.{had_essence, is_essence, is_essence_kind, is_of_another}
 use Rattle.mxf_verify.proofs.OpposingLaws.{had-by_test}
 use Rattle.mxf_verify.proofs.RenewalLaws.{In-dropped, IsContent-dropped}
 use Rattle.mxf_verify.proofs.RenewalSteps.{not_opposed-dropped, opposed-dropped}

@@ -1,6 +1,6 @@
 -- Fronts and rests of lists that were put behind one another, and agreement of bytes that come in parts.
-use Rattle.std.proofs.Common.{◌≡◌, ◌-◌, ◌≤◌, ℕ, zero, suc, List, [], ◌∷◌, ◌++◌, length, take, drop, min, Bool}
-use Rattle.std.proofs.Common.{◌↔◌, true, false, ◌&&◌, eqb, eq-eqb, sym, ap, ◌∙◌, refl, arith}
+use Rattle.std.proofs.Common.{◌≡◌, ◌-◌, ◌≤◌, ℕ, zero, suc, List, [], ◌∷◌, ◌++◌, length, take, drop, min, Bool, ◌↔◌}
+use Rattle.std.proofs.Common.{true, false, ◌&&◌, eqb, eq-eqb, sym, ap, ◌∙◌, refl, arith}
 use Rattle.std.proofs.lemmas.Bool.{and_from, and_parts, eqb-true}
 use Rattle.std.specs.Cmp.Lexicographic.{pointwise}
 use Rattle.std.proofs.Math.ListN.{length-drop}

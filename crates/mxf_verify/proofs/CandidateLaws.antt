@@ -1,9 +1,8 @@
 -- Candidates that further bytes don't reach.
-use Rattle.mxf_views.proofs.Common.{◌≡◌, ◌+◌, ◌-◌, ◌<◌, ◌≤◌, ◌&&◌, ◌||◌, not, ℕ, zero, suc, Bool}
-use Rattle.mxf_views.proofs.Common.{true, false, cond, List, [], ◌∷◌, ◌++◌, length, take, drop, map}
-use Rattle.mxf_views.proofs.Common.{get_or, set, refl, sym, ap, ◌∙◌, arith, or_right, drop_all}
-use Rattle.mxf_views.proofs.Common.{get_or-map, length-map, take_all, AllWithin, IsNonDecreasingBy}
-use Rattle.mxf_views.proofs.Common.{NoteParts, covered_end, end_of, keeps_value}
+use Rattle.mxf_views.proofs.Common.{◌≡◌, ◌+◌, ◌-◌, ◌<◌, ◌≤◌, ◌&&◌, ◌||◌, not, ℕ, zero, suc, Bool, true, false, cond}
+use Rattle.mxf_views.proofs.Common.{List, [], ◌∷◌, ◌++◌, length, take, drop, map, get_or, set, refl, sym, ap, ◌∙◌}
+use Rattle.mxf_views.proofs.Common.{arith, or_right, drop_all, get_or-map, length-map, take_all, AllWithin}
+use Rattle.mxf_views.proofs.Common.{IsNonDecreasingBy, NoteParts, covered_end, end_of, keeps_value}
 use Rattle.std.proofs.lemmas.List.{length-set}
 use Rattle.mxf_verify.specs.Verifying.{front_bytes, front_size, held_size}
 use Rattle.mxf_verify.specs.Agreeing.{agrees, agrees_on, part_of}

@@ -1,20 +1,17 @@
 -- What was compared with the bytes of a source.
-use Rattle.mxf_views.proofs.Common.{◌≡◌, ◌↔◌, ◌⊎◌, ◌+◌, ◌-◌, ◌<◌, ◌≤◌, ◌&&◌, ◌||◌, not, ℕ, zero}
-use Rattle.mxf_views.proofs.Common.{suc, true, false, IsTrue, List, [], ◌∷◌, ◌++◌, Option, None}
-use Rattle.mxf_views.proofs.Common.{Some, IfSome, length, take, drop, get_or, map, refl, sym, ap}
-use Rattle.mxf_views.proofs.Common.{◌∙◌, subst, arith, inl, inr, append-nil, or_right, drop_all}
-use Rattle.mxf_views.proofs.Common.{drop-map, get_or-drop, get_or-take, length-drop, length-map}
-use Rattle.mxf_views.proofs.Common.{length-take, take-map, take_all, take-append_seam, AllWithin}
-use Rattle.mxf_views.proofs.Common.{IsNonDecreasingBy, Consumes, IsAtEnd, NoteParts, IsNote}
-use Rattle.mxf_views.proofs.Common.{covered_end, keeps_value}
+use Rattle.mxf_views.proofs.Common.{◌≡◌, ◌↔◌, ◌⊎◌, ◌+◌, ◌-◌, ◌<◌, ◌≤◌, ◌&&◌, ◌||◌, not, ℕ, zero, suc, true, false}
+use Rattle.mxf_views.proofs.Common.{IsTrue, List, [], ◌∷◌, ◌++◌, Option, None, Some, IfSome, length, take, drop, get_or}
+use Rattle.mxf_views.proofs.Common.{map, refl, sym, ap, ◌∙◌, subst, arith, inl, inr, append-nil, or_right, drop_all}
+use Rattle.mxf_views.proofs.Common.{drop-map, get_or-drop, get_or-take, length-drop, length-map, length-take, take-map}
+use Rattle.mxf_views.proofs.Common.{take_all, take-append_seam, AllWithin, IsNonDecreasingBy, Consumes, IsAtEnd}
+use Rattle.mxf_views.proofs.Common.{NoteParts, IsNote, covered_end, keeps_value}
 use denote.Bor.{Bor}
 use Rattle.mxf_verify.specs.Agreeing.{agrees, agrees_with}
 use Rattle.mxf_verify.specs.Candidates.{notes_of, offset_of}
 use Rattle.mxf_verify.specs.Compared.{AreSame, ComparesBytes}
 use Rattle.mxf_verify.specs.Taking.{HasTaken, agreeing, has_digest, told}
 use Rattle.mxf_verify.specs.SourceReads.{AreApart, ReadsSource, HasReadAll}
-use Rattle.mxf_verify.specs.Verifying.{IsAmong, IsSaidBy, front_bytes, front_size, held_in}
-use Rattle.mxf_verify.specs.Verifying.{held_size, is_digested}
+use Rattle.mxf_verify.specs.Verifying.{IsAmong, IsSaidBy, front_bytes, front_size, held_in, held_size, is_digested}
 use Rattle.mxf_verify.specs.declared.candidate.Candidate.{Candidate}
 use Rattle.mxf_verify.specs.declared.compared.Compared.{Compared}
 use Rattle.mxf_verify.specs.declared.comparison.Comparison.{Comparison}

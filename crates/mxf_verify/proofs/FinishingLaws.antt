@@ -1,26 +1,22 @@
 -- What all sources together say, by what was seen of each.
-use Rattle.mxf_views.proofs.Common.{◌≡◌, ◌↔◌, ◌⊎◌, ◌+◌, ◌<◌, ◌≤◌, ◌∙◌, ℕ, List, [], ◌∷◌, ◌++◌}
-use Rattle.mxf_views.proofs.Common.{length, map, refl, sym, ap, subst, ◌&&◌, ◌||◌, not, Bool}
-use Rattle.mxf_views.proofs.Common.{IsTrue, filter, inl, inr, arith, get_or, map-id, nat_le, take}
-use Rattle.mxf_views.proofs.Common.{and_from, and_parts, le-leb, leb-true, or_cases, or_left}
-use Rattle.mxf_views.proofs.Common.{or_right, take_more, map-map, list_any, IsCovered, covered_end}
-use Rattle.mxf_views.proofs.Common.{NoteParts, In, SameMembers, In-append, In-flat_map, list_any-In}
-use Rattle.mxf_views.proofs.Common.{not_true, not-true-false, same_bool, IsContent, union_of}
-use Rattle.mxf_views.proofs.Common.{AreMaximal, IsWithin, LiesIn, SameOffsets, run, In-union_of}
+use Rattle.mxf_views.proofs.Common.{◌≡◌, ◌↔◌, ◌⊎◌, ◌+◌, ◌<◌, ◌≤◌, ◌∙◌, ℕ, List, [], ◌∷◌, ◌++◌, length, map, refl, sym}
+use Rattle.mxf_views.proofs.Common.{ap, subst, ◌&&◌, ◌||◌, not, Bool, IsTrue, filter, inl, inr, arith, get_or, map-id}
+use Rattle.mxf_views.proofs.Common.{nat_le, take, and_from, and_parts, le-leb, leb-true, or_cases, or_left, or_right}
+use Rattle.mxf_views.proofs.Common.{take_more, map-map, list_any, IsCovered, covered_end, NoteParts, In, SameMembers}
+use Rattle.mxf_views.proofs.Common.{In-append, In-flat_map, list_any-In, not_true, not-true-false, same_bool, IsContent}
+use Rattle.mxf_views.proofs.Common.{union_of, AreMaximal, IsWithin, LiesIn, SameOffsets, run, In-union_of}
 use Rattle.mxf_views.proofs.Common.{IsContent-union_of, LiesIn-with_run, with_run, Covers}
 use Rattle.mxf_catalogue.specs.declared.run.Run.{Run}
 use Rattle.std.specs.List.{flat_map}
 use denote.Bor.{Bor}
 use Rattle.mxf_readings.specs.Readings.{is_held}
 use Rattle.mxf_readings.proofs.SourceLaws.{held_says}
-use Rattle.mxf_verify.specs.Verifying.{IsAmong, IsByteOf, IsCut, IsDiffering, IsDifferingByte}
-use Rattle.mxf_verify.specs.Verifying.{IsHeldBy, IsUnknownByte, IsUnverifiedByte, IsVerified}
-use Rattle.mxf_verify.specs.Verifying.{IsVerifiedByte, Source, TouchesIn, Bytes, Saved}
+use Rattle.mxf_verify.specs.Verifying.{IsAmong, IsByteOf, IsCut, IsDiffering, IsDifferingByte, IsHeldBy, IsUnknownByte}
+use Rattle.mxf_verify.specs.Verifying.{IsUnverifiedByte, IsVerified, IsVerifiedByte, Source, TouchesIn, Bytes, Saved}
 use Rattle.mxf_verify.specs.ToldBytes.{is_met}
 use Rattle.mxf_verify.specs.Telling.{AreThose, notes_at}
-use Rattle.mxf_verify.specs.Verifications.{AreDiffering, AreRunsOf, IsCountOf, IsVerification}
-use Rattle.mxf_verify.specs.Verifications.{DifferingParts, VerificationParts, differing_in}
-use Rattle.mxf_verify.specs.Verifications.{parts_of}
+use Rattle.mxf_verify.specs.Verifications.{AreDiffering, AreRunsOf, IsCountOf, IsVerification, DifferingParts}
+use Rattle.mxf_verify.specs.Verifications.{VerificationParts, differing_in, parts_of}
 use Rattle.mxf_verify.specs.Seen.{IsHeaded, IsSeen, range_in}
 use Rattle.mxf_verify.specs.Finishing.{AreBytes, IsLeftOut, IsMet, IsToldBy, IsWithinOne}
 use Rattle.mxf_verify.specs.declared.finishing.ToldBytes.{ToldBytes}

@@ -1,15 +1,13 @@
 -- How bytes of an extent stand beside runs.
-use Rattle.mxf_views.proofs.Common.{◌≡◌, ◌↔◌, ◌⊎◌, ◌<◌, ◌≤◌, ◌+◌, ◌-◌, ℕ, zero, suc, Bool, IsTrue}
-use Rattle.mxf_views.proofs.Common.{List, None, Some, refl, subst, inl, inr, arith, min, unwrap_or}
-use Rattle.mxf_views.proofs.Common.{cases_lt, LiesIn}
+use Rattle.mxf_views.proofs.Common.{◌≡◌, ◌↔◌, ◌⊎◌, ◌<◌, ◌≤◌, ◌+◌, ◌-◌, ℕ, zero, suc, Bool, IsTrue, List, None, Some}
+use Rattle.mxf_views.proofs.Common.{refl, subst, inl, inr, arith, min, unwrap_or, cases_lt, LiesIn}
 use Rattle.mxf_catalogue.specs.declared.run.Run.{Run}
 use Rattle.mxf_units.specs.Units.{asked_end}
 use Rattle.mxf_units.specs.declared.unit.Extent.{Extent}
 use Rattle.mxf_verify.specs.Fixities.{IsFixityIn, LiesWholeIn, Meets}
 use Rattle.mxf_verify.specs.Touching.{cut_end, greatest_number}
 use Rattle.mxf_verify.specs.declared.fixity.UnitFixity.{UnitFixity}
-use Rattle.mxf_verify.specs.declared.fixity.UnitFixity.TheVariants.{Differs, Unverified, Part}
-use Rattle.mxf_verify.specs.declared.fixity.UnitFixity.TheVariants.{Verified, Unplaced}
+use Rattle.mxf_verify.specs.declared.fixity.UnitFixity.TheVariants.{Differs, Unverified, Part, Verified, Unplaced}
 use Rattle.mxf_verify.proofs.RangeLaws.{lies_or_not}
 
 -- ---- each extent has one fixity

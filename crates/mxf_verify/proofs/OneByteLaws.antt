@@ -1,14 +1,12 @@
 -- One changed byte is of one note.
-use Rattle.mxf_views.proofs.Common.{◌≡◌, ◌⊎◌, ◌+◌, ◌-◌, ◌<◌, ◌≤◌, ◌∙◌, ◌++◌, ℕ, true, false, not}
-use Rattle.mxf_views.proofs.Common.{IsTrue, List, drop, length, take, cond, inl, inr, refl, sym, ap}
-use Rattle.mxf_views.proofs.Common.{subst, arith, and_from, cases_lt, drop-drop, drop-take}
-use Rattle.mxf_views.proofs.Common.{take-append-drop, take-take, take_all, IsCovered, covered_end}
+use Rattle.mxf_views.proofs.Common.{◌≡◌, ◌⊎◌, ◌+◌, ◌-◌, ◌<◌, ◌≤◌, ◌∙◌, ◌++◌, ℕ, true, false, not, IsTrue, List, drop}
+use Rattle.mxf_views.proofs.Common.{length, take, cond, inl, inr, refl, sym, ap, subst, arith, and_from, cases_lt}
+use Rattle.mxf_views.proofs.Common.{drop-drop, drop-take, take-append-drop, take-take, take_all, IsCovered, covered_end}
 use Rattle.mxf_views.proofs.Common.{keeps_value, NoteParts, In, IsCatalogue}
 use Rattle.std.proofs.lemmas.Bool.{not_from_false}
 use Rattle.sha2.specs.Sha256.{sha256}
 use Rattle.mxf_verify.specs.VerificationLaws.{AreAllClear, AreOneByteApart}
-use Rattle.mxf_verify.specs.Verifying.{DiffersIn, IsAmong, IsSaidBy, front_size, held_in, held_size}
-use Rattle.mxf_verify.specs.Verifying.{is_digested, Bytes}
+use Rattle.mxf_verify.specs.Verifying.{DiffersIn, IsAmong, IsSaidBy, front_size, held_in, held_size, is_digested, Bytes}
 use Rattle.mxf_verify.proofs.CandidateLaws.{covered_by_size}
 use Rattle.mxf_verify.proofs.VerificationLaws.{clear_one, compared_so}
 

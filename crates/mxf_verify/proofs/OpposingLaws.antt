@@ -1,12 +1,10 @@
 -- The tests of contents and notes say what the relations say.
-use Rattle.mxf_views.proofs.Common.{◌≡◌, ◌∙◌, ap, sym, subst, inl, inr, and_from, and_parts}
-use Rattle.mxf_views.proofs.Common.{or_cases, or_left, or_right, NoteParts, head_note, In, has_note}
-use Rattle.mxf_views.proofs.Common.{is_same_note, same_note-Decides, list_any-In, not_true}
-use Rattle.mxf_views.proofs.Common.{not-true-false}
+use Rattle.mxf_views.proofs.Common.{◌≡◌, ◌∙◌, ap, sym, subst, inl, inr, and_from, and_parts, or_cases, or_left}
+use Rattle.mxf_views.proofs.Common.{or_right, NoteParts, head_note, In, has_note, is_same_note, same_note-Decides}
+use Rattle.mxf_views.proofs.Common.{list_any-In, not_true, not-true-false}
 use Rattle.std.specs.Prelude.{◌↔◌, not, ◌||◌, List, IsTrue, refl}
 use Rattle.mxf_verify.specs.Comparing.{contradicts}
-use Rattle.mxf_verify.specs.Opposing.{IsContradicted, IsOpposed, is_contradicted, is_had}
-use Rattle.mxf_verify.specs.Opposing.{is_opposed}
+use Rattle.mxf_verify.specs.Opposing.{IsContradicted, IsOpposed, is_contradicted, is_had, is_opposed}
 use Rattle.mxf_verify.proofs.ComparingLaws.{contradicts-by_test}
 
 pub had-by_test : (n : NoteParts) (notes : List NoteParts) → IsTrue (is_had n notes) ↔ has_note notes n

@@ -1,13 +1,11 @@
 -- Which notes of a reference the notes of a saved catalogue contradict, by counts.
-use Rattle.mxf_views.proofs.Common.{◌≡◌, ◌≢◌, ◌↔◌, ◌⊎◌, ◌+◌, ◌-◌, ◌<◌, ◌≤◌, ◌&&◌, not, ℕ, Bool}
-use Rattle.mxf_views.proofs.Common.{true, false, IsTrue, List, [], ◌∷◌, count_by, filter, get_or}
-use Rattle.mxf_views.proofs.Common.{length, nat_le, nat_lt, refl, sym, ap, ◌∙◌, subst, arith, inl}
-use Rattle.mxf_views.proofs.Common.{inr, is_eq, is_le, is_lt, AllWithin, list_any, IsPartitionedBy}
-use Rattle.mxf_views.proofs.Common.{and_from, and_parts, NoteParts, IsNote, covered_end, head_note}
-use Rattle.mxf_views.proofs.Common.{note_cmp, note_total, note_cmp-IsAntisymmetric, In, tally}
-use Rattle.mxf_views.proofs.Common.{count_by-cons, same_note-Decides, all-In, all-filter, In-filter}
-use Rattle.mxf_views.proofs.Common.{list_any-In, not_true, not-true-false, same_bool, IsCatalogue}
-use Rattle.mxf_views.proofs.Common.{IsContent, has_note, is_same_note, rising-filter, own_head}
+use Rattle.mxf_views.proofs.Common.{◌≡◌, ◌≢◌, ◌↔◌, ◌⊎◌, ◌+◌, ◌-◌, ◌<◌, ◌≤◌, ◌&&◌, not, ℕ, Bool, true, false, IsTrue}
+use Rattle.mxf_views.proofs.Common.{List, [], ◌∷◌, count_by, filter, get_or, length, nat_le, nat_lt, refl, sym, ap, ◌∙◌}
+use Rattle.mxf_views.proofs.Common.{subst, arith, inl, inr, is_eq, is_le, is_lt, AllWithin, list_any, IsPartitionedBy}
+use Rattle.mxf_views.proofs.Common.{and_from, and_parts, NoteParts, IsNote, covered_end, head_note, note_cmp}
+use Rattle.mxf_views.proofs.Common.{note_total, note_cmp-IsAntisymmetric, In, tally, count_by-cons, same_note-Decides}
+use Rattle.mxf_views.proofs.Common.{all-In, all-filter, In-filter, list_any-In, not_true, not-true-false, same_bool}
+use Rattle.mxf_views.proofs.Common.{IsCatalogue, IsContent, has_note, is_same_note, rising-filter, own_head}
 use denote.Bor.{Bor}
 use Rattle.std.proofs.Common.{Ordering, Less, Equal, Greater}
 use Rattle.std.proofs.lemmas.Bool.{ltb-true, lt-ltb}
@@ -27,8 +25,7 @@ use Rattle.mxf_readings.proofs.HoldingLaws.{rising_mapped}
 use Rattle.mxf_verify.proofs.OpposingLaws.{had-by_test}
 use Rattle.mxf_readings.proofs.SourceLaws.{held_says}
 use Rattle.mxf_verify.proofs.TouchCounts.{touching-count}
-use Rattle.mxf_readings.proofs.CountLaws.{count-alike, count-both, count-front, count-some}
-use Rattle.mxf_readings.proofs.CountLaws.{some-count}
+use Rattle.mxf_readings.proofs.CountLaws.{count-alike, count-both, count-front, count-some, some-count}
 
 -- ---- heads in the order of notes
 

@@ -1,12 +1,10 @@
 -- Sets of offsets that ranges make, and what a cover lacks.
-use Rattle.mxf_views.proofs.Common.{◌≡◌, ◌↔◌, ◌⊎◌, ◌<◌, ◌≤◌, ◌+◌, ◌-◌, ℕ, List, [], ◌∷◌, ◌++◌, refl}
-use Rattle.mxf_views.proofs.Common.{sym, subst, inl, inr, arith, get_or, length, nat_le, nat_lt}
-use Rattle.mxf_views.proofs.Common.{take, ◌&&◌, AllByRecursion, IsPermutation, and_from, and_parts}
-use Rattle.mxf_views.proofs.Common.{cases_lt, le-leb, leb-true, take_more, greatest_end, In}
-use Rattle.mxf_views.proofs.Common.{In-append, all-In, all_append, all_from_In, list_any-In}
-use Rattle.mxf_views.proofs.Common.{some_above, IsCover, LiesIn-with_run, gaps_of_runs, with_run}
-use Rattle.mxf_views.proofs.Common.{IsWithin, LiesIn, SameOffsets, run, gaps_by_definition}
-use Rattle.mxf_views.proofs.Common.{has_byte}
+use Rattle.mxf_views.proofs.Common.{◌≡◌, ◌↔◌, ◌⊎◌, ◌<◌, ◌≤◌, ◌+◌, ◌-◌, ℕ, List, [], ◌∷◌, ◌++◌, refl, sym, subst, inl}
+use Rattle.mxf_views.proofs.Common.{inr, arith, get_or, length, nat_le, nat_lt, take, ◌&&◌, AllByRecursion}
+use Rattle.mxf_views.proofs.Common.{IsPermutation, and_from, and_parts, cases_lt, le-leb, leb-true, take_more}
+use Rattle.mxf_views.proofs.Common.{greatest_end, In, In-append, all-In, all_append, all_from_In, list_any-In}
+use Rattle.mxf_views.proofs.Common.{some_above, IsCover, LiesIn-with_run, gaps_of_runs, with_run, IsWithin, LiesIn}
+use Rattle.mxf_views.proofs.Common.{SameOffsets, run, gaps_by_definition, has_byte}
 use Rattle.mxf_catalogue.specs.declared.run.Run.{Run}
 use Rattle.std.proofs.lemmas.Bool.{lt-ltb, ltb-true}
 use Rattle.mxf_units.proofs.NextPlaceLaws.{permuted}

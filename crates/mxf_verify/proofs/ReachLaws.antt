@@ -1,7 +1,6 @@
 -- Elements that reach up to a bound, found by the greatest number up to each.
-use Rattle.mxf_views.proofs.Common.{◌≡◌, ◌↔◌, ◌⊎◌, ◌<◌, ◌≤◌, ◌+◌, ℕ, zero, suc, List, [], ◌∷◌}
-use Rattle.mxf_views.proofs.Common.{subst, inl, inr, arith, get_or, ap, length, max, refl}
-use Rattle.mxf_views.proofs.Common.{AllWithin, cases_lt, Contains-from_In, In-at, run}
+use Rattle.mxf_views.proofs.Common.{◌≡◌, ◌↔◌, ◌⊎◌, ◌<◌, ◌≤◌, ◌+◌, ℕ, zero, suc, List, [], ◌∷◌, subst, inl, inr, arith}
+use Rattle.mxf_views.proofs.Common.{get_or, ap, length, max, refl, AllWithin, cases_lt, Contains-from_In, In-at, run}
 use Rattle.mxf_catalogue.specs.declared.run.Run.{Run}
 use Rattle.std.specs.List.{scan}
 use Rattle.mxf_units.specs.Intervals.{greatest_ends}

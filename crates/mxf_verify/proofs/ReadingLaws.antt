@@ -1,8 +1,7 @@
 -- Reads of a source, one after another.
-use Rattle.mxf_views.proofs.Common.{◌≡◌, ℕ, List, [], ◌∷◌, ◌++◌, Option, true, false, IsTrue, ◌+◌}
-use Rattle.mxf_views.proofs.Common.{◌<◌, ◌≤◌, get_or, length, ap, arith, ◌∙◌, subst, sym}
-use Rattle.mxf_views.proofs.Common.{append_assoc, inl, inr, NoteParts, covered_end, AllWithin}
-use Rattle.mxf_views.proofs.Common.{cases_lt, true≢false, get_or_default, get_or-map, length-map}
+use Rattle.mxf_views.proofs.Common.{◌≡◌, ℕ, List, [], ◌∷◌, ◌++◌, Option, true, false, IsTrue, ◌+◌, ◌<◌, ◌≤◌, get_or}
+use Rattle.mxf_views.proofs.Common.{length, ap, arith, ◌∙◌, subst, sym, append_assoc, inl, inr, NoteParts, covered_end}
+use Rattle.mxf_views.proofs.Common.{AllWithin, cases_lt, true≢false, get_or_default, get_or-map, length-map}
 use denote.Bor.{Bor}
 use Rattle.mxf_verify.specs.Verifying.{is_digested}
 use Rattle.mxf_verify.specs.Taking.{HasTaken}

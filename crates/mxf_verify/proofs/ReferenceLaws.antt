@@ -1,13 +1,11 @@
 -- The notes of a reference that are compared with bytes.
-use Rattle.mxf_views.proofs.Common.{◌≡◌, ◌≢◌, ◌↔◌, ◌+◌, ◌<◌, ◌≤◌, ℕ, get_or, ◌&&◌, not, zero, suc}
-use Rattle.mxf_views.proofs.Common.{Bool, true, false, IsTrue, List, [], ◌∷◌, cond, length, map}
-use Rattle.mxf_views.proofs.Common.{refl, sym, ap, ◌∙◌, subst, arith, inl, inr, and_from, and_parts}
-use Rattle.mxf_views.proofs.Common.{cases_lt, false≢true, tied_itself, AllByRecursion, AllWithin}
-use Rattle.mxf_views.proofs.Common.{IsNonDecreasingBy, NoteParts, IsNote, covered_end, end_of}
-use Rattle.mxf_views.proofs.Common.{keeps_value, note_cmp, note_total, In, IsRising, all-In}
-use Rattle.mxf_views.proofs.Common.{all_from_In, In-at, In-filter, In-map, same_bool, IsDisputed}
-use Rattle.mxf_views.proofs.Common.{SharesByte, is_disputed, rising-filter, is_disputed-IsDisputed}
-use Rattle.mxf_views.proofs.Common.{offset_le}
+use Rattle.mxf_views.proofs.Common.{◌≡◌, ◌≢◌, ◌↔◌, ◌+◌, ◌<◌, ◌≤◌, ℕ, get_or, ◌&&◌, not, zero, suc, Bool, true, false}
+use Rattle.mxf_views.proofs.Common.{IsTrue, List, [], ◌∷◌, cond, length, map, refl, sym, ap, ◌∙◌, subst, arith, inl}
+use Rattle.mxf_views.proofs.Common.{inr, and_from, and_parts, cases_lt, false≢true, tied_itself, AllByRecursion}
+use Rattle.mxf_views.proofs.Common.{AllWithin, IsNonDecreasingBy, NoteParts, IsNote, covered_end, end_of, keeps_value}
+use Rattle.mxf_views.proofs.Common.{note_cmp, note_total, In, IsRising, all-In, all_from_In, In-at, In-filter, In-map}
+use Rattle.mxf_views.proofs.Common.{same_bool, IsDisputed, SharesByte, is_disputed, rising-filter}
+use Rattle.mxf_views.proofs.Common.{is_disputed-IsDisputed, offset_le}
 use Rattle.std.proofs.Common.{Less}
 use denote.Bor.{Bor}
 use Rattle.mxf_readings.specs.Readings.{is_held}

@@ -1,10 +1,9 @@
 -- What a renewed content has, and what is dropped.
-use Rattle.mxf_views.proofs.Common.{sym, ◌∙◌, ap, subst, inl, inr, and_from, and_parts, NoteParts}
-use Rattle.mxf_views.proofs.Common.{head_note, In, AreReduced, IsContent, IsLocated, has_note}
-use Rattle.mxf_views.proofs.Common.{reduced_union, In-filter, filter_all, filter_none, not_true}
-use Rattle.mxf_views.proofs.Common.{not-true-false, IsContent-filter, AreReduced-reduced_union}
-use Rattle.mxf_views.proofs.Common.{In-located, IsContent-reduced_union, has-reduced_union}
-use Rattle.mxf_views.proofs.Common.{one_reduced, reduced_union-none, same_note}
+use Rattle.mxf_views.proofs.Common.{sym, ◌∙◌, ap, subst, inl, inr, and_from, and_parts, NoteParts, head_note, In}
+use Rattle.mxf_views.proofs.Common.{AreReduced, IsContent, IsLocated, has_note, reduced_union, In-filter, filter_all}
+use Rattle.mxf_views.proofs.Common.{filter_none, not_true, not-true-false, IsContent-filter, AreReduced-reduced_union}
+use Rattle.mxf_views.proofs.Common.{In-located, IsContent-reduced_union, has-reduced_union, one_reduced}
+use Rattle.mxf_views.proofs.Common.{reduced_union-none, same_note}
 use Rattle.std.specs.Prelude.{◌≡◌, ◌↔◌, ◌⊎◌, not, ◌&&◌, List, [], refl}
 use Rattle.mxf_catalogue.specs.Reduced.{IsKnown}
 use Rattle.mxf_catalogue.proofs.HeadLaws.{AreReduced-part}
@@ -12,8 +11,7 @@ use Rattle.mxf_verify.specs.Comparing.{SharesHeldByte}
 use Rattle.mxf_verify.specs.Opposing.{IsContradicted, is_contradicted, is_had, is_opposed}
 use Rattle.mxf_verify.specs.Renewing.{IsDropped, IsKept, added_of, dropped_of, kept_of, renewed_of}
 use Rattle.mxf_verify.proofs.KnownLaws.{or_not}
-use Rattle.mxf_verify.proofs.OpposingLaws.{contradicted-by_test, had-by_test, has_head}
-use Rattle.mxf_verify.proofs.OpposingLaws.{opposed-by_test}
+use Rattle.mxf_verify.proofs.OpposingLaws.{contradicted-by_test, had-by_test, has_head, opposed-by_test}
 
 -- ---- what is had and what is contradicted
 

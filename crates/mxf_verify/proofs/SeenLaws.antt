@@ -1,8 +1,7 @@
 -- What sources said of the notes of a reference, and one source more.
-use Rattle.mxf_views.proofs.Common.{◌≡◌, ◌↔◌, ◌⊎◌, ◌+◌, ◌≤◌, ◌∙◌, ℕ, Bool, true, false, ◌||◌, not}
-use Rattle.mxf_views.proofs.Common.{nat_lt, IsTrue, List, [], ◌∷◌, ◌++◌, length, map, refl, sym, ap}
-use Rattle.mxf_views.proofs.Common.{subst, inl, inr, arith, append_assoc, false≢true, map-append}
-use Rattle.mxf_views.proofs.Common.{AllByRecursion, NoteParts, In, all-In, In-append, IsWithin}
+use Rattle.mxf_views.proofs.Common.{◌≡◌, ◌↔◌, ◌⊎◌, ◌+◌, ◌≤◌, ◌∙◌, ℕ, Bool, true, false, ◌||◌, not, nat_lt, IsTrue, List}
+use Rattle.mxf_views.proofs.Common.{[], ◌∷◌, ◌++◌, length, map, refl, sym, ap, subst, inl, inr, arith, append_assoc}
+use Rattle.mxf_views.proofs.Common.{false≢true, map-append, AllByRecursion, NoteParts, In, all-In, In-append, IsWithin}
 use Rattle.mxf_views.proofs.Common.{LiesIn, run}
 use Rattle.mxf_catalogue.specs.declared.run.Run.{Run}
 use Rattle.std.proofs.lemmas.Bool.{ltb-true, lt-ltb}
@@ -10,8 +9,8 @@ use Rattle.std.proofs.lemmas.Bool.Decides.{Decides-or}
 use Rattle.std.proofs.lemmas.List.{append-nil}
 use Rattle.std.specs.List.{flat_map}
 use denote.Bor.{Bor}
-use Rattle.mxf_verify.specs.Verifying.{DiffersIn, IsByteOf, IsDiffering, IsHeldBy, IsSameIn}
-use Rattle.mxf_verify.specs.Verifying.{IsVerified, Source, TouchesIn, Bytes, Saved}
+use Rattle.mxf_verify.specs.Verifying.{DiffersIn, IsByteOf, IsDiffering, IsHeldBy, IsSameIn, IsVerified, Source}
+use Rattle.mxf_verify.specs.Verifying.{TouchesIn, Bytes, Saved}
 use Rattle.mxf_verify.specs.Telling.{AreThose, TellsOf, TellsSaved, notes_at}
 use Rattle.mxf_verify.specs.Verifications.{AreDiffering, DifferingParts, differing_in, parts_of}
 use Rattle.mxf_verify.specs.Seen.{IsBeside, IsHeaded, IsSeen, range_in}

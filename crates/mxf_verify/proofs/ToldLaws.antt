@@ -1,15 +1,12 @@
 -- What the bytes of a source say of the notes of a reference.
-use Rattle.mxf_views.proofs.Common.{◌≡◌, ◌↔◌, ◌+◌, ◌-◌, ◌<◌, ◌≤◌, ◌&&◌, not, ℕ, Bool, true, false}
-use Rattle.mxf_views.proofs.Common.{IsTrue, cond, List, [], ◌∷◌, ◌++◌, filter, get_or, length, map}
-use Rattle.mxf_views.proofs.Common.{max, min, take, drop, nat_le, nat_lt, refl, sym, ap, ◌∙◌, subst}
-use Rattle.mxf_views.proofs.Common.{arith, inl, inr, and_from, and_parts, cases_lt, le-leb}
-use Rattle.mxf_views.proofs.Common.{leb-true, drop-map, get_or-drop, get_or-take, length-drop}
-use Rattle.mxf_views.proofs.Common.{length-take, take-append-drop, take-map, map-map, AllWithin}
-use Rattle.mxf_views.proofs.Common.{NoteParts, covered_end, note_cmp, In, IsRising, all-In}
-use Rattle.mxf_views.proofs.Common.{all_from_In, Contains-from_In, In-append, In-filter}
-use Rattle.mxf_views.proofs.Common.{In-from_Contains, In-map, list_any-In, not_true, not-true-false}
-use Rattle.mxf_views.proofs.Common.{same_bool, IsContent, Covers, LiesIn, is_disputed-IsDisputed}
-use Rattle.mxf_views.proofs.Common.{is_disputed}
+use Rattle.mxf_views.proofs.Common.{◌≡◌, ◌↔◌, ◌+◌, ◌-◌, ◌<◌, ◌≤◌, ◌&&◌, not, ℕ, Bool, true, false, IsTrue, cond, List}
+use Rattle.mxf_views.proofs.Common.{[], ◌∷◌, ◌++◌, filter, get_or, length, map, max, min, take, drop, nat_le, nat_lt}
+use Rattle.mxf_views.proofs.Common.{refl, sym, ap, ◌∙◌, subst, arith, inl, inr, and_from, and_parts, cases_lt, le-leb}
+use Rattle.mxf_views.proofs.Common.{leb-true, drop-map, get_or-drop, get_or-take, length-drop, length-take}
+use Rattle.mxf_views.proofs.Common.{take-append-drop, take-map, map-map, AllWithin, NoteParts, covered_end, note_cmp}
+use Rattle.mxf_views.proofs.Common.{In, IsRising, all-In, all_from_In, Contains-from_In, In-append, In-filter}
+use Rattle.mxf_views.proofs.Common.{In-from_Contains, In-map, list_any-In, not_true, not-true-false, same_bool}
+use Rattle.mxf_views.proofs.Common.{IsContent, Covers, LiesIn, is_disputed-IsDisputed, is_disputed}
 use Rattle.mxf_catalogue.specs.declared.run.Run.{Run}
 use denote.Bor.{Bor}
 use Rattle.std.proofs.Common.{Ordering, Less}
@@ -22,8 +19,8 @@ use Rattle.mxf_readings.specs.Readings.{is_held}
 use Rattle.mxf_verify.specs.References.{AreCandidates, is_crowded}
 use Rattle.mxf_verify.specs.Telling.{AreThose, TellsOf, notes_at}
 use Rattle.mxf_verify.specs.ToldBytes.{is_met, is_told_differing, is_told_same}
-use Rattle.mxf_verify.specs.Verifying.{Bytes, DiffersIn, IsAmong, IsCompared, IsCrowded, IsSaidBy}
-use Rattle.mxf_verify.specs.Verifying.{IsSameIn, held_in, is_digested}
+use Rattle.mxf_verify.specs.Verifying.{Bytes, DiffersIn, IsAmong, IsCompared, IsCrowded, IsSaidBy, IsSameIn, held_in}
+use Rattle.mxf_verify.specs.Verifying.{is_digested}
 use Rattle.mxf_verify.specs.declared.candidate.Candidate.{Candidate}
 use Rattle.mxf_verify.specs.declared.compared.Compared.{Compared}
 use Rattle.mxf_verify.specs.declared.told.Told.{Told}

@@ -1,19 +1,15 @@
 -- How many notes of a content hold a byte of a note, by where notes begin and end.
-use Rattle.mxf_views.proofs.Common.{AllByRecursion, AllWithin, IsNonDecreasing, sym, ◌∙◌, ap, subst}
-use Rattle.mxf_views.proofs.Common.{inl, inr, arith, get_or, and_from, and_parts, le-ltb, le-leb}
-use Rattle.mxf_views.proofs.Common.{lt-leb, false_from_ne_true, nat_tests, tied_itself}
-use Rattle.mxf_views.proofs.Common.{sum_by-IsPermutation, Less, get_or-map, length-map, NoteParts}
-use Rattle.mxf_views.proofs.Common.{head_parts, IsNote, covered_end, head_note, note_cmp}
-use Rattle.mxf_views.proofs.Common.{note_total, In, IsContent, has_note, is_same_note, tally}
-use Rattle.mxf_views.proofs.Common.{count_by-cons, count-none, same_note-Decides, all-In, not_true}
-use Rattle.mxf_views.proofs.Common.{not-true-false, same_bool, own_head, offsets_rise}
-use Rattle.std.specs.Prelude.{◌≡◌, ◌≢◌, ◌↔◌, ◌+◌, ◌-◌, ◌<◌, ◌≤◌, ℕ, Bool, true, false, not, ◌&&◌}
-use Rattle.std.specs.Prelude.{nat_lt, nat_le, List, [], ◌∷◌, length, map, cond, count_by, IsTrue}
-use Rattle.std.specs.Prelude.{refl}
+use Rattle.mxf_views.proofs.Common.{AllByRecursion, AllWithin, IsNonDecreasing, sym, ◌∙◌, ap, subst, inl, inr, arith}
+use Rattle.mxf_views.proofs.Common.{get_or, and_from, and_parts, le-ltb, le-leb, lt-leb, false_from_ne_true, nat_tests}
+use Rattle.mxf_views.proofs.Common.{tied_itself, sum_by-IsPermutation, Less, get_or-map, length-map, NoteParts}
+use Rattle.mxf_views.proofs.Common.{head_parts, IsNote, covered_end, head_note, note_cmp, note_total, In, IsContent}
+use Rattle.mxf_views.proofs.Common.{has_note, is_same_note, tally, count_by-cons, count-none, same_note-Decides, all-In}
+use Rattle.mxf_views.proofs.Common.{not_true, not-true-false, same_bool, own_head, offsets_rise}
+use Rattle.std.specs.Prelude.{◌≡◌, ◌≢◌, ◌↔◌, ◌+◌, ◌-◌, ◌<◌, ◌≤◌, ℕ, Bool, true, false, not, ◌&&◌, nat_lt, nat_le, List}
+use Rattle.std.specs.Prelude.{[], ◌∷◌, length, map, cond, count_by, IsTrue, refl}
 use Rattle.std.proofs.lemmas.Bool.{ltb-true, lt-ltb}
 use mir.Val.{bool_byte}
-use Rattle.mxf_readings.proofs.CountLaws.{count-alike, count-both, count-front, count-some}
-use Rattle.mxf_readings.proofs.CountLaws.{count_mapped, some-count}
+use Rattle.mxf_readings.proofs.CountLaws.{count-alike, count-both, count-front, count-some, count_mapped, some-count}
 use Rattle.mxf_verify.specs.Comparing.{Contradicts, SharesHeldByte, is_held_byte_shared}
 use Rattle.mxf_verify.specs.Opposing.{AreBounds, IsOpposed}
 use Rattle.mxf_verify.proofs.ComparingLaws.{holds_first, share-by_test}

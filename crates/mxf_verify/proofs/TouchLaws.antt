@@ -1,12 +1,10 @@
 -- The first and the last of places that a note holds a byte of, by the two orders of places.
-use Rattle.mxf_views.proofs.Common.{◌≡◌, ◌⊎◌, ◌∙◌, ◌<◌, ◌≤◌, ◌+◌, ◌-◌, ℕ, Bool, true, false, List}
-use Rattle.mxf_views.proofs.Common.{Option, None, Some, refl, sym, ap, subst, inl, inr, arith}
-use Rattle.mxf_views.proofs.Common.{get_or, length, max, nat_lt, reverse, if◌then◌else◌}
-use Rattle.mxf_views.proofs.Common.{IsTotalOrder, AllWithin, IsNonDecreasing, IsPermutation, is_lt}
-use Rattle.mxf_views.proofs.Common.{nat_cmp, ordering_then, Ordering, Less, Equal, Greater}
-use Rattle.mxf_views.proofs.Common.{cases_lt, nat_cmp_total, on_total, then_total, get_or-reverse}
-use Rattle.mxf_views.proofs.Common.{get_or_default, length-reverse, covered_end, greatest_end}
-use Rattle.mxf_views.proofs.Common.{NoteParts, In, SameMembers, Contains-from_In, In-at}
+use Rattle.mxf_views.proofs.Common.{◌≡◌, ◌⊎◌, ◌∙◌, ◌<◌, ◌≤◌, ◌+◌, ◌-◌, ℕ, Bool, true, false, List, Option, None, Some}
+use Rattle.mxf_views.proofs.Common.{refl, sym, ap, subst, inl, inr, arith, get_or, length, max, nat_lt, reverse}
+use Rattle.mxf_views.proofs.Common.{if◌then◌else◌, IsTotalOrder, AllWithin, IsNonDecreasing, IsPermutation, is_lt}
+use Rattle.mxf_views.proofs.Common.{nat_cmp, ordering_then, Ordering, Less, Equal, Greater, cases_lt, nat_cmp_total}
+use Rattle.mxf_views.proofs.Common.{on_total, then_total, get_or-reverse, get_or_default, length-reverse, covered_end}
+use Rattle.mxf_views.proofs.Common.{greatest_end, NoteParts, In, SameMembers, Contains-from_In, In-at}
 use Rattle.std.specs.List.Sorted.{IsSortedByKey}
 use Rattle.std.specs.Ordering.{MatchOrdering}
 use Rattle.std.proofs.lemmas.Bool.{ltb-true, lt-ltb}
@@ -17,8 +15,8 @@ use Rattle.mxf_units.specs.Units.{asked_end}
 use Rattle.mxf_units.proofs.IntervalLaws.{ends-rise, length-ends, own_end}
 use Rattle.mxf_units.proofs.NextPlaceLaws.{permuted}
 use Rattle.mxf_verify.specs.Fixities.{AreUnitsOf, IsTouched}
-use Rattle.mxf_verify.specs.Touching.{AreInOrder, AreSearched, BeginsBy, EndsBy, IsFirstAbove}
-use Rattle.mxf_verify.specs.Touching.{back_of, cut_end, greatest_number, reach_of}
+use Rattle.mxf_verify.specs.Touching.{AreInOrder, AreSearched, BeginsBy, EndsBy, IsFirstAbove, back_of, cut_end}
+use Rattle.mxf_verify.specs.Touching.{greatest_number, reach_of}
 use Rattle.mxf_verify.specs.declared.unit_places.UnitPlace.{UnitPlace}
 use Rattle.mxf_verify.proofs.FixityLaws.{cut_below, cut_same}
 use Rattle.mxf_verify.proofs.ReachLaws.{first_reached}

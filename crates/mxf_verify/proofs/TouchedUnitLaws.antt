@@ -1,13 +1,12 @@
 -- Going through places finds the units that a note has a byte of, and there is one answer.
-use Rattle.mxf_views.proofs.Common.{◌≡◌, ◌∙◌, ◌⊎◌, ◌<◌, ◌≤◌, ℕ, Bool, true, false, cond, List, []}
-use Rattle.mxf_views.proofs.Common.{◌∷◌, Option, None, Some, arith, inl, inr, max, min, refl, subst}
-use Rattle.mxf_views.proofs.Common.{sym, and_cases, and_parts, eqb-false, ltb-false, or_cases}
-use Rattle.mxf_views.proofs.Common.{or_parts, covered_end, NoteParts, In}
+use Rattle.mxf_views.proofs.Common.{◌≡◌, ◌∙◌, ◌⊎◌, ◌<◌, ◌≤◌, ℕ, Bool, true, false, cond, List, [], ◌∷◌, Option, None}
+use Rattle.mxf_views.proofs.Common.{Some, arith, inl, inr, max, min, refl, subst, sym, and_cases, and_parts, eqb-false}
+use Rattle.mxf_views.proofs.Common.{ltb-false, or_cases, or_parts, covered_end, NoteParts, In}
 use Rattle.std.proofs.lemmas.Bool.{cases_eq, eqb-true, ltb-true}
 use Rattle.mxf_units.specs.Units.{asked_end}
 use Rattle.mxf_verify.specs.Fixities.{AreUnitsOf, IsFirstTouched, IsLastTouched, IsTouched}
-use Rattle.mxf_verify.specs.TouchedUnits.{begins_before, chosen, ends_behind, first_touched}
-use Rattle.mxf_verify.specs.TouchedUnits.{is_touched, span_of, units_touched}
+use Rattle.mxf_verify.specs.TouchedUnits.{begins_before, chosen, ends_behind, first_touched, is_touched, span_of}
+use Rattle.mxf_verify.specs.TouchedUnits.{units_touched}
 use Rattle.mxf_verify.specs.declared.unit_places.UnitPlace.{UnitPlace}
 use Rattle.mxf_verify.specs.declared.unit_places.UnitSpan.{UnitSpan}
 

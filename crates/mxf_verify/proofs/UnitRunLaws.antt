@@ -1,8 +1,7 @@
 -- Edit units as they are gathered in runs, and their places.
-use Rattle.mxf_views.proofs.Common.{◌≡◌, ◌∙◌, ◌<◌, ◌≤◌, ◌+◌, ◌-◌, ◌^◌, ◌++◌, ◌∷◌, ℕ, suc, Bool}
-use Rattle.mxf_views.proofs.Common.{true, false, List, [], Option, None, Some, refl, sym, ap, subst}
-use Rattle.mxf_views.proofs.Common.{inl, inr, append_assoc, arith, cond, drop, filter, filter_map}
-use Rattle.mxf_views.proofs.Common.{get_or, length, AllByRecursion, cons_option, range_with_len}
+use Rattle.mxf_views.proofs.Common.{◌≡◌, ◌∙◌, ◌<◌, ◌≤◌, ◌+◌, ◌-◌, ◌^◌, ◌++◌, ◌∷◌, ℕ, suc, Bool, true, false, List, []}
+use Rattle.mxf_views.proofs.Common.{Option, None, Some, refl, sym, ap, subst, inl, inr, append_assoc, arith, cond, drop}
+use Rattle.mxf_views.proofs.Common.{filter, filter_map, get_or, length, AllByRecursion, cons_option, range_with_len}
 use Rattle.mxf_views.proofs.Common.{cases_lt, at_drop_more, In-at, all-In}
 use Rattle.mxf_units.specs.declared.standing.UnitStanding.{UnitStanding}
 use Rattle.mxf_verify.specs.Fixities.{AreUnitRuns, units_in}

@@ -1,21 +1,19 @@
 -- Of a reference beside sources there is one verification, and what that says.
-use Rattle.mxf_views.proofs.Common.{◌≡◌, ◌↔◌, ◌⊎◌, ◌+◌, ◌∙◌, ℕ, ◌&&◌, ◌||◌, not, List, [], ◌∷◌}
-use Rattle.mxf_views.proofs.Common.{◌++◌, length, map, refl, sym, ap, subst, inl, inr, arith}
-use Rattle.mxf_views.proofs.Common.{IsCovered, IsInSpan, IsNote, NoteParts, In, SameMembers, all-In}
-use Rattle.mxf_views.proofs.Common.{In-append, In-map, same_bool, IsCatalogue, SharesByte, LiesIn}
+use Rattle.mxf_views.proofs.Common.{◌≡◌, ◌↔◌, ◌⊎◌, ◌+◌, ◌∙◌, ℕ, ◌&&◌, ◌||◌, not, List, [], ◌∷◌, ◌++◌, length, map, refl}
+use Rattle.mxf_views.proofs.Common.{sym, ap, subst, inl, inr, arith, IsCovered, IsInSpan, IsNote, NoteParts, In}
+use Rattle.mxf_views.proofs.Common.{SameMembers, all-In, In-append, In-map, same_bool, IsCatalogue, SharesByte, LiesIn}
 use Rattle.mxf_views.proofs.Common.{clear_same, same_content, covers_below_end, same_runs}
 use Rattle.mxf_catalogue.specs.declared.run.Run.{Run}
 use Rattle.mxf_verify.specs.Comparing.{SharesHeldByte}
 use Rattle.mxf_verify.specs.Taking.{has_digest}
 use Rattle.mxf_verify.specs.Agreeing.{agrees_with}
 use Rattle.mxf_verify.specs.Telling.{AreThose}
-use Rattle.mxf_verify.specs.Verifications.{AreDiffering, AreRunsOf, DifferingParts, IsCountOf}
-use Rattle.mxf_verify.specs.Verifications.{IsVerification, VerificationParts, differing_in}
+use Rattle.mxf_verify.specs.Verifications.{AreDiffering, AreRunsOf, DifferingParts, IsCountOf, IsVerification}
+use Rattle.mxf_verify.specs.Verifications.{VerificationParts, differing_in}
 use Rattle.mxf_verify.specs.VerificationLaws.{AreAllClear, SaysSame}
-use Rattle.mxf_verify.specs.Verifying.{DiffersIn, IsAmong, IsByteOf, IsCompared, IsCut, IsDiffering}
-use Rattle.mxf_verify.specs.Verifying.{IsDifferingByte, IsHeldBy, IsSaidBy, IsSameIn, IsUnknownByte}
-use Rattle.mxf_verify.specs.Verifying.{IsUnverifiedByte, IsVerified, IsVerifiedByte, Source}
-use Rattle.mxf_verify.specs.Verifying.{TouchesIn, held_in, held_size, is_digested, Bytes}
+use Rattle.mxf_verify.specs.Verifying.{DiffersIn, IsAmong, IsByteOf, IsCompared, IsCut, IsDiffering, IsDifferingByte}
+use Rattle.mxf_verify.specs.Verifying.{IsHeldBy, IsSaidBy, IsSameIn, IsUnknownByte, IsUnverifiedByte, IsVerified}
+use Rattle.mxf_verify.specs.Verifying.{IsVerifiedByte, Source, TouchesIn, held_in, held_size, is_digested, Bytes}
 use Rattle.mxf_verify.proofs.KnownLaws.{or_not}
 use Rattle.mxf_verify.proofs.RangeLaws.{lies_or_not}
 use Rattle.mxf_verify.proofs.SaidLaws.{said_told}

@@ -1,7 +1,7 @@
 -- What was seen of the parts of a run that were passed.
-use Rattle.mxf_views.proofs.Common.{◌≡◌, ◌+◌, ◌-◌, ◌∙◌, ℕ, List, [], ◌∷◌, ◌++◌, Option, Some}
-use Rattle.mxf_views.proofs.Common.{length, take, min, refl, sym, ap, subst, arith, slice_get}
-use Rattle.mxf_views.proofs.Common.{AllByRecursion, take_at, greatest_end, NoteParts, all_append}
+use Rattle.mxf_views.proofs.Common.{◌≡◌, ◌+◌, ◌-◌, ◌∙◌, ℕ, List, [], ◌∷◌, ◌++◌, Option, Some, length, take, min, refl}
+use Rattle.mxf_views.proofs.Common.{sym, ap, subst, arith, slice_get, AllByRecursion, take_at, greatest_end, NoteParts}
+use Rattle.mxf_views.proofs.Common.{all_append}
 use Rattle.std.specs.Prelude.{IfSome, IsSome, None, unwrap_or}
 use Rattle.std.proofs.lemmas.List.{append-nil}
 use Rattle.mxf_read.specs.Gathering.{HasFault, IsGatherFault, IsGood, piece_limit}

@@ -1,21 +1,17 @@
 -- All packets of a file beside the bytes of one source.
-use Rattle.mxf_views.proofs.Common.{◌≡◌, ◌≢◌, ◌↔◌, ◌+◌, ◌<◌, ◌≤◌, ◌∙◌, ℕ, true, List, [], ◌∷◌}
-use Rattle.mxf_views.proofs.Common.{length, refl, sym, ap, subst, inl, inr, arith, cond, cases_lt}
-use Rattle.mxf_views.proofs.Common.{AreBytes, IsCovered, IsNote, covered_end, end_of, greatest_end}
-use Rattle.mxf_views.proofs.Common.{NoteParts, notes_in, stop_in, In, all-In, Contains-from_In}
-use Rattle.mxf_views.proofs.Common.{AreApart, IsClear, clear_notes, AreMaximal, LiesIn}
-use Rattle.mxf_views.proofs.Common.{same_content, In-clear_notes, IsContent-clear_notes}
-use Rattle.mxf_views.proofs.Common.{AreApart-clear_notes}
+use Rattle.mxf_views.proofs.Common.{◌≡◌, ◌≢◌, ◌↔◌, ◌+◌, ◌<◌, ◌≤◌, ◌∙◌, ℕ, true, List, [], ◌∷◌, length, refl, sym, ap}
+use Rattle.mxf_views.proofs.Common.{subst, inl, inr, arith, cond, cases_lt, AreBytes, IsCovered, IsNote, covered_end}
+use Rattle.mxf_views.proofs.Common.{end_of, greatest_end, NoteParts, notes_in, stop_in, In, all-In, Contains-from_In}
+use Rattle.mxf_views.proofs.Common.{AreApart, IsClear, clear_notes, AreMaximal, LiesIn, same_content, In-clear_notes}
+use Rattle.mxf_views.proofs.Common.{IsContent-clear_notes, AreApart-clear_notes}
 use Rattle.mxf_klv.specs.declared.piece.Stop.TheVariants.{End}
 use Rattle.mxf_catalogue.specs.declared.run.Run.{Run}
 use Rattle.mxf_verify.specs.VerificationLaws.{IsWholeReference, SaysWhole}
 use Rattle.mxf_verify.specs.Verifications.{AreRunsOf, IsCountOf, IsVerification, VerificationParts}
-use Rattle.mxf_verify.specs.Verifying.{DiffersIn, IsByteOf, IsDiffering, IsHeldBy, IsSameIn}
-use Rattle.mxf_verify.specs.Verifying.{IsVerified, Source, Bytes}
+use Rattle.mxf_verify.specs.Verifying.{DiffersIn, IsByteOf, IsDiffering, IsHeldBy, IsSameIn, IsVerified, Source, Bytes}
 use Rattle.mxf_verify.proofs.ComparingLaws.{holds_first}
 use Rattle.mxf_verify.proofs.VerificationLaws.{clear_one, held_so}
-use Rattle.mxf_verify.proofs.WholePackets.{AreNotesLaid, laid_end, laid_end_each, laid_end_within}
-use Rattle.mxf_verify.proofs.WholePackets.{read_all, read_said}
+use Rattle.mxf_verify.proofs.WholePackets.{AreNotesLaid, laid_end, laid_end_each, laid_end_within, read_all, read_said}
 
 -- a clear note covers what it spans
 whole_covers : (reference : List NoteParts) (n : NoteParts) → IsClear n reference → covered_end n ≡ end_of n

@@ -1,15 +1,12 @@
 -- The packets of bytes, and the notes of a reference that says what they are.
-use Rattle.mxf_views.proofs.Common.{◌≡◌, ◌+◌, ◌-◌, ◌<◌, ◌≤◌, ◌∙◌, ℕ, true, ◌&&◌, List, [], ◌∷◌}
-use Rattle.mxf_views.proofs.Common.{◌++◌, Some, length, take, drop, cond, refl, sym, ap, subst, inl}
-use Rattle.mxf_views.proofs.Common.{inr, arith, append_assoc, cases_lt, drop_all, drop-drop}
-use Rattle.mxf_views.proofs.Common.{drop_at, length-take, take-append-drop, take_at}
-use Rattle.mxf_views.proofs.Common.{IsSpelledLength, length_bytes, AreBytes, IsCovered, IsNote}
-use Rattle.mxf_views.proofs.Common.{end_of, greatest_end, keeps, keeps_value, note_of}
-use Rattle.mxf_views.proofs.Common.{IsSpelledPacket, size_of, NoteParts, PacketParts, packet_parts}
-use Rattle.mxf_views.proofs.Common.{AreLaid, end_after, notes_from, head_at, heads_at, notes_in}
-use Rattle.mxf_views.proofs.Common.{packet_at, packets_in, rest_in, stop_in, stop_of, In}
-use Rattle.mxf_views.proofs.Common.{spelled_len, ends_at, goes_on, length-spelled, none_at_end}
-use Rattle.mxf_views.proofs.Common.{packet_at-given, some_piece, length_bytes-spelled}
+use Rattle.mxf_views.proofs.Common.{◌≡◌, ◌+◌, ◌-◌, ◌<◌, ◌≤◌, ◌∙◌, ℕ, true, ◌&&◌, List, [], ◌∷◌, ◌++◌, Some, length}
+use Rattle.mxf_views.proofs.Common.{take, drop, cond, refl, sym, ap, subst, inl, inr, arith, append_assoc, cases_lt}
+use Rattle.mxf_views.proofs.Common.{drop_all, drop-drop, drop_at, length-take, take-append-drop, take_at}
+use Rattle.mxf_views.proofs.Common.{IsSpelledLength, length_bytes, AreBytes, IsCovered, IsNote, end_of, greatest_end}
+use Rattle.mxf_views.proofs.Common.{keeps, keeps_value, note_of, IsSpelledPacket, size_of, NoteParts, PacketParts}
+use Rattle.mxf_views.proofs.Common.{packet_parts, AreLaid, end_after, notes_from, head_at, heads_at, notes_in}
+use Rattle.mxf_views.proofs.Common.{packet_at, packets_in, rest_in, stop_in, stop_of, In, spelled_len, ends_at, goes_on}
+use Rattle.mxf_views.proofs.Common.{length-spelled, none_at_end, packet_at-given, some_piece, length_bytes-spelled}
 use Rattle.mxf_views.proofs.Common.{spelled-length_bytes}
 use Rattle.mxf_klv.specs.declared.piece.Stop.TheVariants.{End}
 use Rattle.std.proofs.Math.ListN.{length-append, length-drop}

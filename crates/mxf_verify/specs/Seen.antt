@@ -6,8 +6,7 @@ use Rattle.mxf_klv.specs.Rising.{In}
 use Rattle.mxf_catalogue.specs.Content.{IsCatalogue}
 use Rattle.mxf_catalogue.specs.Runs.{LiesIn, run}
 use Rattle.mxf_catalogue.specs.declared.run.Run.{Run}
-use Rattle.mxf_verify.specs.Verifying.{IsByteOf, IsHeldBy, IsVerified, Source, TouchesIn}
-use Rattle.mxf_verify.specs.Verifying.{Bytes, Saved}
+use Rattle.mxf_verify.specs.Verifying.{IsByteOf, IsHeldBy, IsVerified, Source, TouchesIn, Bytes, Saved}
 use Rattle.mxf_verify.specs.Verifications.{AreDiffering, parts_of}
 use Rattle.mxf_verify.specs.declared.seen.Seen.{Seen}
 

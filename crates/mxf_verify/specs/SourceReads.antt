@@ -1,6 +1,6 @@
 -- What reads of a source come to (this project's profile).
-use Rattle.std.specs.Prelude.{◌≡◌, ◌+◌, ◌<◌, ◌≤◌, ◌⊎◌, ℕ, List, ◌++◌, length, slice_index_or, is_some, IsTrue, Bool, true, false, Option, None, Some}
-use Rattle.std.specs.Prelude.{if◌then◌else◌}
+use Rattle.std.specs.Prelude.{◌≡◌, ◌+◌, ◌<◌, ◌≤◌, ◌⊎◌, ℕ, List, ◌++◌, length, slice_index_or, is_some, IsTrue, Bool}
+use Rattle.std.specs.Prelude.{true, false, Option, None, Some, if◌then◌else◌}
 use Rattle.std.specs.List.{AllWithin}
 use Rattle.std.specs.Io.KnownBytes.{Consumes, IsAtEnd}
 use denote.Bor.{Bor}

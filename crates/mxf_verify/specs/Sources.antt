@@ -7,8 +7,7 @@ use Rattle.mxf_views.specs.Headline.{IsTheRun}
 use Rattle.mxf_read.specs.Gathering.{HandedBy, IsGatherFault, bytes_of, piece_limit}
 use Rattle.mxf_read.specs.declared.gathering.part.Part.{Part}
 use Rattle.mxf_read.specs.declared.gathering.part.Part.TheVariants as parts
-use Rattle.mxf_verify.specs.Verifying.{Source}
-use Rattle.mxf_verify.specs.Verifying.{Bytes, Saved}
+use Rattle.mxf_verify.specs.Verifying.{Source, Bytes, Saved}
 use Rattle.mxf_verify.specs.declared.verifying.VerifyFault.{VerifyFault}
 use Rattle.mxf_verify.specs.declared.verifying.VerifyFault.TheVariants as faults
 

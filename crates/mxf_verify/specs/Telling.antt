@@ -5,8 +5,7 @@ use Rattle.mxf_klv.specs.Parts.{NoteParts}
 use Rattle.mxf_klv.specs.Rising.{In}
 use Rattle.mxf_catalogue.specs.Content.{IsContent}
 use Rattle.mxf_catalogue.specs.Runs.{LiesIn}
-use Rattle.mxf_verify.specs.Verifying.{DiffersIn, IsHeldBy, IsSameIn, Source, TouchesIn}
-use Rattle.mxf_verify.specs.Verifying.{Saved}
+use Rattle.mxf_verify.specs.Verifying.{DiffersIn, IsHeldBy, IsSameIn, Source, TouchesIn, Saved}
 use Rattle.mxf_verify.specs.declared.told.Told.{Told}
 use Rattle.mxf_verify.specs.declared.saved.SavedTold.{SavedTold}
 

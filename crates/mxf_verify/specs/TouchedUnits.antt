@@ -1,6 +1,7 @@
 -- Which edit units a note has a byte of, found by going through their places (this project's profile). A law ties this
 -- to the relation.
-use Rattle.std.specs.Prelude.{◌==◌, ◌&&◌, ◌||◌, if◌then◌else◌, Bool, List, [], ◌∷◌, max, min, nat_lt, Option, None, Some}
+use Rattle.std.specs.Prelude.{◌==◌, ◌&&◌, ◌||◌, if◌then◌else◌, Bool, List, [], ◌∷◌, max, min, nat_lt, Option, None}
+use Rattle.std.specs.Prelude.{Some}
 use Rattle.mxf_klv.specs.Note.{covered_end}
 use Rattle.mxf_klv.specs.Parts.{NoteParts}
 use Rattle.mxf_units.specs.Units.{asked_end}

@@ -1,6 +1,6 @@
 -- Places of edit units, searched by what a note holds (this project's profile).
-use Rattle.std.specs.Prelude.{◌≡◌, ◌⊎◌, ◌+◌, ◌-◌, ◌^◌, ◌<◌, ◌≤◌, ℕ, min, nat_lt, unwrap_or, if◌then◌else◌}
-use Rattle.std.specs.Prelude.{Option, None, Some, List, length, slice_index, slice_index_or}
+use Rattle.std.specs.Prelude.{◌≡◌, ◌⊎◌, ◌+◌, ◌-◌, ◌^◌, ◌<◌, ◌≤◌, ℕ, min, nat_lt, unwrap_or, if◌then◌else◌, Option, None}
+use Rattle.std.specs.Prelude.{Some, List, length, slice_index, slice_index_or}
 use Rattle.std.specs.List.{AllWithin}
 use Rattle.mxf_klv.specs.Rising.{SameMembers}
 use Rattle.mxf_units.specs.declared.unit.Extent.{Extent}

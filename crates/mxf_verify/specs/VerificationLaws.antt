@@ -6,7 +6,8 @@ use Rattle.mxf_klv.specs.Rising.{In}
 use Rattle.mxf_catalogue.specs.Content.{IsCatalogue}
 use Rattle.mxf_catalogue.specs.Disputes.{IsClear}
 use Rattle.mxf_verify.specs.Verifications.{VerificationParts}
-use Rattle.mxf_verify.specs.Verifying.{IsCut, IsDiffering, IsHeldBy, IsUnknownByte, IsUnverifiedByte, IsVerified, Source}
+use Rattle.mxf_verify.specs.Verifying.{IsCut, IsDiffering, IsHeldBy, IsUnknownByte, IsUnverifiedByte, IsVerified}
+use Rattle.mxf_verify.specs.Verifying.{Source}
 
 -- Each note of the reference is clear: of a packet that was read whole, and no other shares a byte with it.
 abbrev pub AreAllClear : List NoteParts → Type 0

@@ -1,7 +1,7 @@
 -- A reference beside sources: what is the same, what differs, and what wasn't compared (this project's profile). Bytes
 -- are read by the notes of the reference: no packet is looked for in them.
-use Rattle.std.specs.Prelude.{◌≡◌, ◌+◌, ◌-◌, ◌<◌, ◌≤◌, ℕ, Bool, IsTrue, not, ◌&&◌}
-use Rattle.std.specs.Prelude.{if◌then◌else◌, List, ◌++◌, length, take, drop}
+use Rattle.std.specs.Prelude.{◌≡◌, ◌+◌, ◌-◌, ◌<◌, ◌≤◌, ℕ, Bool, IsTrue, not, ◌&&◌, if◌then◌else◌, List, ◌++◌, length}
+use Rattle.std.specs.Prelude.{take, drop}
 use Rattle.sha2.specs.Sha256.{sha256}
 use Rattle.mxf_klv.specs.Parts.{NoteParts}
 use Rattle.mxf_klv.specs.Ber.{length_bytes}

@@ -1,26 +1,22 @@
 -- The copies of the header metadata, once notes are there that begin where the others end, or above.
-use Rattle.mxf_views.proofs.Common.{◌≡◌, ℕ, ◌+◌, ◌-◌, ◌<◌, ◌≤◌, ◌⊎◌, true, false, cond, List, []}
-use Rattle.mxf_views.proofs.Common.{◌∷◌, ◌++◌, Option, Some, None, refl, sym, ap, subst, ◌∙◌, inl}
-use Rattle.mxf_views.proofs.Common.{inr, arith, get_or, length, eqb-true, ◌==◌, find, map, count_by}
-use Rattle.mxf_views.proofs.Common.{if◌then◌else◌, cons_option, filter_map, option_and_then, ◌^◌}
-use Rattle.mxf_views.proofs.Common.{false_from_ne_true, sum_by-append, NoteParts, end_of, In}
-use Rattle.mxf_views.proofs.Common.{lies_in, is_in_one, union_of, clear_notes, In-clear_notes}
-use Rattle.mxf_views.proofs.Common.{AreApart-clear_notes, CopiesRise, IsStart, copies_of, copy_from}
-use Rattle.mxf_views.proofs.Common.{copy_of, covered_of, has_metadata, is_preface_note, prefaces_of}
-use Rattle.mxf_views.proofs.Common.{zone_of, copy_by, MeetAt, clear_from, counted_above}
-use Rattle.mxf_views.proofs.Common.{PartitionParts, partition_at, partitions_of, sizes}
-use Rattle.mxf_views.proofs.Common.{length-filter_le, In-at, count_by-le-length, or_itself, EndsBy}
-use Rattle.mxf_views.proofs.Common.{IsOfNone, IsStarting, IsUnionAt, range-le, IsContent, IsNote}
-use Rattle.mxf_views.proofs.Common.{all-In, ltb-true, IsUnmet, SameOutside, slice_get, eqb-false}
-use Rattle.mxf_views.proofs.Common.{filter_map-append, get_or_from_slice_get, slice_get_within}
+use Rattle.mxf_views.proofs.Common.{◌≡◌, ℕ, ◌+◌, ◌-◌, ◌<◌, ◌≤◌, ◌⊎◌, true, false, cond, List, [], ◌∷◌, ◌++◌, Option}
+use Rattle.mxf_views.proofs.Common.{Some, None, refl, sym, ap, subst, ◌∙◌, inl, inr, arith, get_or, length, eqb-true}
+use Rattle.mxf_views.proofs.Common.{◌==◌, find, map, count_by, if◌then◌else◌, cons_option, filter_map, option_and_then}
+use Rattle.mxf_views.proofs.Common.{◌^◌, false_from_ne_true, sum_by-append, NoteParts, end_of, In, lies_in, is_in_one}
+use Rattle.mxf_views.proofs.Common.{union_of, clear_notes, In-clear_notes, AreApart-clear_notes, CopiesRise, IsStart}
+use Rattle.mxf_views.proofs.Common.{copies_of, copy_from, copy_of, covered_of, has_metadata, is_preface_note}
+use Rattle.mxf_views.proofs.Common.{prefaces_of, zone_of, copy_by, MeetAt, clear_from, counted_above, PartitionParts}
+use Rattle.mxf_views.proofs.Common.{partition_at, partitions_of, sizes, length-filter_le, In-at, count_by-le-length}
+use Rattle.mxf_views.proofs.Common.{or_itself, EndsBy, IsOfNone, IsStarting, IsUnionAt, range-le, IsContent, IsNote}
+use Rattle.mxf_views.proofs.Common.{all-In, ltb-true, IsUnmet, SameOutside, slice_get, eqb-false, filter_map-append}
+use Rattle.mxf_views.proofs.Common.{get_or_from_slice_get, slice_get_within}
 use Rattle.mxf_views.specs.declared.copy.CopyInfo.{CopyInfo}
 use Rattle.mxf_views.specs.Copies.{start_of}
 use Rattle.mxf_views.proofs.CopyLaws.{copy_there}
 use Rattle.mxf_views.proofs.CopyUpdates.{start_is_found, copies_by_notes, end-partition_at, or_of}
-use Rattle.mxf_views.proofs.PartitionSearch.{has_copy, copy_found, is_there, of_note, of_partition}
-use Rattle.mxf_views.proofs.PartitionSearch.{partition_found}
-use Rattle.mxf_views.proofs.AboveLaws.{no_bytes, clear_in_both, clear_of_both, new_are_clear}
-use Rattle.mxf_views.proofs.AboveLaws.{union_is_content, zone_from, zone_goes_on, zone_of_both}
+use Rattle.mxf_views.proofs.PartitionSearch.{has_copy, copy_found, is_there, of_note, of_partition, partition_found}
+use Rattle.mxf_views.proofs.AboveLaws.{no_bytes, clear_in_both, clear_of_both, new_are_clear, union_is_content}
+use Rattle.mxf_views.proofs.AboveLaws.{zone_from, zone_goes_on, zone_of_both}
 use Rattle.mxf_views.specs.KeptAbove.{CountsFit, counted_on, is_of, with_counts}
 use Rattle.mxf_views.specs.Spans.{size_of}
 use Rattle.mxf_views.proofs.CopyChanges.{same_apart, start_kept, unmet_stays}

@@ -1,16 +1,13 @@
 -- A content and notes that begin where it ends, or above: the clear notes of both are those of the one and then those
 -- of the other.
-use Rattle.mxf_views.proofs.Common.{◌≡◌, ℕ, ◌+◌, ◌-◌, ◌≤◌, ◌⊎◌, Bool, cond, List, [], ◌∷◌, ◌++◌}
-use Rattle.mxf_views.proofs.Common.{sym, ap, subst, ◌∙◌, inl, inr, arith, leb-true, le-leb, ◌↔◌}
-use Rattle.mxf_views.proofs.Common.{nat_le, count_by, and_from, and_parts, NoteParts, IsNote}
-use Rattle.mxf_views.proofs.Common.{end_of, In, AreReduced, IsCatalogue, IsContent, union_of}
-use Rattle.mxf_views.proofs.Common.{LiesIn, IsClear, clear_notes, lies_in, same_content}
-use Rattle.mxf_views.proofs.Common.{In-clear_notes, IsContent-clear_notes, zone_of, Option}
-use Rattle.mxf_views.proofs.Common.{filter_map, kept_among, MeetAt, clear_from, all-In, In-append}
-use Rattle.mxf_views.proofs.Common.{same_bool, filter-append, reduced_union, Covers, In-union_of}
-use Rattle.mxf_views.proofs.Common.{IsContent-union_of, filter_none, filter_all, covers_first}
-use Rattle.mxf_views.proofs.Common.{reduced_with, IsUnionAt, reduced_union-none, filter_alike}
-use Rattle.mxf_views.proofs.Common.{filter_map-append}
+use Rattle.mxf_views.proofs.Common.{◌≡◌, ℕ, ◌+◌, ◌-◌, ◌≤◌, ◌⊎◌, Bool, cond, List, [], ◌∷◌, ◌++◌, sym, ap, subst, ◌∙◌}
+use Rattle.mxf_views.proofs.Common.{inl, inr, arith, leb-true, le-leb, ◌↔◌, nat_le, count_by, and_from, and_parts}
+use Rattle.mxf_views.proofs.Common.{NoteParts, IsNote, end_of, In, AreReduced, IsCatalogue, IsContent, union_of, LiesIn}
+use Rattle.mxf_views.proofs.Common.{IsClear, clear_notes, lies_in, same_content, In-clear_notes, IsContent-clear_notes}
+use Rattle.mxf_views.proofs.Common.{zone_of, Option, filter_map, kept_among, MeetAt, clear_from, all-In, In-append}
+use Rattle.mxf_views.proofs.Common.{same_bool, filter-append, reduced_union, Covers, In-union_of, IsContent-union_of}
+use Rattle.mxf_views.proofs.Common.{filter_none, filter_all, covers_first, reduced_with, IsUnionAt, reduced_union-none}
+use Rattle.mxf_views.proofs.Common.{filter_alike, filter_map-append}
 use Rattle.mxf_catalogue.specs.declared.run.Run.{Run}
 use Rattle.mxf_catalogue.proofs.HeadLaws.{reduced-same, reduced_union-is}
 use Rattle.mxf_catalogue.proofs.ClearLaws.{clear_in_union, contents_append}

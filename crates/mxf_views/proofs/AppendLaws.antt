@@ -1,7 +1,8 @@
 -- What is kept of notes, put behind what is there one after another.
 use Rattle.mxf_views.proofs.Common.{◌≡◌, ◌∙◌, ◌+◌, ◌++◌, ◌≤◌, List, [], ◌∷◌, Option, None, Some, ap, append-nil}
 use Rattle.mxf_views.proofs.Common.{append_assoc, arith, refl, sym, cons_option, count_by, filter_map, length}
-use Rattle.mxf_views.proofs.Common.{vec_capacity, vec_len, Global, Vec, NoteParts, count_by-cons, is_kept, is_some, tally}
+use Rattle.mxf_views.proofs.Common.{vec_capacity, vec_len, Global, Vec, NoteParts, count_by-cons, is_kept, is_some}
+use Rattle.mxf_views.proofs.Common.{tally}
 use Rattle.mxf_views.specs.Kept.{IsAppended}
 
 module _ {A : Type 0} (take : NoteParts → Option A) where

@@ -1,9 +1,7 @@
 -- The preferred copy of those seen so far.
-use Rattle.mxf_views.proofs.Common.{◌≡◌, ◌<◌, ◌⊎◌, true, false, List, [], ◌∷◌, ◌++◌, Option, Some}
-use Rattle.mxf_views.proofs.Common.{None, refl, cond, append_assoc, append-nil, subst, ◌∙◌, sym}
-use Rattle.mxf_views.proofs.Common.{inl, inr, arith, ℕ, ◌↔◌, ◌&&◌, is_some, In, best_of}
-use Rattle.mxf_views.proofs.Common.{preferred_of, rank, better, is_candidate, IsBest, IsPreferred}
-use Rattle.mxf_views.proofs.Common.{In-end}
+use Rattle.mxf_views.proofs.Common.{◌≡◌, ◌<◌, ◌⊎◌, true, false, List, [], ◌∷◌, ◌++◌, Option, Some, None, refl, cond}
+use Rattle.mxf_views.proofs.Common.{append_assoc, append-nil, subst, ◌∙◌, sym, inl, inr, arith, ℕ, ◌↔◌, ◌&&◌, is_some}
+use Rattle.mxf_views.proofs.Common.{In, best_of, preferred_of, rank, better, is_candidate, IsBest, IsPreferred, In-end}
 use Rattle.mxf_views.specs.declared.copy.CopyInfo.{CopyInfo}
 use Rattle.mxf_views.specs.Copies.{is_above, IsNotAbove, IsCandidate}
 

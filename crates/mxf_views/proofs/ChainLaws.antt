@@ -1,15 +1,13 @@
 -- Whether the partitions hang together.
-use Rattle.mxf_views.proofs.Common.{◌≡◌, ◌<◌, ◌≤◌, Bool, true, false, List, [], ◌∷◌, refl, sym, ap}
-use Rattle.mxf_views.proofs.Common.{subst, ◌∙◌, inl, inr, arith, eqb-true, eq-eqb, ◌↔◌, ◌&&◌, ◌||◌}
-use Rattle.mxf_views.proofs.Common.{◌==◌, not, if◌then◌else◌, is_some, count_by, list_all, and_from}
-use Rattle.mxf_views.proofs.Common.{false_from_ne_true, and_parts, NoteParts, kind_of, In}
-use Rattle.mxf_views.proofs.Common.{part_and_status, IsContent, IsClear, clear_notes}
-use Rattle.mxf_views.proofs.Common.{In-clear_notes, PartitionParts, AreInOrder, chain_of, is_footer}
-use Rattle.mxf_views.proofs.Common.{is_greatest, is_header, is_linked, is_no_unreadable_pack}
-use Rattle.mxf_views.proofs.Common.{link_of, partition_at, partitions_of, count_by-cons, tally}
-use Rattle.mxf_views.proofs.Common.{list_any-In, In-filter_map, all-In, In-list_all, not-true-false}
-use Rattle.mxf_views.proofs.Common.{clear-alone, IsPartitionKind, StandsAt, IsLink, HangTogether}
-use Rattle.mxf_views.proofs.Common.{count-none, list_all-In, kind_says, kind_tells, some_is}
+use Rattle.mxf_views.proofs.Common.{◌≡◌, ◌<◌, ◌≤◌, Bool, true, false, List, [], ◌∷◌, refl, sym, ap, subst, ◌∙◌, inl}
+use Rattle.mxf_views.proofs.Common.{inr, arith, eqb-true, eq-eqb, ◌↔◌, ◌&&◌, ◌||◌, ◌==◌, not, if◌then◌else◌, is_some}
+use Rattle.mxf_views.proofs.Common.{count_by, list_all, and_from, false_from_ne_true, and_parts, NoteParts, kind_of, In}
+use Rattle.mxf_views.proofs.Common.{part_and_status, IsContent, IsClear, clear_notes, In-clear_notes, PartitionParts}
+use Rattle.mxf_views.proofs.Common.{AreInOrder, chain_of, is_footer, is_greatest, is_header, is_linked}
+use Rattle.mxf_views.proofs.Common.{is_no_unreadable_pack, link_of, partition_at, partitions_of, count_by-cons, tally}
+use Rattle.mxf_views.proofs.Common.{list_any-In, In-filter_map, all-In, In-list_all, not-true-false, clear-alone}
+use Rattle.mxf_views.proofs.Common.{IsPartitionKind, StandsAt, IsLink, HangTogether, count-none, list_all-In, kind_says}
+use Rattle.mxf_views.proofs.Common.{kind_tells, some_is}
 use Rattle.mxf_sets.specs.declared.pack.part.PackPart.{PackPart}
 use Rattle.mxf_views.specs.declared.chain.Link.TheVariants.{First, Held}
 use Rattle.mxf_views.specs.declared.chain.Chain.TheVariants.{Whole}

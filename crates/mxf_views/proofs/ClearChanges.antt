@@ -1,8 +1,8 @@
 -- What adding a note changes among the clear notes, and the clear notes at their offsets.
-use Rattle.mxf_views.proofs.Common.{◌≡◌, ℕ, ◌<◌, ◌≤◌, ◌⊎◌, true, List, [], ◌∷◌, refl, sym, subst}
-use Rattle.mxf_views.proofs.Common.{◌∙◌, inl, inr, arith, ◌↔◌, max, lt-ltb, NoteParts, end_of, In}
-use Rattle.mxf_views.proofs.Common.{IsClear, SharesByte, clear_notes, In-clear_notes, IsHull}
-use Rattle.mxf_views.proofs.Common.{is_outside, cases_lt, min, AreReduced, has_note, reduced_with}
+use Rattle.mxf_views.proofs.Common.{◌≡◌, ℕ, ◌<◌, ◌≤◌, ◌⊎◌, true, List, [], ◌∷◌, refl, sym, subst, ◌∙◌, inl, inr, arith}
+use Rattle.mxf_views.proofs.Common.{◌↔◌, max, lt-ltb, NoteParts, end_of, In, IsClear, SharesByte, clear_notes}
+use Rattle.mxf_views.proofs.Common.{In-clear_notes, IsHull, is_outside, cases_lt, min, AreReduced, has_note}
+use Rattle.mxf_views.proofs.Common.{reduced_with}
 use Rattle.mxf_catalogue.proofs.HeadLaws.{In-reduced_with}
 use Rattle.mxf_catalogue.proofs.DisputeLaws.{SharesByte-symmetric}
 use Rattle.mxf_catalogue.specs.NoteLists.{touching}

@@ -1,12 +1,10 @@
 -- What leaves a copy of the header metadata as it is: a change in a range that doesn't meet it.
-use Rattle.mxf_views.proofs.Common.{◌≡◌, ℕ, ◌+◌, ◌<◌, ◌≤◌, ◌⊎◌, true, List, Some, None, refl, sym}
-use Rattle.mxf_views.proofs.Common.{ap, ◌∙◌, inl, inr, arith, ◌↔◌, ◌==◌, count_by, NoteParts}
-use Rattle.mxf_views.proofs.Common.{end_of, In, IsContent, IsClear, clear_notes, lies_in}
-use Rattle.mxf_views.proofs.Common.{same_content, In-clear_notes, clear_same, IsContent-clear_notes}
-use Rattle.mxf_views.proofs.Common.{PartitionParts, IsStart, copy_from, copy_of, is_fill_note}
-use Rattle.mxf_views.proofs.Common.{is_preface_note, is_readable_primer, zone_of, sizes, In-filter}
-use Rattle.mxf_views.proofs.Common.{and_parts, IsContent-filter, cases_lt, cases_order}
-use Rattle.mxf_views.proofs.Common.{part_and_status, partition_at, partitions_of, IsUnmet}
+use Rattle.mxf_views.proofs.Common.{◌≡◌, ℕ, ◌+◌, ◌<◌, ◌≤◌, ◌⊎◌, true, List, Some, None, refl, sym, ap, ◌∙◌, inl, inr}
+use Rattle.mxf_views.proofs.Common.{arith, ◌↔◌, ◌==◌, count_by, NoteParts, end_of, In, IsContent, IsClear, clear_notes}
+use Rattle.mxf_views.proofs.Common.{lies_in, same_content, In-clear_notes, clear_same, IsContent-clear_notes}
+use Rattle.mxf_views.proofs.Common.{PartitionParts, IsStart, copy_from, copy_of, is_fill_note, is_preface_note}
+use Rattle.mxf_views.proofs.Common.{is_readable_primer, zone_of, sizes, In-filter, and_parts, IsContent-filter}
+use Rattle.mxf_views.proofs.Common.{cases_lt, cases_order, part_and_status, partition_at, partitions_of, IsUnmet}
 use Rattle.mxf_views.proofs.Common.{SameOutside, less_by_offset, IsInSpan}
 use Rattle.std.proofs.Common.{leb-true}
 use Rattle.mxf_views.specs.Copies.{start_of}

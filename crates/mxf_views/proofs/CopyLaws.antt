@@ -1,16 +1,13 @@
 -- Copies of the header metadata and their sets.
-use Rattle.mxf_views.proofs.Common.{◌≡◌, ℕ, ◌+◌, ◌<◌, ◌≤◌, true, List, Option, Some, None, refl}
-use Rattle.mxf_views.proofs.Common.{sym, ap, subst, ◌∙◌, arith, eqb-true, eq-eqb, ◌↔◌, ◌==◌, nat_le}
-use Rattle.mxf_views.proofs.Common.{count_by, filter, find, range_with_len, ltb-true, lt-ltb}
-use Rattle.mxf_views.proofs.Common.{and_from, and_parts, NoteParts, end_of, kind_of, In, IsContent}
-use Rattle.mxf_views.proofs.Common.{AreApart, IsClear, clear_notes, In-clear_notes}
-use Rattle.mxf_views.proofs.Common.{AreApart-clear_notes, AreApart-filter, PartitionParts}
-use Rattle.mxf_views.proofs.Common.{partitions_of, IsCopy, copies_of, copy_from, prefaces_of}
-use Rattle.mxf_views.proofs.Common.{copy_of, covered_of, has_metadata, is_preface_note, is_set_note}
-use Rattle.mxf_views.proofs.Common.{CopiesRise, sets_found, sets_from, zone_of, is_in_one, lies_in}
-use Rattle.mxf_views.proofs.Common.{In-filter, In-map, found-In, none_found, same_bool}
-use Rattle.mxf_views.proofs.Common.{length-filter, AreSoMany, CountsZone, IsPrefaceIn, IsSetKind}
-use Rattle.mxf_views.proofs.Common.{IsStartFound, rises-map, rises-filter, equals_itself}
+use Rattle.mxf_views.proofs.Common.{◌≡◌, ℕ, ◌+◌, ◌<◌, ◌≤◌, true, List, Option, Some, None, refl, sym, ap, subst, ◌∙◌}
+use Rattle.mxf_views.proofs.Common.{arith, eqb-true, eq-eqb, ◌↔◌, ◌==◌, nat_le, count_by, filter, find, range_with_len}
+use Rattle.mxf_views.proofs.Common.{ltb-true, lt-ltb, and_from, and_parts, NoteParts, end_of, kind_of, In, IsContent}
+use Rattle.mxf_views.proofs.Common.{AreApart, IsClear, clear_notes, In-clear_notes, AreApart-clear_notes}
+use Rattle.mxf_views.proofs.Common.{AreApart-filter, PartitionParts, partitions_of, IsCopy, copies_of, copy_from}
+use Rattle.mxf_views.proofs.Common.{prefaces_of, copy_of, covered_of, has_metadata, is_preface_note, is_set_note}
+use Rattle.mxf_views.proofs.Common.{CopiesRise, sets_found, sets_from, zone_of, is_in_one, lies_in, In-filter, In-map}
+use Rattle.mxf_views.proofs.Common.{found-In, none_found, same_bool, length-filter, AreSoMany, CountsZone, IsPrefaceIn}
+use Rattle.mxf_views.proofs.Common.{IsSetKind, IsStartFound, rises-map, rises-filter, equals_itself}
 use Rattle.mxf_views.specs.declared.copy.CopyInfo.{CopyInfo}
 use Rattle.std.proofs.Common.{leb-true, le-leb}
 use Rattle.mxf_views.specs.Copies.{sets_of, start_of, IsCopyOf, IsSetOf, sets_in}

@@ -1,20 +1,16 @@
 -- The copies of the header metadata once a note was added: those elsewhere are counted anew where they may have
 -- changed.
-use Rattle.mxf_views.proofs.Common.{◌+◌, count_by, count_by-cons, tally, copies_among}
-use Rattle.mxf_views.proofs.Common.{kept_partition, option_map, SharesByte, kept_at, outside, ◌≡◌}
-use Rattle.mxf_views.proofs.Common.{ℕ, length, ◌-◌, ◌<◌, ◌≤◌, ◌⊎◌, Bool, true, false, cond, List}
-use Rattle.mxf_views.proofs.Common.{[], ◌∷◌, Option, Some, None, refl, sym, ap, subst, ◌∙◌, inl}
-use Rattle.mxf_views.proofs.Common.{inr, arith, eqb-true, ◌||◌, ◌==◌, nat_lt, find, filter, map}
-use Rattle.mxf_views.proofs.Common.{if◌then◌else◌, cons_option, filter_map, option_and_then}
-use Rattle.mxf_views.proofs.Common.{ltb-true, and_parts, NoteParts, kind_of, end_of, In, IsContent}
-use Rattle.mxf_views.proofs.Common.{reduced_with, IsClear, clear_notes, In-clear_notes, CopiesRise}
-use Rattle.mxf_views.proofs.Common.{copies_of, copy_of, has_metadata, is_fill, is_fill_note}
-use Rattle.mxf_views.proofs.Common.{is_primer, is_readable_primer, IsHull, copies_followed, copy_by}
-use Rattle.mxf_views.proofs.Common.{has_some_metadata, states_metadata, is_outside, renewed}
-use Rattle.mxf_views.proofs.Common.{PartitionParts, partition_at, partitions_of, found-In}
-use Rattle.mxf_views.proofs.Common.{and_cases, IsContent-reduced_with, can_bring_start, or_itself}
-use Rattle.mxf_views.proofs.Common.{with_found, rises-map, rises-filter, IsNew, clear_after}
-use Rattle.mxf_views.proofs.Common.{IsUnmet, SameOutside, in_numbers}
+use Rattle.mxf_views.proofs.Common.{◌+◌, count_by, count_by-cons, tally, copies_among, kept_partition, option_map}
+use Rattle.mxf_views.proofs.Common.{SharesByte, kept_at, outside, ◌≡◌, ℕ, length, ◌-◌, ◌<◌, ◌≤◌, ◌⊎◌, Bool, true, false}
+use Rattle.mxf_views.proofs.Common.{cond, List, [], ◌∷◌, Option, Some, None, refl, sym, ap, subst, ◌∙◌, inl, inr, arith}
+use Rattle.mxf_views.proofs.Common.{eqb-true, ◌||◌, ◌==◌, nat_lt, find, filter, map, if◌then◌else◌, cons_option}
+use Rattle.mxf_views.proofs.Common.{filter_map, option_and_then, ltb-true, and_parts, NoteParts, kind_of, end_of, In}
+use Rattle.mxf_views.proofs.Common.{IsContent, reduced_with, IsClear, clear_notes, In-clear_notes, CopiesRise}
+use Rattle.mxf_views.proofs.Common.{copies_of, copy_of, has_metadata, is_fill, is_fill_note, is_primer}
+use Rattle.mxf_views.proofs.Common.{is_readable_primer, IsHull, copies_followed, copy_by, has_some_metadata}
+use Rattle.mxf_views.proofs.Common.{states_metadata, is_outside, renewed, PartitionParts, partition_at, partitions_of}
+use Rattle.mxf_views.proofs.Common.{found-In, and_cases, IsContent-reduced_with, can_bring_start, or_itself, with_found}
+use Rattle.mxf_views.proofs.Common.{rises-map, rises-filter, IsNew, clear_after, IsUnmet, SameOutside, in_numbers}
 use Rattle.mxf_views.specs.declared.copy.CopyInfo.{CopyInfo}
 use Rattle.std.proofs.Common.{ltb-false}
 use Rattle.mxf_views.specs.Copies.{start_of}

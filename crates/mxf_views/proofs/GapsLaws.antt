@@ -1,11 +1,9 @@
 -- The gaps of a content are its maximal ranges of offsets that no note covers.
-use Rattle.mxf_views.proofs.Common.{◌≡◌, ℕ, ◌+◌, ◌-◌, ◌^◌, ◌<◌, ◌≤◌, ◌⊎◌, true, false, List, []}
-use Rattle.mxf_views.proofs.Common.{◌∷◌, refl, ap, subst, length, inl, inr, arith, ◌↔◌, max, cond}
-use Rattle.mxf_views.proofs.Common.{nat_lt, ltb-true, NoteParts, IsNote, end_of, greatest_end, In}
-use Rattle.mxf_views.proofs.Common.{less_in, IsCatalogue, IsContent, gaps_of, LiesIn, AreMaximal}
-use Rattle.mxf_views.proofs.Common.{all-In, covered_end, note_total, gaps_from, AreGaps}
-use Rattle.mxf_views.proofs.Common.{covers_first, has_byte, cases_lt, IsCovered, offset_le}
-use Rattle.mxf_views.proofs.Common.{IsWithin, AreMaximal-lower}
+use Rattle.mxf_views.proofs.Common.{◌≡◌, ℕ, ◌+◌, ◌-◌, ◌^◌, ◌<◌, ◌≤◌, ◌⊎◌, true, false, List, [], ◌∷◌, refl, ap, subst}
+use Rattle.mxf_views.proofs.Common.{length, inl, inr, arith, ◌↔◌, max, cond, nat_lt, ltb-true, NoteParts, IsNote}
+use Rattle.mxf_views.proofs.Common.{end_of, greatest_end, In, less_in, IsCatalogue, IsContent, gaps_of, LiesIn}
+use Rattle.mxf_views.proofs.Common.{AreMaximal, all-In, covered_end, note_total, gaps_from, AreGaps, covers_first}
+use Rattle.mxf_views.proofs.Common.{has_byte, cases_lt, IsCovered, offset_le, IsWithin, AreMaximal-lower}
 use Rattle.mxf_catalogue.specs.declared.run.Run.{Run}
 use Rattle.std.proofs.Common.{ltb-false}
 use Rattle.mxf_catalogue.proofs.RunBounds.{length_maximal}

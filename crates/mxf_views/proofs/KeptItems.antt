@@ -1,17 +1,14 @@
 -- What is kept of the clear notes: lists that rise by a key of each element, which is the offset of its note; and what
 -- adding a note changes of them.
-use Rattle.mxf_views.proofs.Common.{◌≡◌, ◌≢◌, ℕ, ◌≤◌, ◌⊎◌, true, List, Option, Some, None, refl}
-use Rattle.mxf_views.proofs.Common.{sym, ap, subst, ◌∙◌, inl, inr, arith, eqb-true, eq-eqb, ◌↔◌}
-use Rattle.mxf_views.proofs.Common.{◌==◌, find, option_and_then, NoteParts, end_of, In, IsContent}
-use Rattle.mxf_views.proofs.Common.{reduced_with, IsClear, clear_notes, In-clear_notes, clear-alone}
-use Rattle.mxf_views.proofs.Common.{AreApart-clear_notes, IsHull, In-filter, In-filter_map}
-use Rattle.mxf_views.proofs.Common.{found-In, none_found, find-none, find-only}
-use Rattle.mxf_views.proofs.Common.{IsContent-reduced_with, clear_at-found, IsNew, clear_after}
-use Rattle.mxf_views.proofs.Common.{rises-filter, is_outside, followed, kept_among, kept_at}
-use Rattle.mxf_views.proofs.Common.{outside, with_found, with_keyed, Bool, false, [], ◌∷◌, cond}
-use Rattle.mxf_views.proofs.Common.{cons_option, filter, filter_map, is_kept, is_some, offset_if}
-use Rattle.mxf_views.proofs.Common.{In-map, SharesByte, map, option_map, rises-map, IsRisingBy}
-use Rattle.mxf_views.proofs.Common.{same_by_members}
+use Rattle.mxf_views.proofs.Common.{◌≡◌, ◌≢◌, ℕ, ◌≤◌, ◌⊎◌, true, List, Option, Some, None, refl, sym, ap, subst, ◌∙◌}
+use Rattle.mxf_views.proofs.Common.{inl, inr, arith, eqb-true, eq-eqb, ◌↔◌, ◌==◌, find, option_and_then, NoteParts}
+use Rattle.mxf_views.proofs.Common.{end_of, In, IsContent, reduced_with, IsClear, clear_notes, In-clear_notes}
+use Rattle.mxf_views.proofs.Common.{clear-alone, AreApart-clear_notes, IsHull, In-filter, In-filter_map, found-In}
+use Rattle.mxf_views.proofs.Common.{none_found, find-none, find-only, IsContent-reduced_with, clear_at-found, IsNew}
+use Rattle.mxf_views.proofs.Common.{clear_after, rises-filter, is_outside, followed, kept_among, kept_at, outside}
+use Rattle.mxf_views.proofs.Common.{with_found, with_keyed, Bool, false, [], ◌∷◌, cond, cons_option, filter, filter_map}
+use Rattle.mxf_views.proofs.Common.{is_kept, is_some, offset_if, In-map, SharesByte, map, option_map, rises-map}
+use Rattle.mxf_views.proofs.Common.{IsRisingBy, same_by_members}
 use Rattle.mxf_catalogue.proofs.ApartLaws.{apart_rises}
 use Rattle.mxf_klv.proofs.RisingBy.{rises-filter_map}
 use Rattle.mxf_views.specs.Kept.{notes_at}

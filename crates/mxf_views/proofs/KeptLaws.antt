@@ -1,15 +1,12 @@
 -- What is kept of a content, and what an addition makes of it.
-use Rattle.mxf_views.proofs.Common.{◌≡◌, ℕ, Bool, List, [], ◌∷◌, Option, None, Some, refl, sym, ap}
-use Rattle.mxf_views.proofs.Common.{subst, ◌∙◌, true, false, NoteParts, clear_notes, copies_of}
-use Rattle.mxf_views.proofs.Common.{KeptParts, copies_followed, followed, kept_among, kept_at}
-use Rattle.mxf_views.proofs.Common.{kept_partition, kept_random_index_pack, kept_segment}
-use Rattle.mxf_views.proofs.Common.{kept_unreadable_pack, reaches_of, partition_at, partitions_of}
-use Rattle.mxf_views.proofs.Common.{not, placed_segment, segments_of, kept_of, can_bring_start}
-use Rattle.mxf_views.proofs.Common.{nothing_kept, map, cons_option, find, ◌==◌, filter_map, In, inl}
-use Rattle.mxf_views.proofs.Common.{inr, IsContent, IsNonDecreasingBy, RiseBy, PartitionParts}
-use Rattle.mxf_views.proofs.Common.{SegmentAtParts, option_map, outside, never_falls}
-use Rattle.mxf_views.proofs.Common.{is_no_unreadable_pack, is_outside, is_rip_note, rises-filter}
-use Rattle.mxf_views.proofs.Common.{cond, filter, is_kept, is_some, partitions_among}
+use Rattle.mxf_views.proofs.Common.{◌≡◌, ℕ, Bool, List, [], ◌∷◌, Option, None, Some, refl, sym, ap, subst, ◌∙◌, true}
+use Rattle.mxf_views.proofs.Common.{false, NoteParts, clear_notes, copies_of, KeptParts, copies_followed, followed}
+use Rattle.mxf_views.proofs.Common.{kept_among, kept_at, kept_partition, kept_random_index_pack, kept_segment}
+use Rattle.mxf_views.proofs.Common.{kept_unreadable_pack, reaches_of, partition_at, partitions_of, not, placed_segment}
+use Rattle.mxf_views.proofs.Common.{segments_of, kept_of, can_bring_start, nothing_kept, map, cons_option, find, ◌==◌}
+use Rattle.mxf_views.proofs.Common.{filter_map, In, inl, inr, IsContent, IsNonDecreasingBy, RiseBy, PartitionParts}
+use Rattle.mxf_views.proofs.Common.{SegmentAtParts, option_map, outside, never_falls, is_no_unreadable_pack, is_outside}
+use Rattle.mxf_views.proofs.Common.{is_rip_note, rises-filter, cond, filter, is_kept, is_some, partitions_among}
 use Rattle.mxf_views.proofs.Common.{segments_among, offset_if, in_numbers, without_entries}
 use Rattle.mxf_views.specs.declared.copy.CopyInfo.{CopyInfo}
 use Rattle.mxf_views.specs.Kept.{notes_at, HasArrived}

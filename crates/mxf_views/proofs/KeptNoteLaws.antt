@@ -1,12 +1,9 @@
 -- What is kept of a note, by its kind, is what each list keeps of it.
-use Rattle.mxf_views.proofs.Common.{◌≡◌, false, Option, None, Some, ap, refl, sym, is_some, not}
-use Rattle.mxf_views.proofs.Common.{option_map, ◌||◌, kind_of, NoteParts, PartitionParts}
-use Rattle.mxf_views.proofs.Common.{SegmentAtParts, part_and_status, partition_at}
-use Rattle.mxf_views.proofs.Common.{is_no_unreadable_pack, is_rip, is_rip_note, is_segment}
-use Rattle.mxf_views.proofs.Common.{kept_partition, kept_segment, kept_random_index_pack}
-use Rattle.mxf_views.proofs.Common.{kept_unreadable_pack, offset_if, partition_in}
-use Rattle.mxf_views.proofs.Common.{random_index_pack_in, segment_in, unreadable_pack_in}
-use Rattle.mxf_views.proofs.Common.{in_numbers, without_entries}
+use Rattle.mxf_views.proofs.Common.{◌≡◌, false, Option, None, Some, ap, refl, sym, is_some, not, option_map, ◌||◌}
+use Rattle.mxf_views.proofs.Common.{kind_of, NoteParts, PartitionParts, SegmentAtParts, part_and_status, partition_at}
+use Rattle.mxf_views.proofs.Common.{is_no_unreadable_pack, is_rip, is_rip_note, is_segment, kept_partition}
+use Rattle.mxf_views.proofs.Common.{kept_segment, kept_random_index_pack, kept_unreadable_pack, offset_if, partition_in}
+use Rattle.mxf_views.proofs.Common.{random_index_pack_in, segment_in, unreadable_pack_in, in_numbers, without_entries}
 use Rattle.mxf_klv.specs.declared.kinds.Kind.{Kind}
 use Rattle.mxf_views.specs.KeptNotes.{kept_by_kind, kept_note}
 use Rattle.mxf_views.specs.declared.kept.noted.Kept.{Kept}

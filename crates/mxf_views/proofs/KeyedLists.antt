@@ -1,10 +1,10 @@
 -- Lists that rise by a key of each element: searched, and with another element in its place.
-use Rattle.mxf_views.proofs.Common.{◌≡◌, ◌≢◌, ℕ, zero, suc, ◌+◌, ◌<◌, ◌≤◌, ◌⊎◌, true, false, cond, List, []}
-use Rattle.mxf_views.proofs.Common.{◌∷◌, Option, Some, None, refl, sym, ap, ◌∙◌, inl, inr, arith, eqb-true, eq-eqb}
-use Rattle.mxf_views.proofs.Common.{◌↔◌, ◌==◌, find, get_or, insert, length, list_any, nat_lt, AllWithin, ltb-true}
-use Rattle.mxf_views.proofs.Common.{lt-ltb, ltb-false, false_from_ne_true, and_from, and_parts, In, IsNonDecreasingBy}
-use Rattle.mxf_views.proofs.Common.{In-at, Contains-from_In, all-In, find-none, find-only, list_any-In, never_falls}
-use Rattle.mxf_views.proofs.Common.{cases_lt, one_by_key, same_bool, lies_between, with_found, with_keyed, RiseBy}
+use Rattle.mxf_views.proofs.Common.{◌≡◌, ◌≢◌, ℕ, zero, suc, ◌+◌, ◌<◌, ◌≤◌, ◌⊎◌, true, false, cond, List, [], ◌∷◌}
+use Rattle.mxf_views.proofs.Common.{Option, Some, None, refl, sym, ap, ◌∙◌, inl, inr, arith, eqb-true, eq-eqb, ◌↔◌}
+use Rattle.mxf_views.proofs.Common.{◌==◌, find, get_or, insert, length, list_any, nat_lt, AllWithin, ltb-true, lt-ltb}
+use Rattle.mxf_views.proofs.Common.{ltb-false, false_from_ne_true, and_from, and_parts, In, IsNonDecreasingBy, In-at}
+use Rattle.mxf_views.proofs.Common.{Contains-from_In, all-In, find-none, find-only, list_any-In, never_falls, cases_lt}
+use Rattle.mxf_views.proofs.Common.{one_by_key, same_bool, lies_between, with_found, with_keyed, RiseBy}
 use Rattle.mxf_klv.proofs.Lists.{all_from_In}
 use Rattle.mxf_klv.proofs.RisingBy.{IsRisingBy, last_above}
 

@@ -1,7 +1,6 @@
 -- What the tests of kinds say.
-use Rattle.mxf_views.proofs.Common.{◌≡◌, true, refl, ap, ◌↔◌, is_fill, is_primer, is_segment}
-use Rattle.mxf_views.proofs.Common.{is_rip, IsSetKind, is_set, preface, identification, storage}
-use Rattle.mxf_views.proofs.Common.{material_package, source_package, raw_set}
+use Rattle.mxf_views.proofs.Common.{◌≡◌, true, refl, ap, ◌↔◌, is_fill, is_primer, is_segment, is_rip, IsSetKind, is_set}
+use Rattle.mxf_views.proofs.Common.{preface, identification, storage, material_package, source_package, raw_set}
 use Rattle.mxf_klv.specs.declared.kinds.Kind.{Kind}
 use Rattle.mxf_views.specs.Copies.{is_preface}
 use Rattle.mxf_klv.specs.declared.kinds.Kind.TheVariants as kinds

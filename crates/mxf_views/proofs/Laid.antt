@@ -1,13 +1,11 @@
 -- Notes of packets that are laid one after another: each is clear, and what a zone has of them.
-use Rattle.mxf_views.proofs.Common.{◌≡◌, ℕ, ◌+◌, ◌≤◌, Bool, true, false, cond, ◌&&◌, List, [], ◌∷◌}
-use Rattle.mxf_views.proofs.Common.{◌++◌, length, filter, filter_map, None, Result, is_some, refl}
-use Rattle.mxf_views.proofs.Common.{AllByRecursion, cons_option, option_map, result_ok, sym, ◌∙◌}
-use Rattle.mxf_views.proofs.Common.{ap, subst, arith, append_assoc, sum_by-cons, kind_of, note_of}
-use Rattle.mxf_views.proofs.Common.{end_of, size_of, PacketParts, NoteParts, notes_from, pack_at}
-use Rattle.mxf_views.proofs.Common.{primer_at, rip_at, read_as, is_primer, is_readable_primer}
-use Rattle.mxf_views.proofs.Common.{pack_of, partition_at, partitions_of, is_rip, rip_in}
-use Rattle.mxf_views.proofs.Common.{partition_read, partitions_read, read_pack, sizes, lies_in}
-use Rattle.mxf_views.proofs.Common.{total_of, lt-leb, filter-append, keeps, value_as, clear-laid}
+use Rattle.mxf_views.proofs.Common.{◌≡◌, ℕ, ◌+◌, ◌≤◌, Bool, true, false, cond, ◌&&◌, List, [], ◌∷◌, ◌++◌, length}
+use Rattle.mxf_views.proofs.Common.{filter, filter_map, None, Result, is_some, refl, AllByRecursion, cons_option}
+use Rattle.mxf_views.proofs.Common.{option_map, result_ok, sym, ◌∙◌, ap, subst, arith, append_assoc, sum_by-cons}
+use Rattle.mxf_views.proofs.Common.{kind_of, note_of, end_of, size_of, PacketParts, NoteParts, notes_from, pack_at}
+use Rattle.mxf_views.proofs.Common.{primer_at, rip_at, read_as, is_primer, is_readable_primer, pack_of, partition_at}
+use Rattle.mxf_views.proofs.Common.{partitions_of, is_rip, rip_in, partition_read, partitions_read, read_pack, sizes}
+use Rattle.mxf_views.proofs.Common.{lies_in, total_of, lt-leb, filter-append, keeps, value_as, clear-laid}
 use Rattle.std.proofs.Common.{le-leb}
 use Rattle.mxf_views.specs.Records.{read_rip, read_primer}
 use Rattle.mxf_catalogue.proofs.ClearLaws.{end_of-note_of}

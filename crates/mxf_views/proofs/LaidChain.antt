@@ -1,13 +1,11 @@
 -- The links of partitions that rise, each of which names the one before it: they are those of a reading from the front.
-use Rattle.mxf_views.proofs.Common.{◌≡◌, ℕ, ◌+◌, ◌<◌, ◌≤◌, Bool, true, false, cond, not, ◌||◌, ◌==◌}
-use Rattle.mxf_views.proofs.Common.{nat_lt, List, [], ◌∷◌, ◌++◌, ◌⊎◌, find, count_by, Option, None}
-use Rattle.mxf_views.proofs.Common.{Some, is_some, refl, AllByRecursion, list_all, option_map, sym}
-use Rattle.mxf_views.proofs.Common.{◌∙◌, ap, subst, inl, inr, arith, eq-eqb, ltb-true, and_from}
-use Rattle.mxf_views.proofs.Common.{false_from_ne_true, sum_by-append, In, PartitionParts}
-use Rattle.mxf_views.proofs.Common.{is_footer, is_greatest, is_header, is_linked, link_at, link_of}
-use Rattle.mxf_views.proofs.Common.{count_by-cons, tally, list_any-In, In-list_all, all-In}
-use Rattle.mxf_views.proofs.Common.{all_from_In, IsGreatestBelow, link_read_at, links_read}
-use Rattle.mxf_views.proofs.Common.{count-none, or_right, all_push}
+use Rattle.mxf_views.proofs.Common.{◌≡◌, ℕ, ◌+◌, ◌<◌, ◌≤◌, Bool, true, false, cond, not, ◌||◌, ◌==◌, nat_lt, List, []}
+use Rattle.mxf_views.proofs.Common.{◌∷◌, ◌++◌, ◌⊎◌, find, count_by, Option, None, Some, is_some, refl, AllByRecursion}
+use Rattle.mxf_views.proofs.Common.{list_all, option_map, sym, ◌∙◌, ap, subst, inl, inr, arith, eq-eqb, ltb-true}
+use Rattle.mxf_views.proofs.Common.{and_from, false_from_ne_true, sum_by-append, In, PartitionParts, is_footer}
+use Rattle.mxf_views.proofs.Common.{is_greatest, is_header, is_linked, link_at, link_of, count_by-cons, tally}
+use Rattle.mxf_views.proofs.Common.{list_any-In, In-list_all, all-In, all_from_In, IsGreatestBelow, link_read_at}
+use Rattle.mxf_views.proofs.Common.{links_read, count-none, or_right, all_push}
 use Rattle.mxf_views.specs.declared.chain.Link.TheVariants.{First, Held}
 use Rattle.mxf_views.specs.Partitions.{stands_above}
 use Rattle.mxf_views.specs.Reading.{ends_with_footer, link_read}

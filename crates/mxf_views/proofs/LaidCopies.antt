@@ -1,24 +1,21 @@
 -- The copies of a well-formed file are those of its reading.
-use Rattle.mxf_views.proofs.Common.{◌≡◌, ℕ, ◌+◌, ◌-◌, ◌<◌, ◌≤◌, true, false, cond, ◌&&◌, nat_le}
-use Rattle.mxf_views.proofs.Common.{◌==◌, List, [], ◌∷◌, ◌++◌, map, filter, find, count_by, Some}
-use Rattle.mxf_views.proofs.Common.{None, is_some, IfSome, refl, AllByRecursion, cons_option}
-use Rattle.mxf_views.proofs.Common.{list_all, option_and_then, option_map, sym, ◌∙◌, ap, subst}
-use Rattle.mxf_views.proofs.Common.{arith, and_from, eq-eqb, lt-ltb, ltb-true, end_of, note_of}
-use Rattle.mxf_views.proofs.Common.{size_of, NoteParts, PacketParts, notes_from, primer_at}
-use Rattle.mxf_views.proofs.Common.{PartitionPackParts, copies_of, copy_from, copy_of, covered_of}
-use Rattle.mxf_views.proofs.Common.{has_metadata, is_fill_note, is_filled, is_preface_note}
-use Rattle.mxf_views.proofs.Common.{is_primer, is_readable_primer, is_set_note, is_start}
-use Rattle.mxf_views.proofs.Common.{sets_found, sets_from, zone_of, PartitionParts, partitions_read}
-use Rattle.mxf_views.proofs.Common.{read_pack, sizes, HasMetadata, IsFill, IsWellFormed}
-use Rattle.mxf_views.proofs.Common.{is_readable_as, total_of, copies_among, CopyRead, copies_alone}
-use Rattle.mxf_views.proofs.Common.{copies_read, copy_read, taken, value_as, IsPrimerPack}
-use Rattle.mxf_views.proofs.Common.{HasCopiesOf, clear-laid, all-right, and_left, IsReadable}
+use Rattle.mxf_views.proofs.Common.{◌≡◌, ℕ, ◌+◌, ◌-◌, ◌<◌, ◌≤◌, true, false, cond, ◌&&◌, nat_le, ◌==◌, List, [], ◌∷◌}
+use Rattle.mxf_views.proofs.Common.{◌++◌, map, filter, find, count_by, Some, None, is_some, IfSome, refl}
+use Rattle.mxf_views.proofs.Common.{AllByRecursion, cons_option, list_all, option_and_then, option_map, sym, ◌∙◌, ap}
+use Rattle.mxf_views.proofs.Common.{subst, arith, and_from, eq-eqb, lt-ltb, ltb-true, end_of, note_of, size_of}
+use Rattle.mxf_views.proofs.Common.{NoteParts, PacketParts, notes_from, primer_at, PartitionPackParts, copies_of}
+use Rattle.mxf_views.proofs.Common.{copy_from, copy_of, covered_of, has_metadata, is_fill_note, is_filled}
+use Rattle.mxf_views.proofs.Common.{is_preface_note, is_primer, is_readable_primer, is_set_note, is_start, sets_found}
+use Rattle.mxf_views.proofs.Common.{sets_from, zone_of, PartitionParts, partitions_read, read_pack, sizes, HasMetadata}
+use Rattle.mxf_views.proofs.Common.{IsFill, IsWellFormed, is_readable_as, total_of, copies_among, CopyRead}
+use Rattle.mxf_views.proofs.Common.{copies_alone, copies_read, copy_read, taken, value_as, IsPrimerPack, HasCopiesOf}
+use Rattle.mxf_views.proofs.Common.{clear-laid, all-right, and_left, IsReadable}
 use Rattle.std.proofs.Common.{le-leb}
 use Rattle.mxf_views.specs.Copies.{sets_of, start_of}
 use Rattle.mxf_views.specs.Reading.{after_fills, whole_copy, sets_read}
 use Rattle.mxf_views.specs.WellFormed.{MetadataFollow}
-use Rattle.mxf_views.proofs.Laid.{LastFrom, covered-laid, last_all, last_next, last_past}
-use Rattle.mxf_views.proofs.Laid.{partitions_of-laid, primer-note, zone-laid}
+use Rattle.mxf_views.proofs.Laid.{LastFrom, covered-laid, last_all, last_next, last_past, partitions_of-laid}
+use Rattle.mxf_views.proofs.Laid.{primer-note, zone-laid}
 use Rattle.mxf_views.proofs.PreferredRead.{preferred-rising, rise-read}
 
 -- What holds of each packet holds of each of the last.

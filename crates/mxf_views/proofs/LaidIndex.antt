@@ -1,12 +1,10 @@
 -- The index of a well-formed file is that of its reading.
-use Rattle.mxf_views.proofs.Common.{◌≡◌, ℕ, ◌+◌, ◌==◌, true, false, List, [], ◌∷◌, cond, filter_map}
-use Rattle.mxf_views.proofs.Common.{None, Some, refl, AllByRecursion, cons_option, option_map}
-use Rattle.mxf_views.proofs.Common.{option_map_or, sym, ◌∙◌, ap, inl, inr, tied_itself, kind_of}
-use Rattle.mxf_views.proofs.Common.{note_of, size_of, PacketParts, notes_from, In, with_one, union}
-use Rattle.mxf_views.proofs.Common.{stream_offset, segment_at, SegmentAtParts, is_segment}
-use Rattle.mxf_views.proofs.Common.{place_cmp, place_by, placed_segment, segments_of}
-use Rattle.mxf_views.proofs.Common.{place_by_segment, segments_read, Agree, IsWellFormed, given_by}
-use Rattle.mxf_views.proofs.Common.{HasIndexOf, clear-laid, in_stream, place_in}
+use Rattle.mxf_views.proofs.Common.{◌≡◌, ℕ, ◌+◌, ◌==◌, true, false, List, [], ◌∷◌, cond, filter_map, None, Some, refl}
+use Rattle.mxf_views.proofs.Common.{AllByRecursion, cons_option, option_map, option_map_or, sym, ◌∙◌, ap, inl, inr}
+use Rattle.mxf_views.proofs.Common.{tied_itself, kind_of, note_of, size_of, PacketParts, notes_from, In, with_one}
+use Rattle.mxf_views.proofs.Common.{union, stream_offset, segment_at, SegmentAtParts, is_segment, place_cmp, place_by}
+use Rattle.mxf_views.proofs.Common.{placed_segment, segments_of, place_by_segment, segments_read, Agree, IsWellFormed}
+use Rattle.mxf_views.proofs.Common.{given_by, HasIndexOf, clear-laid, in_stream, place_in}
 use Rattle.mxf_views.specs.declared.index.place.StreamPlace.{StreamPlace}
 use Rattle.mxf_views.specs.declared.index.place.Place.TheVariants.{NotIndexed, At, Ambiguous}
 use Rattle.mxf_views.specs.Places.{place_of}

@@ -1,16 +1,13 @@
 -- The partitions of a well-formed file: no dispute and no gap, and the links and the chain of its reading.
-use Rattle.mxf_views.proofs.Common.{◌≡◌, ℕ, ◌+◌, Bool, true, false, cond, max, not, ◌&&◌, ◌||◌}
-use Rattle.mxf_views.proofs.Common.{◌==◌, List, [], ◌∷◌, ◌++◌, count_by, length, None, Some, Option}
-use Rattle.mxf_views.proofs.Common.{is_some, refl, AllByRecursion, cons_option, list_all}
-use Rattle.mxf_views.proofs.Common.{option_map, result_ok, sym, ◌∙◌, ap, subst, arith, kind_of}
-use Rattle.mxf_views.proofs.Common.{note_of, end_of, size_of, PacketParts, NoteParts, notes_from}
-use Rattle.mxf_views.proofs.Common.{pack_at, part_and_status, PartitionPackParts, PartitionParts}
-use Rattle.mxf_views.proofs.Common.{is_footer, is_greatest, is_header, is_linked, link_at}
-use Rattle.mxf_views.proofs.Common.{is_no_unreadable_pack, partition_at, partitions_of}
-use Rattle.mxf_views.proofs.Common.{partition_read, partitions_read, read_pack, EndsWithFooter}
-use Rattle.mxf_views.proofs.Common.{IsFooterPack, IsPartitionPack, IsWellFormed, is_readable_as}
-use Rattle.mxf_views.proofs.Common.{total_of, keeps, gaps_from, link_read_at, links_read}
-use Rattle.mxf_views.proofs.Common.{IsHeaderPack, HasPartitionsOf, clear-laid, all-right}
+use Rattle.mxf_views.proofs.Common.{◌≡◌, ℕ, ◌+◌, Bool, true, false, cond, max, not, ◌&&◌, ◌||◌, ◌==◌, List, [], ◌∷◌}
+use Rattle.mxf_views.proofs.Common.{◌++◌, count_by, length, None, Some, Option, is_some, refl, AllByRecursion}
+use Rattle.mxf_views.proofs.Common.{cons_option, list_all, option_map, result_ok, sym, ◌∙◌, ap, subst, arith, kind_of}
+use Rattle.mxf_views.proofs.Common.{note_of, end_of, size_of, PacketParts, NoteParts, notes_from, pack_at}
+use Rattle.mxf_views.proofs.Common.{part_and_status, PartitionPackParts, PartitionParts, is_footer, is_greatest}
+use Rattle.mxf_views.proofs.Common.{is_header, is_linked, link_at, is_no_unreadable_pack, partition_at, partitions_of}
+use Rattle.mxf_views.proofs.Common.{partition_read, partitions_read, read_pack, EndsWithFooter, IsFooterPack}
+use Rattle.mxf_views.proofs.Common.{IsPartitionPack, IsWellFormed, is_readable_as, total_of, keeps, gaps_from}
+use Rattle.mxf_views.proofs.Common.{link_read_at, links_read, IsHeaderPack, HasPartitionsOf, clear-laid, all-right}
 use Rattle.mxf_views.proofs.Common.{BeginsWithHeader, IsReadable}
 use Rattle.mxf_klv.specs.declared.kinds.Kind.{Kind}
 use Rattle.mxf_klv.specs.declared.kinds.Status.{Status}
@@ -21,8 +18,8 @@ use Rattle.mxf_sets.specs.PartitionPack.{pack_kind}
 use Rattle.std.proofs.Common.{le-ltb}
 use Rattle.mxf_views.specs.Reading.{chain_read}
 use Rattle.mxf_views.proofs.Laid.{partition-note, partitions_of-laid}
-use Rattle.mxf_views.proofs.LaidChain.{AreLinked, BeginsAtZero, EndsInFooter, all_linked}
-use Rattle.mxf_views.proofs.LaidChain.{ends_in_footer, footers_greatest, one_footer, one_header}
+use Rattle.mxf_views.proofs.LaidChain.{AreLinked, BeginsAtZero, EndsInFooter, all_linked, ends_in_footer}
+use Rattle.mxf_views.proofs.LaidChain.{footers_greatest, one_footer, one_header}
 use Rattle.mxf_views.proofs.RisingPartitions.{IsRisingFrom, rising-read}
 use Rattle.mxf_catalogue.proofs.LaidNotes.{no_disputes-laid}
 use Rattle.mxf_sets.proofs.PackKinds.{kind_is}

@@ -1,13 +1,11 @@
 -- What is known of the random index pack of a well-formed file is what its reading says.
-use Rattle.mxf_views.proofs.Common.{◌≡◌, ℕ, ◌+◌, ◌≤◌, true, false, cond, ◌==◌, List, [], ◌∷◌, map}
-use Rattle.mxf_views.proofs.Common.{filter, find, Option, None, Some, is_some, IfSome, refl}
-use Rattle.mxf_views.proofs.Common.{AllByRecursion, option_map_or, sym, ◌∙◌, ap, subst, inl, inr}
-use Rattle.mxf_views.proofs.Common.{arith, eq-eqb, kind_of, note_of, size_of, PacketParts}
-use Rattle.mxf_views.proofs.Common.{NoteParts, notes_from, In, RipParts, PartitionParts}
-use Rattle.mxf_views.proofs.Common.{partitions_of, is_rip, is_rip_note, rips_of, standing_of}
-use Rattle.mxf_views.proofs.Common.{rip_view_among, rip_view_by, rip_view_of, partitions_read}
-use Rattle.mxf_views.proofs.Common.{IsWellFormed, is_readable_as, ne_eqb, EndsWithRandomIndex}
-use Rattle.mxf_views.proofs.Common.{IsRandomIndexPack, clear-laid, one_by_one, rip_read, IsReadable}
+use Rattle.mxf_views.proofs.Common.{◌≡◌, ℕ, ◌+◌, ◌≤◌, true, false, cond, ◌==◌, List, [], ◌∷◌, map, filter, find, Option}
+use Rattle.mxf_views.proofs.Common.{None, Some, is_some, IfSome, refl, AllByRecursion, option_map_or, sym, ◌∙◌, ap}
+use Rattle.mxf_views.proofs.Common.{subst, inl, inr, arith, eq-eqb, kind_of, note_of, size_of, PacketParts, NoteParts}
+use Rattle.mxf_views.proofs.Common.{notes_from, In, RipParts, PartitionParts, partitions_of, is_rip, is_rip_note}
+use Rattle.mxf_views.proofs.Common.{rips_of, standing_of, rip_view_among, rip_view_by, rip_view_of, partitions_read}
+use Rattle.mxf_views.proofs.Common.{IsWellFormed, is_readable_as, ne_eqb, EndsWithRandomIndex, IsRandomIndexPack}
+use Rattle.mxf_views.proofs.Common.{clear-laid, one_by_one, rip_read, IsReadable}
 use Rattle.mxf_views.specs.declared.random_index.RipView.TheVariants.{One, Absent}
 use Rattle.mxf_views.specs.Records.{read_rip}
 use Rattle.mxf_views.specs.RandomIndex.{standing_by, standings}

@@ -1,12 +1,11 @@
 -- Marks among notes, and what lies in a range by two of them.
-use Rattle.mxf_views.proofs.Common.{◌≡◌, ◌∙◌, ℕ, ◌+◌, ◌-◌, ◌≤◌, ◌⊎◌, false, cond, List, [], ◌∷◌}
-use Rattle.mxf_views.proofs.Common.{◌++◌, refl, ap, append_assoc, arith, get_or, inl, inr, length}
-use Rattle.mxf_views.proofs.Common.{subst, sym, count_by, IsNonDecreasingBy, false_from_ne_true}
-use Rattle.mxf_views.proofs.Common.{sum_by-append, sum_by-cons, NoteParts, end_of, In, IsCatalogue}
-use Rattle.mxf_views.proofs.Common.{AreApart, clear_notes, lies_in, covered_of, is_preface_note}
-use Rattle.mxf_views.proofs.Common.{prefaces_of, zone_of, clear_from, is_in_one, sizes, AreInRange}
-use Rattle.mxf_views.proofs.Common.{count_by-cons, tally, length-filter_le, In-at, In-append}
-use Rattle.mxf_views.proofs.Common.{same_bool, count_by-le-length, range-le}
+use Rattle.mxf_views.proofs.Common.{◌≡◌, ◌∙◌, ℕ, ◌+◌, ◌-◌, ◌≤◌, ◌⊎◌, false, cond, List, [], ◌∷◌, ◌++◌, refl, ap}
+use Rattle.mxf_views.proofs.Common.{append_assoc, arith, get_or, inl, inr, length, subst, sym, count_by}
+use Rattle.mxf_views.proofs.Common.{IsNonDecreasingBy, false_from_ne_true, sum_by-append, sum_by-cons, NoteParts}
+use Rattle.mxf_views.proofs.Common.{end_of, In, IsCatalogue, AreApart, clear_notes, lies_in, covered_of}
+use Rattle.mxf_views.proofs.Common.{is_preface_note, prefaces_of, zone_of, clear_from, is_in_one, sizes, AreInRange}
+use Rattle.mxf_views.proofs.Common.{count_by-cons, tally, length-filter_le, In-at, In-append, same_bool}
+use Rattle.mxf_views.proofs.Common.{count_by-le-length, range-le}
 use Rattle.mxf_views.specs.declared.kept.sums.Mark.{Mark}
 use Rattle.mxf_views.specs.Sums.{AreMarks, IsCut, IsMark}
 use Rattle.std.specs.Prelude.{sum_by}

@@ -1,12 +1,10 @@
 -- What is said of partitions by their numbers, and of the partitions themselves, by definitions that look at no label.
-use Rattle.mxf_views.proofs.Common.{◌≡◌, ◌∙◌, ℕ, Bool, true, false, cond, List, [], ◌∷◌, Option}
-use Rattle.mxf_views.proofs.Common.{None, Some, ap, refl, sym, ◌==◌, ◌&&◌, ◌||◌, filter, find}
-use Rattle.mxf_views.proofs.Common.{if◌then◌else◌, list_any, map, nat_le, not, option_map}
-use Rattle.mxf_views.proofs.Common.{NoteParts, PartitionParts, RipParts, lies_between, rip_in}
-use Rattle.mxf_views.proofs.Common.{rip_view_among, rip_view_by, standing_of, stands_at}
-use Rattle.mxf_views.proofs.Common.{stands_between, ◌+◌, count_by, cons_option, count_by-cons}
-use Rattle.mxf_views.proofs.Common.{eqb-true, filter_map, found-In, link_of, list_all, tally}
-use Rattle.mxf_views.proofs.Common.{in_numbers, link_by}
+use Rattle.mxf_views.proofs.Common.{◌≡◌, ◌∙◌, ℕ, Bool, true, false, cond, List, [], ◌∷◌, Option, None, Some, ap, refl}
+use Rattle.mxf_views.proofs.Common.{sym, ◌==◌, ◌&&◌, ◌||◌, filter, find, if◌then◌else◌, list_any, map, nat_le, not}
+use Rattle.mxf_views.proofs.Common.{option_map, NoteParts, PartitionParts, RipParts, lies_between, rip_in}
+use Rattle.mxf_views.proofs.Common.{rip_view_among, rip_view_by, standing_of, stands_at, stands_between, ◌+◌, count_by}
+use Rattle.mxf_views.proofs.Common.{cons_option, count_by-cons, eqb-true, filter_map, found-In, link_of, list_all}
+use Rattle.mxf_views.proofs.Common.{tally, in_numbers, link_by}
 use Rattle.mxf_views.specs.declared.random_index.RipView.TheVariants.{One}
 use Rattle.mxf_sets.specs.declared.pack.random_index.RipEntry.{RipEntry}
 use Rattle.mxf_views.specs.RandomIndex.{standing_by, standings_among}

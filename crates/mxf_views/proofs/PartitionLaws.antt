@@ -1,12 +1,10 @@
 -- The partitions, and how each names the one before it.
-use Rattle.mxf_views.proofs.Common.{◌≡◌, ℕ, ◌<◌, Bool, true, false, List, Some, None, refl, sym, ap}
-use Rattle.mxf_views.proofs.Common.{subst, ◌∙◌, inl, inr, arith, eqb-true, eq-eqb, ◌↔◌, ◌==◌, find}
-use Rattle.mxf_views.proofs.Common.{not, if◌then◌else◌, option_map, NoteParts, end_of, kind_of, In}
-use Rattle.mxf_views.proofs.Common.{pack_at, PartitionPackParts, IsContent, clear_notes}
-use Rattle.mxf_views.proofs.Common.{In-clear_notes, PartitionParts, AreInOrder, pack_of}
-use Rattle.mxf_views.proofs.Common.{partition_at, partitions_of, link_of, link_at, list_any-In}
-use Rattle.mxf_views.proofs.Common.{found-In, find-only, In-filter_map, StandsAt, IsGreatestBelow}
-use Rattle.mxf_views.proofs.Common.{IsLink, stands_at, stands_between, one_by_key, part_and_status}
+use Rattle.mxf_views.proofs.Common.{◌≡◌, ℕ, ◌<◌, Bool, true, false, List, Some, None, refl, sym, ap, subst, ◌∙◌, inl}
+use Rattle.mxf_views.proofs.Common.{inr, arith, eqb-true, eq-eqb, ◌↔◌, ◌==◌, find, not, if◌then◌else◌, option_map}
+use Rattle.mxf_views.proofs.Common.{NoteParts, end_of, kind_of, In, pack_at, PartitionPackParts, IsContent, clear_notes}
+use Rattle.mxf_views.proofs.Common.{In-clear_notes, PartitionParts, AreInOrder, pack_of, partition_at, partitions_of}
+use Rattle.mxf_views.proofs.Common.{link_of, link_at, list_any-In, found-In, find-only, In-filter_map, StandsAt}
+use Rattle.mxf_views.proofs.Common.{IsGreatestBelow, IsLink, stands_at, stands_between, one_by_key, part_and_status}
 use Rattle.mxf_views.proofs.Common.{previous_of}
 use Rattle.mxf_views.specs.declared.chain.Link.TheVariants.{First, Held, Skips, Missing, Wrong}
 use Rattle.mxf_views.specs.declared.chain.Link.{Link}

@@ -1,10 +1,9 @@
 -- Partitions found by search among the clear notes.
-use Rattle.mxf_views.proofs.Common.{◌≡◌, ℕ, true, false, List, Option, Some, None, refl, sym, ap}
-use Rattle.mxf_views.proofs.Common.{◌∙◌, eqb-true, eq-eqb, ◌==◌, find, filter, is_some}
-use Rattle.mxf_views.proofs.Common.{option_and_then, false_from_ne_true, NoteParts, In, clear_notes}
-use Rattle.mxf_views.proofs.Common.{copies_of, copy_of, has_metadata, PartitionParts, partition_at}
-use Rattle.mxf_views.proofs.Common.{partitions_of, In-filter, In-map, list_any-In, find-none}
-use Rattle.mxf_views.proofs.Common.{find-only, found-In, none_found, In-filter_map, stands_at}
+use Rattle.mxf_views.proofs.Common.{◌≡◌, ℕ, true, false, List, Option, Some, None, refl, sym, ap, ◌∙◌, eqb-true, eq-eqb}
+use Rattle.mxf_views.proofs.Common.{◌==◌, find, filter, is_some, option_and_then, false_from_ne_true, NoteParts, In}
+use Rattle.mxf_views.proofs.Common.{clear_notes, copies_of, copy_of, has_metadata, PartitionParts, partition_at}
+use Rattle.mxf_views.proofs.Common.{partitions_of, In-filter, In-map, list_any-In, find-none, find-only, found-In}
+use Rattle.mxf_views.proofs.Common.{none_found, In-filter_map, stands_at}
 use Rattle.mxf_views.specs.declared.copy.CopyInfo.{CopyInfo}
 use Rattle.mxf_views.proofs.CopyLaws.{copy_there}
 use Rattle.mxf_views.proofs.KeptItems.{kept_found, kept_there, one_kept}

@@ -1,12 +1,11 @@
 -- Places in essence streams, those that segments give, and the place of a unit by them.
-use Rattle.mxf_views.proofs.Common.{◌≡◌, ℕ, ◌⊎◌, true, false, cond, List, [], ◌∷◌, Some, None, refl}
-use Rattle.mxf_views.proofs.Common.{sym, ap, subst, ◌∙◌, inl, inr, eqb-true, eq-eqb, ◌↔◌, ◌==◌}
-use Rattle.mxf_views.proofs.Common.{option_map, filter_map, nat_cmp_total, tied_itself, In}
-use Rattle.mxf_views.proofs.Common.{IsRising, with_one, In-union, IsRising-union, less_in}
-use Rattle.mxf_views.proofs.Common.{same_from_members, stream_offset, SegmentAtParts, place_cmp}
-use Rattle.mxf_views.proofs.Common.{place_by, In-filter_map, given_by, places_with, ordering_then}
-use Rattle.mxf_views.proofs.Common.{IsTotalOrder, IsAntisymmetric, on_total, then_total, IsBelow}
-use Rattle.mxf_views.proofs.Common.{IsGiven, IsOnlyPlace, in_stream, place_in, lt_from_less, ties}
+use Rattle.mxf_views.proofs.Common.{◌≡◌, ℕ, ◌⊎◌, true, false, cond, List, [], ◌∷◌, Some, None, refl, sym, ap, subst}
+use Rattle.mxf_views.proofs.Common.{◌∙◌, inl, inr, eqb-true, eq-eqb, ◌↔◌, ◌==◌, option_map, filter_map, nat_cmp_total}
+use Rattle.mxf_views.proofs.Common.{tied_itself, In, IsRising, with_one, In-union, IsRising-union, less_in}
+use Rattle.mxf_views.proofs.Common.{same_from_members, stream_offset, SegmentAtParts, place_cmp, place_by}
+use Rattle.mxf_views.proofs.Common.{In-filter_map, given_by, places_with, ordering_then, IsTotalOrder, IsAntisymmetric}
+use Rattle.mxf_views.proofs.Common.{on_total, then_total, IsBelow, IsGiven, IsOnlyPlace, in_stream, place_in}
+use Rattle.mxf_views.proofs.Common.{lt_from_less, ties}
 use Rattle.mxf_views.specs.declared.index.place.StreamPlace.{StreamPlace}
 use Rattle.mxf_views.specs.declared.index.place.Place.TheVariants.{NotIndexed, At, Ambiguous}
 use Rattle.std.proofs.Common.{nat_cmp, Ordering, Less, Equal, Greater}

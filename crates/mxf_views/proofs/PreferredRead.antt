@@ -1,10 +1,8 @@
 -- Of copies that rise by partition, the preferred one is the same by either way of taking the better of two.
-use Rattle.mxf_views.proofs.Common.{◌≡◌, ℕ, ◌+◌, ◌<◌, ◌≤◌, cond, ◌&&◌, List, [], ◌∷◌, Option, Some}
-use Rattle.mxf_views.proofs.Common.{None, IfSome, refl, cons_option, option_and_then, ◌∙◌, ap}
-use Rattle.mxf_views.proofs.Common.{arith, size_of, PacketParts, notes_from, best_of, preferred_of}
-use Rattle.mxf_views.proofs.Common.{rank, PartitionParts, partition_read, better, is_candidate}
-use Rattle.mxf_views.proofs.Common.{CopyRead, copies_alone, copies_read, copy_read, taken}
-use Rattle.mxf_views.proofs.Common.{from_lower}
+use Rattle.mxf_views.proofs.Common.{◌≡◌, ℕ, ◌+◌, ◌<◌, ◌≤◌, cond, ◌&&◌, List, [], ◌∷◌, Option, Some, None, IfSome, refl}
+use Rattle.mxf_views.proofs.Common.{cons_option, option_and_then, ◌∙◌, ap, arith, size_of, PacketParts, notes_from}
+use Rattle.mxf_views.proofs.Common.{best_of, preferred_of, rank, PartitionParts, partition_read, better, is_candidate}
+use Rattle.mxf_views.proofs.Common.{CopyRead, copies_alone, copies_read, copy_read, taken, from_lower}
 use Rattle.mxf_views.specs.declared.copy.CopyInfo.{CopyInfo}
 use Rattle.std.specs.Prelude.{fold}
 use Rattle.mxf_views.specs.Reading.{better_read, preferred_read}

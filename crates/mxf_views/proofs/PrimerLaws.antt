@@ -1,12 +1,10 @@
 -- The primer pack of a set.
-use Rattle.mxf_views.proofs.Common.{◌≡◌, ℕ, ◌<◌, ◌≤◌, Bool, true, false, cond, List, [], ◌∷◌}
-use Rattle.mxf_views.proofs.Common.{Option, Some, None, refl, sym, ap, subst, ◌∙◌, inl, inr, arith}
-use Rattle.mxf_views.proofs.Common.{eqb-true, eq-eqb, ◌↔◌, ◌==◌, find, option_and_then, NoteParts}
-use Rattle.mxf_views.proofs.Common.{In, primer_at, read_as, IsContent, IsClear, clear_notes}
-use Rattle.mxf_views.proofs.Common.{In-clear_notes, CopiesRise, IsCopy, IsStart, copies_of}
-use Rattle.mxf_views.proofs.Common.{is_in_copy, primer_there, find-only, found-In, none_found}
-use Rattle.mxf_views.proofs.Common.{all-In, BatchParts, IsPrimerOf, IsStartFound, primer_for}
-use Rattle.mxf_views.proofs.Common.{primer_of}
+use Rattle.mxf_views.proofs.Common.{◌≡◌, ℕ, ◌<◌, ◌≤◌, Bool, true, false, cond, List, [], ◌∷◌, Option, Some, None, refl}
+use Rattle.mxf_views.proofs.Common.{sym, ap, subst, ◌∙◌, inl, inr, arith, eqb-true, eq-eqb, ◌↔◌, ◌==◌, find}
+use Rattle.mxf_views.proofs.Common.{option_and_then, NoteParts, In, primer_at, read_as, IsContent, IsClear, clear_notes}
+use Rattle.mxf_views.proofs.Common.{In-clear_notes, CopiesRise, IsCopy, IsStart, copies_of, is_in_copy, primer_there}
+use Rattle.mxf_views.proofs.Common.{find-only, found-In, none_found, all-In, BatchParts, IsPrimerOf, IsStartFound}
+use Rattle.mxf_views.proofs.Common.{primer_for, primer_of}
 use Rattle.mxf_views.specs.declared.copy.CopyInfo.{CopyInfo}
 use Rattle.mxf_views.specs.Labels.{is_in_zone, IsFirstWith, IsInZoneOf, IsPrimerFor}
 use Rattle.mxf_views.proofs.KeptItems.{one_note}

@@ -1,17 +1,13 @@
 -- The random index pack, and how its entries stand to the partitions.
-use Rattle.mxf_views.proofs.Common.{◌≡◌, ℕ, Bool, true, false, cond, List, [], ◌∷◌, Some, None}
-use Rattle.mxf_views.proofs.Common.{refl, sym, ap, subst, ◌∙◌, inl, inr, eqb-true, eq-eqb, ◌↔◌}
-use Rattle.mxf_views.proofs.Common.{◌==◌, find, NoteParts, kind_of, In, rip_at, IsContent, AreApart}
-use Rattle.mxf_views.proofs.Common.{clear_notes, In-clear_notes, AreApart-clear_notes}
-use Rattle.mxf_views.proofs.Common.{AreApart-filter, AreInOrder, PartitionParts, partitions_of}
-use Rattle.mxf_views.proofs.Common.{is_rip, is_rip_note, rip_in, rips_of, standing_of}
-use Rattle.mxf_views.proofs.Common.{rip_view_among, rip_view_by, rip_view_of, In-filter, found-In}
-use Rattle.mxf_views.proofs.Common.{none_found, find-none, find-only, false_from_ne_true}
-use Rattle.mxf_views.proofs.Common.{later_differs, picked_none, picked_one, picked_several}
-use Rattle.mxf_views.proofs.Common.{RipAtParts}
+use Rattle.mxf_views.proofs.Common.{◌≡◌, ℕ, Bool, true, false, cond, List, [], ◌∷◌, Some, None, refl, sym, ap, subst}
+use Rattle.mxf_views.proofs.Common.{◌∙◌, inl, inr, eqb-true, eq-eqb, ◌↔◌, ◌==◌, find, NoteParts, kind_of, In, rip_at}
+use Rattle.mxf_views.proofs.Common.{IsContent, AreApart, clear_notes, In-clear_notes, AreApart-clear_notes}
+use Rattle.mxf_views.proofs.Common.{AreApart-filter, AreInOrder, PartitionParts, partitions_of, is_rip, is_rip_note}
+use Rattle.mxf_views.proofs.Common.{rip_in, rips_of, standing_of, rip_view_among, rip_view_by, rip_view_of, In-filter}
+use Rattle.mxf_views.proofs.Common.{found-In, none_found, find-none, find-only, false_from_ne_true, later_differs}
+use Rattle.mxf_views.proofs.Common.{picked_none, picked_one, picked_several, RipAtParts}
 use Rattle.mxf_sets.specs.declared.pack.random_index.RipEntry.{RipEntry}
-use Rattle.mxf_views.specs.declared.random_index.RipView.TheVariants.{One, Absent, Several}
-use Rattle.mxf_views.specs.declared.random_index.RipView.TheVariants.{Unreadable}
+use Rattle.mxf_views.specs.declared.random_index.RipView.TheVariants.{One, Absent, Several, Unreadable}
 use Rattle.mxf_views.specs.declared.random_index.Standing.{Standing}
 use Rattle.mxf_views.specs.declared.random_index.RipView.{RipView}
 use Rattle.mxf_views.specs.RandomIndex.{standing_by, IsClearRip, IsOnlyRip, IsStanding}

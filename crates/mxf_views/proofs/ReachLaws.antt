@@ -1,11 +1,9 @@
 -- How far copies reach, and the first of them that has a packet.
-use Rattle.mxf_views.proofs.Common.{◌≡◌, ℕ, zero, suc, ◌+◌, ◌<◌, ◌≤◌, Bool, false, List, [], ◌∷◌}
-use Rattle.mxf_views.proofs.Common.{◌++◌, Some, None, refl, ap, arith, drop, get_or, length, take}
-use Rattle.mxf_views.proofs.Common.{◌==◌, filter, find, map, max, then_some, AllWithin}
-use Rattle.mxf_views.proofs.Common.{IsNonDecreasing, length-map, NoteParts, end_of, copies_of}
-use Rattle.mxf_views.proofs.Common.{StartsRise, copies_followed, is_outside, reaches_from}
-use Rattle.mxf_views.proofs.Common.{reaches_of, renewed, is_in_copy, find-none, length-filter_le}
-use Rattle.mxf_views.proofs.Common.{all-In, IsStartBelow, EndsBy}
+use Rattle.mxf_views.proofs.Common.{◌≡◌, ℕ, zero, suc, ◌+◌, ◌<◌, ◌≤◌, Bool, false, List, [], ◌∷◌, ◌++◌, Some, None}
+use Rattle.mxf_views.proofs.Common.{refl, ap, arith, drop, get_or, length, take, ◌==◌, filter, find, map, max}
+use Rattle.mxf_views.proofs.Common.{then_some, AllWithin, IsNonDecreasing, length-map, NoteParts, end_of, copies_of}
+use Rattle.mxf_views.proofs.Common.{StartsRise, copies_followed, is_outside, reaches_from, reaches_of, renewed}
+use Rattle.mxf_views.proofs.Common.{is_in_copy, find-none, length-filter_le, all-In, IsStartBelow, EndsBy}
 use Rattle.mxf_views.specs.declared.copy.CopyInfo.{CopyInfo}
 use Rattle.mxf_views.specs.Kept.{reach_from, reach_of}
 use Rattle.mxf_views.proofs.KeyedLists.{length-with_found}

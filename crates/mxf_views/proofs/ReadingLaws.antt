@@ -1,7 +1,7 @@
 -- What notes are read as.
 use Rattle.mxf_views.proofs.Common.{◌≡◌, ℕ, ◌∙◌, true, false, cond, List, Option, Some, None, Result, Ok, Err, refl, ap}
-use Rattle.mxf_views.proofs.Common.{◌↔◌, ◌&&◌, is_some, result_ok, NoteParts, keeps_value, read_as, IsReadAs}
-use Rattle.mxf_views.proofs.Common.{and_from, and_parts, is_ok}
+use Rattle.mxf_views.proofs.Common.{◌↔◌, ◌&&◌, is_some, result_ok, NoteParts, keeps_value, read_as, IsReadAs, and_from}
+use Rattle.mxf_views.proofs.Common.{and_parts, is_ok}
 use Rattle.mxf_views.specs.Readings.{IsReadable}
 
 pub reads : {A E : Type 0} (read : List ℕ → Result A E) (n : NoteParts) (value : A)

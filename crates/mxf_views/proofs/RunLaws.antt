@@ -1,8 +1,7 @@
 -- A content of exactly what was handed is what the run holds.
-use Rattle.mxf_views.proofs.Common.{◌≡◌, ◌↔◌, List, filter, sym, subst, ap, PacketParts, NoteParts}
-use Rattle.mxf_views.proofs.Common.{notes_from, In, IsContent, is_disputed, same_content}
-use Rattle.mxf_views.proofs.Common.{IsWellFormed, In-filter, file_bytes, IsLocated}
-use Rattle.mxf_views.proofs.Common.{is_disputed-IsDisputed, IsFileOf, content, notes-disputed_notes}
+use Rattle.mxf_views.proofs.Common.{◌≡◌, ◌↔◌, List, filter, sym, subst, ap, PacketParts, NoteParts, notes_from, In}
+use Rattle.mxf_views.proofs.Common.{IsContent, is_disputed, same_content, IsWellFormed, In-filter, file_bytes}
+use Rattle.mxf_views.proofs.Common.{IsLocated, is_disputed-IsDisputed, IsFileOf, content, notes-disputed_notes}
 use Rattle.mxf_views.proofs.Common.{In-content, IsTheRun, is_whole, IsContent-laid}
 use Rattle.mxf_catalogue.proofs.HistoryLaws.{IsContent-content}
 use Rattle.mxf_views.specs.Headline.{IsDisputedAmong, IsNoteOf, IsReadFromFront}

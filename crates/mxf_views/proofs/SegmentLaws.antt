@@ -1,10 +1,8 @@
 -- Which segments there are.
-use Rattle.mxf_views.proofs.Common.{◌≡◌, ℕ, true, false, cond, List, Some, None, refl, sym, ap}
-use Rattle.mxf_views.proofs.Common.{subst, ◌↔◌, option_map, NoteParts, keeps_value, kind_of, In}
-use Rattle.mxf_views.proofs.Common.{SegmentParts, segment_at, read_as, IsContent, IsClear}
-use Rattle.mxf_views.proofs.Common.{clear_notes, In-clear_notes, SegmentAtParts, is_segment}
-use Rattle.mxf_views.proofs.Common.{placed_segment, segments_of, In-filter_map, ◌==◌, find}
-use Rattle.mxf_views.proofs.Common.{option_and_then, Option}
+use Rattle.mxf_views.proofs.Common.{◌≡◌, ℕ, true, false, cond, List, Some, None, refl, sym, ap, subst, ◌↔◌, option_map}
+use Rattle.mxf_views.proofs.Common.{NoteParts, keeps_value, kind_of, In, SegmentParts, segment_at, read_as, IsContent}
+use Rattle.mxf_views.proofs.Common.{IsClear, clear_notes, In-clear_notes, SegmentAtParts, is_segment, placed_segment}
+use Rattle.mxf_views.proofs.Common.{segments_of, In-filter_map, ◌==◌, find, option_and_then, Option}
 use Rattle.mxf_views.specs.Places.{SegmentsRise, IsSegmentAt, segment_by_kind}
 use Rattle.mxf_views.proofs.KeptItems.{kept_rise, kept_there}
 use Rattle.mxf_views.proofs.KindLaws.{segment_kind}

@@ -1,8 +1,7 @@
 -- The items of header metadata sets.
-use Rattle.mxf_views.proofs.Common.{◌≡◌, ℕ, ◌∙◌, Bool, true, false, List, Option, Some, None}
-use Rattle.mxf_views.proofs.Common.{length, refl, sym, ap, subst, eq-eqb, ◌↔◌, ◌==◌, ◌&&◌}
-use Rattle.mxf_views.proofs.Common.{if◌then◌else◌, NoteParts, keeps_value, is_set_note, AreBytes}
-use Rattle.mxf_views.proofs.Common.{ItemParts}
+use Rattle.mxf_views.proofs.Common.{◌≡◌, ℕ, ◌∙◌, Bool, true, false, List, Option, Some, None, length, refl, sym, ap}
+use Rattle.mxf_views.proofs.Common.{subst, eq-eqb, ◌↔◌, ◌==◌, ◌&&◌, if◌then◌else◌, NoteParts, keeps_value, is_set_note}
+use Rattle.mxf_views.proofs.Common.{AreBytes, ItemParts}
 use Rattle.mxf_sets.specs.Items.{items_of, left_of}
 use Rattle.mxf_sets.proofs.ItemLemmas.{are_items, empty_from_test, only_are}
 use Rattle.mxf_views.specs.SetItems.{AreSetItems, set_items}

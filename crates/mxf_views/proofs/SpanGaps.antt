@@ -1,10 +1,9 @@
 -- The gaps of notes are those of the cover of what they cover, and what lies between its end and the greatest end.
-use Rattle.mxf_views.proofs.Common.{◌≡◌, ℕ, ◌+◌, ◌-◌, ◌<◌, ◌≤◌, ◌++◌, true, false, List, [], ◌∷◌}
-use Rattle.mxf_views.proofs.Common.{ap, arith, inl, inr, refl, ◌↔◌, cond, nat_lt, ltb-true, end_of}
-use Rattle.mxf_views.proofs.Common.{NoteParts, In, IsContent, AreMaximal, LiesIn, gaps_of}
-use Rattle.mxf_views.proofs.Common.{In-append, covered_end, Covers, AreGaps, has_byte, IsCover}
-use Rattle.mxf_views.proofs.Common.{gaps_of_runs, run, gaps_by_definition, same_runs, IsGap}
-use Rattle.mxf_views.proofs.Common.{some_above, covers_below_end}
+use Rattle.mxf_views.proofs.Common.{◌≡◌, ℕ, ◌+◌, ◌-◌, ◌<◌, ◌≤◌, ◌++◌, true, false, List, [], ◌∷◌, ap, arith, inl, inr}
+use Rattle.mxf_views.proofs.Common.{refl, ◌↔◌, cond, nat_lt, ltb-true, end_of, NoteParts, In, IsContent, AreMaximal}
+use Rattle.mxf_views.proofs.Common.{LiesIn, gaps_of, In-append, covered_end, Covers, AreGaps, has_byte, IsCover}
+use Rattle.mxf_views.proofs.Common.{gaps_of_runs, run, gaps_by_definition, same_runs, IsGap, some_above}
+use Rattle.mxf_views.proofs.Common.{covers_below_end}
 use Rattle.mxf_catalogue.specs.declared.run.Run.{Run}
 use Rattle.std.proofs.Common.{ltb-false}
 use Rattle.mxf_catalogue.specs.Covers.{IsBetween}

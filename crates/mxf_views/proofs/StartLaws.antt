@@ -1,15 +1,13 @@
 -- Where the header metadata of a partition begin.
-use Rattle.mxf_views.proofs.Common.{◌≡◌, ℕ, ◌+◌, ◌-◌, ◌<◌, ◌≤◌, true, List, Some, None, refl, sym}
-use Rattle.mxf_views.proofs.Common.{ap, subst, ◌∙◌, arith, eqb-true, eq-eqb, ◌↔◌, ◌==◌, nat_le}
-use Rattle.mxf_views.proofs.Common.{find, is_some, count_by, option_map, list_all, range_with_len}
-use Rattle.mxf_views.proofs.Common.{and_from, and_parts, NoteParts, end_of, kind_of, In, primer_at}
-use Rattle.mxf_views.proofs.Common.{read_as, IsContent, IsClear, SharesByte, clear_notes}
-use Rattle.mxf_views.proofs.Common.{In-clear_notes, IsStart, covered_of, is_fill_note, is_filled}
-use Rattle.mxf_views.proofs.Common.{is_primer, is_readable_primer, is_start, zone_of, is_in_one}
-use Rattle.mxf_views.proofs.Common.{lies_in, AreApart-clear_notes, In-list_all, In-filter}
-use Rattle.mxf_views.proofs.Common.{list_any-In, found-In, none_found, inl, inr, BatchParts}
-use Rattle.mxf_views.proofs.Common.{IsFilled, IsPrimerOf, is_in_span, range-all, list_all-In}
-use Rattle.mxf_views.proofs.Common.{cases_order, clear_same, range-full, three_parts}
+use Rattle.mxf_views.proofs.Common.{◌≡◌, ℕ, ◌+◌, ◌-◌, ◌<◌, ◌≤◌, true, List, Some, None, refl, sym, ap, subst, ◌∙◌}
+use Rattle.mxf_views.proofs.Common.{arith, eqb-true, eq-eqb, ◌↔◌, ◌==◌, nat_le, find, is_some, count_by, option_map}
+use Rattle.mxf_views.proofs.Common.{list_all, range_with_len, and_from, and_parts, NoteParts, end_of, kind_of, In}
+use Rattle.mxf_views.proofs.Common.{primer_at, read_as, IsContent, IsClear, SharesByte, clear_notes, In-clear_notes}
+use Rattle.mxf_views.proofs.Common.{IsStart, covered_of, is_fill_note, is_filled, is_primer, is_readable_primer}
+use Rattle.mxf_views.proofs.Common.{is_start, zone_of, is_in_one, lies_in, AreApart-clear_notes, In-list_all, In-filter}
+use Rattle.mxf_views.proofs.Common.{list_any-In, found-In, none_found, inl, inr, BatchParts, IsFilled, IsPrimerOf}
+use Rattle.mxf_views.proofs.Common.{is_in_span, range-all, list_all-In, cases_order, clear_same, range-full}
+use Rattle.mxf_views.proofs.Common.{three_parts}
 use Rattle.std.proofs.Common.{le-leb, leb-true}
 use Rattle.mxf_views.specs.Copies.{start_of}
 use Rattle.mxf_views.proofs.KindLaws.{fill_kind, primer_kind}

@@ -1,11 +1,9 @@
 -- Going over the fills that follow a pack.
-use Rattle.mxf_views.proofs.Common.{◌≡◌, ℕ, ◌+◌, ◌<◌, ◌≤◌, ◌⊎◌, true, false, List, [], ◌∷◌, Some}
-use Rattle.mxf_views.proofs.Common.{None, refl, sym, ap, subst, ◌∙◌, inl, inr, arith, nat_lt}
-use Rattle.mxf_views.proofs.Common.{filter, then_some, ltb-true, and_from, and_parts, NoteParts}
-use Rattle.mxf_views.proofs.Common.{IsNote, end_of, In, IsCatalogue, IsContent, AreApart, IsClear}
-use Rattle.mxf_views.proofs.Common.{SharesByte, clear_notes, lies_in, In-clear_notes, IsStart}
-use Rattle.mxf_views.proofs.Common.{is_fill_note, is_readable_primer, all-In, In-filter, IsFilled}
-use Rattle.mxf_views.proofs.Common.{clear_same}
+use Rattle.mxf_views.proofs.Common.{◌≡◌, ℕ, ◌+◌, ◌<◌, ◌≤◌, ◌⊎◌, true, false, List, [], ◌∷◌, Some, None, refl, sym, ap}
+use Rattle.mxf_views.proofs.Common.{subst, ◌∙◌, inl, inr, arith, nat_lt, filter, then_some, ltb-true, and_from}
+use Rattle.mxf_views.proofs.Common.{and_parts, NoteParts, IsNote, end_of, In, IsCatalogue, IsContent, AreApart, IsClear}
+use Rattle.mxf_views.proofs.Common.{SharesByte, clear_notes, lies_in, In-clear_notes, IsStart, is_fill_note}
+use Rattle.mxf_views.proofs.Common.{is_readable_primer, all-In, In-filter, IsFilled, clear_same}
 use Rattle.std.proofs.Common.{le-leb, leb-true, ltb-false}
 use Rattle.mxf_views.specs.Copies.{start_of}
 use Rattle.mxf_views.proofs.StartLaws.{fill_note, not_in_fill, primer_note, start_is}

@@ -1,7 +1,7 @@
 -- The copies of a content start one behind another: behind the pack of each partition and before that of the next one.
-use Rattle.mxf_views.proofs.Common.{◌≡◌, ℕ, ◌<◌, ◌≤◌, List, [], ◌∷◌, Option, Some, None, refl, inl}
-use Rattle.mxf_views.proofs.Common.{inr, arith, NoteParts, In, IsContent, CopiesRise, copies_of}
-use Rattle.mxf_views.proofs.Common.{StartsRise, all_from_In, all-In, IsStartBelow}
+use Rattle.mxf_views.proofs.Common.{◌≡◌, ℕ, ◌<◌, ◌≤◌, List, [], ◌∷◌, Option, Some, None, refl, inl, inr, arith}
+use Rattle.mxf_views.proofs.Common.{NoteParts, In, IsContent, CopiesRise, copies_of, StartsRise, all_from_In, all-In}
+use Rattle.mxf_views.proofs.Common.{IsStartBelow}
 use Rattle.mxf_views.specs.declared.copy.CopyInfo.{CopyInfo}
 use Rattle.mxf_views.proofs.CopyChanges.{partitions_apart, start_before}
 use Rattle.mxf_views.proofs.CopyLaws.{copies_are, copies_rise}

@@ -1,9 +1,8 @@
 -- The clear notes from a boundary on, and the copies of one after another.
-use Rattle.mxf_views.proofs.Common.{◌≡◌, ℕ, ◌+◌, ◌-◌, ◌≤◌, List, refl, arith, ◌&&◌, Some, None}
-use Rattle.mxf_views.proofs.Common.{find, nat_le, NoteParts, IsNote, end_of, IsCatalogue}
-use Rattle.mxf_views.proofs.Common.{clear_notes, lies_in, In-clear_notes, option_map, is_filled}
-use Rattle.mxf_views.proofs.Common.{is_readable_primer, is_start, zone_of, clear_from, all-In}
-use Rattle.mxf_views.proofs.Common.{found-In, and_from, and_parts}
+use Rattle.mxf_views.proofs.Common.{◌≡◌, ℕ, ◌+◌, ◌-◌, ◌≤◌, List, refl, arith, ◌&&◌, Some, None, find, nat_le, NoteParts}
+use Rattle.mxf_views.proofs.Common.{IsNote, end_of, IsCatalogue, clear_notes, lies_in, In-clear_notes, option_map}
+use Rattle.mxf_views.proofs.Common.{is_filled, is_readable_primer, is_start, zone_of, clear_from, all-In, found-In}
+use Rattle.mxf_views.proofs.Common.{and_from, and_parts}
 use Rattle.std.proofs.Common.{leb-true, le-leb}
 use Rattle.mxf_views.specs.Copies.{start_of}
 use Rattle.mxf_klv.proofs.NoteFilters.{filter_twice}

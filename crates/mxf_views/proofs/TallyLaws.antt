@@ -1,12 +1,11 @@
 -- How many notes there are at most that something is kept of.
-use Rattle.mxf_views.proofs.Common.{◌≡◌, ◌≤◌, Bool, true, false, List, Option, None, ap, refl, ◌||◌}
-use Rattle.mxf_views.proofs.Common.{cond, count_by, is_some, not, option_map, kind_of, end_of}
-use Rattle.mxf_views.proofs.Common.{NoteParts, part_and_status, read_as, SegmentParts, segment_at}
-use Rattle.mxf_views.proofs.Common.{has_some_metadata, states_metadata, PartitionParts}
-use Rattle.mxf_views.proofs.Common.{is_no_unreadable_pack, pack_of, partition_at, SegmentAtParts}
-use Rattle.mxf_views.proofs.Common.{is_segment, placed_segment, ◌∙◌, sym, is_kept, is_rip_note}
-use Rattle.mxf_views.proofs.Common.{kept_partition, kept_random_index_pack, kept_segment}
-use Rattle.mxf_views.proofs.Common.{kept_unreadable_pack, none_if, in_numbers, without_entries}
+use Rattle.mxf_views.proofs.Common.{◌≡◌, ◌≤◌, Bool, true, false, List, Option, None, ap, refl, ◌||◌, cond, count_by}
+use Rattle.mxf_views.proofs.Common.{is_some, not, option_map, kind_of, end_of, NoteParts, part_and_status, read_as}
+use Rattle.mxf_views.proofs.Common.{SegmentParts, segment_at, has_some_metadata, states_metadata, PartitionParts}
+use Rattle.mxf_views.proofs.Common.{is_no_unreadable_pack, pack_of, partition_at, SegmentAtParts, is_segment}
+use Rattle.mxf_views.proofs.Common.{placed_segment, ◌∙◌, sym, is_kept, is_rip_note, kept_partition}
+use Rattle.mxf_views.proofs.Common.{kept_random_index_pack, kept_segment, kept_unreadable_pack, none_if, in_numbers}
+use Rattle.mxf_views.proofs.Common.{without_entries}
 use Rattle.mxf_views.proofs.PartitionLaws.{no_pack}
 use Rattle.mxf_klv.proofs.NoteFilters.{count_le}
 use Rattle.mxf_views.proofs.KeptItems.{kept_if}

@@ -1,8 +1,8 @@
 -- Copies of the header metadata (ST 377-1, header metadata of a partition; which copy is preferred is this project's
 -- profile). They go by the clear notes alone.
 use Rattle.std.specs.Prelude.{◌≡◌, ◌↔◌, ℕ, ◌+◌, ◌-◌, ◌<◌, ◌≤◌, ◌⊎◌, Bool, true, false, ◌&&◌, ◌==◌, nat_le, nat_lt, cond}
-use Rattle.std.specs.Prelude.{Option, Some, None, is_some, List, [], ◌∷◌, length, map, filter, find, count_by}
-use Rattle.std.specs.Prelude.{IsTrue, ◌||◌}
+use Rattle.std.specs.Prelude.{Option, Some, None, is_some, List, [], ◌∷◌, length, map, filter, find, count_by, IsTrue}
+use Rattle.std.specs.Prelude.{◌||◌}
 use Rattle.std.specs.Option.{option_map}
 use Rattle.std.specs.List.{list_all, range_with_len}
 use Rattle.mxf_klv.specs.declared.kinds.Kind.{Kind}

@@ -2,8 +2,8 @@
 use Rattle.std.specs.Prelude.{◌≡◌, ℕ, Option, Some, None, List, [], ◌∷◌}
 use Rattle.mxf_klv.specs.Parts.{NoteParts}
 use Rattle.mxf_sets.specs.RandomIndexPack.{RipParts}
-use Rattle.mxf_views.specs.RandomIndex.{AreSeveralRips, IsClearRip, IsOnlyRip, IsReadableRip, RipAtParts}
-use Rattle.mxf_views.specs.RandomIndex.{rip_in, rips_of, standings_among}
+use Rattle.mxf_views.specs.RandomIndex.{AreSeveralRips, IsClearRip, IsOnlyRip, IsReadableRip, RipAtParts, rip_in}
+use Rattle.mxf_views.specs.RandomIndex.{rips_of, standings_among}
 use Rattle.mxf_views.specs.Partitions.{PartitionParts, partitions_of}
 use Rattle.mxf_views.specs.declared.random_index.RipView.{RipView}
 use Rattle.mxf_views.specs.declared.random_index.RipView.TheVariants.{Absent, Several, Unreadable, One}

@@ -1,5 +1,4 @@
-use Rattle.mxf_klv.proofs.Common.{◌≡◌, ◌∙◌, [], List, ap, arith, map, subst, sym, drop_all}
-use Rattle.mxf_klv.proofs.Common.{NoteParts}
+use Rattle.mxf_klv.proofs.Common.{◌≡◌, ◌∙◌, [], List, ap, arith, map, subst, sym, drop_all, NoteParts}
 use Rattle.mxf_catalogue.specs.declared.run.Run.{Run}
 use Rattle.mxf_catalogue.specs.Covers.{union_of_runs}
 use Rattle.mxf_catalogue.specs.NoteLists.{Covers, covered_run}

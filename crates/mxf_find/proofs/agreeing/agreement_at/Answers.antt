@@ -1,9 +1,7 @@
-use Rattle.mxf_klv.proofs.Common.{◌≡◌, ◌∙◌, ℕ, List, refl, subst, sym, true≢false, CanHead}
-use Rattle.mxf_klv.proofs.Common.{NoteParts, head_parts, In}
+use Rattle.mxf_klv.proofs.Common.{◌≡◌, ◌∙◌, ℕ, List, refl, subst, sym, true≢false, CanHead, NoteParts, head_parts, In}
 use Rattle.mxf_catalogue.specs.Content.{has_note}
-use Rattle.mxf_find.proofs.AgreeingLaws.{agrees_none, as_head_none, head_agrees, head_as_head}
-use Rattle.mxf_find.proofs.AgreeingLaws.{head_there, held_agrees, held_as_head, moved_agrees}
-use Rattle.mxf_find.proofs.AgreeingLaws.{no_head, not_had, whole_as_head}
+use Rattle.mxf_find.proofs.AgreeingLaws.{agrees_none, as_head_none, head_agrees, head_as_head, head_there, held_agrees}
+use Rattle.mxf_find.proofs.AgreeingLaws.{held_as_head, moved_agrees, no_head, not_had, whole_as_head}
 use Rattle.mxf_find.proofs.VoteLaws.{unfalse, untrue}
 use Rattle.mxf_find.proofs.agreeing.agreement_at.Goals as goal
 

@@ -1,5 +1,4 @@
-use Rattle.mxf_klv.proofs.Common.{◌≡◌, ◌∙◌, length, subst, sym, true, CanNote, NoteParts}
-use Rattle.mxf_klv.proofs.Common.{note_parts}
+use Rattle.mxf_klv.proofs.Common.{◌≡◌, ◌∙◌, length, subst, sym, true, CanNote, NoteParts, note_parts}
 use Rattle.mxf_find.proofs.MovedLaws.{can_keep, no_note}
 use Rattle.mxf_find.proofs.agreeing.moved.Goals as goal
 

@@ -1,5 +1,4 @@
-use Rattle.mxf_klv.proofs.Common.{◌∙◌, ℕ, List, ap, drop, nat_lt, rules, take}
-use Rattle.mxf_klv.proofs.Common.{IsPartitionPoint-from_clause, NoteParts}
+use Rattle.mxf_klv.proofs.Common.{◌∙◌, ℕ, List, ap, drop, nat_lt, rules, take, IsPartitionPoint-from_clause, NoteParts}
 use Rattle.mxf_find.specs.Packets.{front_of, sole}
 use Rattle.mxf_find.proofs.PacketRuns.{coarse_fronts, parted, run, side}
 use Rattle.mxf_find.proofs.packets.only_with_front.Goals as goal

@@ -1,5 +1,4 @@
-use Rattle.mxf_klv.proofs.Common.{ℕ, List, subst, sym, IsNonDecreasing, IsNonDecreasingBy-from_sort}
-use Rattle.mxf_klv.proofs.Common.{IfSome_then}
+use Rattle.mxf_klv.proofs.Common.{ℕ, List, subst, sym, IsNonDecreasing, IsNonDecreasingBy-from_sort, IfSome_then}
 use Rattle.mxf_find.specs.Votes.{IsMostVoted}
 use Rattle.mxf_find.proofs.CountLaws.{most-permuted}
 use Rattle.mxf_find.proofs.votes.most_voted.Goals as goal

@@ -1,5 +1,4 @@
-use Rattle.mxf_klv.proofs.Common.{List, ◌++◌, ◌∙◌, ℕ, ap, append_assoc, string_bytes, sym}
-use Rattle.mxf_klv.proofs.Common.{flat_map-append, chars_rest}
+use Rattle.mxf_klv.proofs.Common.{List, ◌++◌, ◌∙◌, ℕ, ap, append_assoc, string_bytes, sym, flat_map-append, chars_rest}
 use Rattle.std.specs.Char.{encode_utf8}
 use Rattle.mxf_forms.specs.Forms.{escaped, escaped_character}
 use Rattle.mxf_forms.proofs.field_writer.append_escaped.Goals as goal

@@ -1,6 +1,5 @@
 -- What was added so far, with the heads that are to come.
-use Rattle.mxf_views.proofs.Common.{◌≡◌, ◌↔◌, ℕ, List, filter, map, into_iter_items, NoteParts}
-use Rattle.mxf_views.proofs.Common.{reduced_union, LiesIn}
+use Rattle.mxf_views.proofs.Common.{◌≡◌, ◌↔◌, ℕ, List, filter, map, into_iter_items, NoteParts, reduced_union, LiesIn}
 use Rattle.mxf_hand.specs.Finding.{IsStart}
 use Rattle.mxf_hand.specs.Rounds.{is_taken}
 use Rattle.mxf_hand.proofs.found.add_taken.Given as goal

@@ -1,5 +1,5 @@
-use Rattle.mxf_views.proofs.Common.{◌≡◌, ◌∙◌, ◌<◌, ◌&&◌, Bool, ap, arith, not, nat_lt, refl, sym}
-use Rattle.mxf_views.proofs.Common.{and_from, and_parts, end_of, NoteParts, list_any-In, same_bool}
+use Rattle.mxf_views.proofs.Common.{◌≡◌, ◌∙◌, ◌<◌, ◌&&◌, Bool, ap, arith, not, nat_lt, refl, sym, and_from, and_parts}
+use Rattle.mxf_views.proofs.Common.{end_of, NoteParts, list_any-In, same_bool}
 use Rattle.std.proofs.lemmas.Bool.{lt-ltb, ltb-true}
 use Rattle.mxf_hand.specs.Rounds.{is_crossed}
 use Rattle.mxf_hand.proofs.found.is_taken.Goals as goal

@@ -1,5 +1,5 @@
-use Rattle.mxf_views.proofs.Common.{◌≡◌, ◌∙◌, ◌++◌, ℕ, [], None, Option, Some, ap, append-nil, map}
-use Rattle.mxf_views.proofs.Common.{sym, option_map_or, NoteParts}
+use Rattle.mxf_views.proofs.Common.{◌≡◌, ◌∙◌, ◌++◌, ℕ, [], None, Option, Some, ap, append-nil, map, sym, option_map_or}
+use Rattle.mxf_views.proofs.Common.{NoteParts}
 use Rattle.mxf_read.specs.Feeding.{option_list}
 use Rattle.mxf_restore.specs.Plan.{start_of}
 use Rattle.mxf_hand.specs.Hand.{read_heads, read_packets}

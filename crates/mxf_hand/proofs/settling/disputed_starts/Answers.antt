@@ -1,6 +1,5 @@
 use Rattle.mxf_views.proofs.Common.{rules, YieldsList-from_map, items_from_collect, YieldsList-at}
-use Rattle.mxf_views.proofs.Common.{YieldsList-from_filter, YieldsList-from_first, DisputedParts}
-use Rattle.mxf_views.proofs.Common.{disputed_notes}
+use Rattle.mxf_views.proofs.Common.{YieldsList-from_filter, YieldsList-from_first, DisputedParts, disputed_notes}
 use Rattle.mxf_hand.proofs.settling.disputed_starts.Goals as goal
 
 pub returns : goal.returns

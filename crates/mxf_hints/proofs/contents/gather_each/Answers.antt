@@ -1,5 +1,4 @@
-use Rattle.mxf_views.proofs.Common.{◌≡◌, ◌∙◌, List, [], length, subst, sym, into_iter_items}
-use Rattle.mxf_views.proofs.Common.{NoteParts}
+use Rattle.mxf_views.proofs.Common.{◌≡◌, ◌∙◌, List, [], length, subst, sym, into_iter_items, NoteParts}
 use Rattle.mxf_read.specs.declared.gathering.report.PieceReport.{PieceReport}
 use Rattle.mxf_read.proofs.GatheringLaws.{IsPassed, passed_none, passed_one, told}
 use Rattle.mxf_hints.proofs.ContentsLaws.{AreTaken, reported_all, taken_all, taken_none, taken_one}

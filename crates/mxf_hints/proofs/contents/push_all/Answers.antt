@@ -1,5 +1,4 @@
-use Rattle.mxf_views.proofs.Common.{rules, YieldsList-from_map, YieldsList-from_slice}
-use Rattle.mxf_views.proofs.Common.{items_from_extend}
+use Rattle.mxf_views.proofs.Common.{rules, YieldsList-from_map, YieldsList-from_slice, items_from_extend}
 use Rattle.mxf_hints.specs.Contents.{numbered}
 use Rattle.mxf_hints.proofs.contents.push_all.Goals as goal
 

@@ -1,5 +1,5 @@
-use Rattle.mxf_klv.proofs.Common.{rules, nat_lt, arith, ltb-true, ltb-false}
-use Rattle.mxf_klv.proofs.Common.{IsPartitionPoint-from_clause, IsPartitionedBy-ltb}
+use Rattle.mxf_klv.proofs.Common.{rules, nat_lt, arith, ltb-true, ltb-false, IsPartitionPoint-from_clause}
+use Rattle.mxf_klv.proofs.Common.{IsPartitionedBy-ltb}
 use Rattle.mxf_klv.proofs.search.below.Goals as goal
 
 pub returns-in-Some-clause-below : goal.returns-in-Some-clause-below

@@ -1,5 +1,4 @@
-use Rattle.mxf_klv.proofs.Common.{◌∙◌, ◌==◌, ap, sym, subst, IsTrue, map, ◌↔◌, ltb-true, lt-ltb}
-use Rattle.mxf_klv.proofs.Common.{false≢true, In}
+use Rattle.mxf_klv.proofs.Common.{◌∙◌, ◌==◌, ap, sym, subst, IsTrue, map, ◌↔◌, ltb-true, lt-ltb, false≢true, In}
 use Rattle.mxf_klv.proofs.Searches.{first_with_key, key_there}
 use Rattle.mxf_klv.proofs.Lists.{In-map}
 use Rattle.mxf_klv.proofs.search.has_key.Goals as goal

@@ -1,5 +1,5 @@
-use Rattle.mxf_klv.proofs.Common.{rules, nat_le, arith, leb-true, leb-false}
-use Rattle.mxf_klv.proofs.Common.{IsPartitionPoint-from_clause, IsPartitionedBy-leb}
+use Rattle.mxf_klv.proofs.Common.{rules, nat_le, arith, leb-true, leb-false, IsPartitionPoint-from_clause}
+use Rattle.mxf_klv.proofs.Common.{IsPartitionedBy-leb}
 use Rattle.mxf_klv.proofs.search.up_to.Goals as goal
 
 pub returns-in-Some-clause-below : goal.returns-in-Some-clause-below

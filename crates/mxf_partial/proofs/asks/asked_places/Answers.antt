@@ -1,5 +1,4 @@
-use Rattle.std.proofs.Common.{◌≡◌, ◌↔◌, ◌⊎◌, ◌∙◌, Bool, List, ap, inl, inr, nat_cmp, subst, sym, true}
-use Rattle.std.proofs.Common.{false}
+use Rattle.std.proofs.Common.{◌≡◌, ◌↔◌, ◌⊎◌, ◌∙◌, Bool, List, ap, inl, inr, nat_cmp, subst, sym, true, false}
 use Rattle.mxf_klv.specs.Rising.{In, IsRising}
 use Rattle.mxf_restore.specs.declared.named.NamedPlace.{NamedPlace}
 use Rattle.mxf_partial.specs.Asks.{IsAskedByIndex, IsAskedByUnit}
@@ -7,7 +6,8 @@ use Rattle.mxf_partial.specs.Between.{IsOneOf16, MayIndexOneOf}
 use Rattle.mxf_partial.specs.Wanted.{WantedParts}
 use Rattle.mxf_partial.proofs.AskLaws.{both_are, numbers_are_rising}
 use Rattle.mxf_partial.proofs.asks.asked_places.Goals as goal
-use Rattle.mxf_partial.proofs.asks.asked_places.Goals.{then-is_index_sought+in_ok-numbers+in_ok-add_chosen, else-is_index_sought}
+use Rattle.mxf_partial.proofs.asks.asked_places.Goals.{then-is_index_sought+in_ok-numbers+in_ok-add_chosen}
+use Rattle.mxf_partial.proofs.asks.asked_places.Goals.{else-is_index_sought}
 
 pub add_chosen-requires-clause-rising : goal.add_chosen-requires-clause-rising
 add_chosen-requires-clause-rising c =

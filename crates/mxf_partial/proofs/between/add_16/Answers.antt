@@ -1,5 +1,5 @@
-use Rattle.mxf_views.proofs.Common.{◌≡◌, ◌∙◌, ◌*◌, ◌/◌, ◌<◌, ℕ, ap, arith, length, subst, sym}
-use Rattle.mxf_views.proofs.Common.{slice_get, slice_get-get_or}
+use Rattle.mxf_views.proofs.Common.{◌≡◌, ◌∙◌, ◌*◌, ◌/◌, ◌<◌, ℕ, ap, arith, length, subst, sym, slice_get}
+use Rattle.mxf_views.proofs.Common.{slice_get-get_or}
 use Rattle.mxf_partial.proofs.ChosenLaws.{all_taken, one_more, part_within}
 use Rattle.mxf_partial.proofs.between.add_16.Goals as goal
 

@@ -1,7 +1,6 @@
-use Rattle.mxf_views.proofs.Common.{◌≡◌, ◌↔◌, ◌∙◌, List, ap, filter, rules, subst, sym}
-use Rattle.mxf_views.proofs.Common.{YieldsList-from_slice, items_from_collect, YieldsList-at}
-use Rattle.mxf_views.proofs.Common.{YieldsList-from_copied, YieldsList-from_filter, on_ok_weaker}
-use Rattle.mxf_views.proofs.Common.{In}
+use Rattle.mxf_views.proofs.Common.{◌≡◌, ◌↔◌, ◌∙◌, List, ap, filter, rules, subst, sym, YieldsList-from_slice}
+use Rattle.mxf_views.proofs.Common.{items_from_collect, YieldsList-at, YieldsList-from_copied, YieldsList-from_filter}
+use Rattle.mxf_views.proofs.Common.{on_ok_weaker, In}
 use Rattle.std.specs.Result.{IfOk}
 use Rattle.mxf_restore.specs.declared.named.NamedPlace.{NamedPlace}
 use Rattle.mxf_partial.specs.Between.{IsOneOf16, MayIndexOneOf}

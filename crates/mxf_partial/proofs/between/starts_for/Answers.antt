@@ -1,9 +1,7 @@
-use Rattle.mxf_views.proofs.Common.{◌≡◌, ◌∙◌, ◌==◌, ℕ, Bool, List, ap, filter, map, refl, rules}
-use Rattle.mxf_views.proofs.Common.{subst, sym, IsNonDecreasingBy, YieldsList-from_map}
-use Rattle.mxf_views.proofs.Common.{YieldsList-from_slice, items_from_collect, YieldsList-at}
-use Rattle.mxf_views.proofs.Common.{YieldsList-from_filter, map-map, NoteParts, never_falls}
-use Rattle.mxf_views.proofs.Common.{rises-filter, rises-map, SegmentAtParts, segments_of}
-use Rattle.mxf_views.proofs.Common.{without_entries}
+use Rattle.mxf_views.proofs.Common.{◌≡◌, ◌∙◌, ◌==◌, ℕ, Bool, List, ap, filter, map, refl, rules, subst, sym}
+use Rattle.mxf_views.proofs.Common.{IsNonDecreasingBy, YieldsList-from_map, YieldsList-from_slice, items_from_collect}
+use Rattle.mxf_views.proofs.Common.{YieldsList-at, YieldsList-from_filter, map-map, NoteParts, never_falls}
+use Rattle.mxf_views.proofs.Common.{rises-filter, rises-map, SegmentAtParts, segments_of, without_entries}
 use Rattle.std.specs.Result.{IfOk}
 use Rattle.mxf_views.proofs.KeyedLists.{rise_by}
 use Rattle.mxf_views.proofs.NumbersLaws.{filter_mapped}

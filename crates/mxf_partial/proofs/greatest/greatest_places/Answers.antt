@@ -1,9 +1,7 @@
-use Rattle.mxf_views.proofs.Common.{◌≡◌, ◌∙◌, ap, sym, subst, List, SegmentParts, SegmentAtParts}
-use Rattle.mxf_views.proofs.Common.{segments_of}
+use Rattle.mxf_views.proofs.Common.{◌≡◌, ◌∙◌, ap, sym, subst, List, SegmentParts, SegmentAtParts, segments_of}
 use Rattle.mxf_sets.specs.declared.segment.numbers.SegmentNumbers.{SegmentNumbers}
 use Rattle.mxf_partial.specs.declared.greatest.GreatestPlace.{GreatestPlace}
-use Rattle.mxf_partial.proofs.GreatestLaws.{Passed, all_greatest, passed_more, passed_none}
-use Rattle.mxf_partial.proofs.GreatestLaws.{passed_other}
+use Rattle.mxf_partial.proofs.GreatestLaws.{Passed, all_greatest, passed_more, passed_none, passed_other}
 use Rattle.mxf_partial.proofs.greatest.greatest_places.Goals as goal
 
 pub loop-segment-init : goal.loop-segment-init

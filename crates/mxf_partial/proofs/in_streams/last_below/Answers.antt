@@ -1,5 +1,4 @@
-use Rattle.mxf_views.proofs.Common.{◌∙◌, ◌+◌, ◌<◌, ltb-true, refl, arith, sym, ltb-false}
-use Rattle.mxf_views.proofs.Common.{slice_get_read}
+use Rattle.mxf_views.proofs.Common.{◌∙◌, ◌+◌, ◌<◌, ltb-true, refl, arith, sym, ltb-false, slice_get_read}
 use Rattle.mxf_partial.proofs.InStreamLaws.{last_found, none_before, other_before}
 use Rattle.mxf_partial.proofs.in_streams.last_below.Goals.{in_default-via-in-Some+else-stream}
 use Rattle.mxf_partial.proofs.in_streams.last_below.Goals.{in_default-via-in_default}

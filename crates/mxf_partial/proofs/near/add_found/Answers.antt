@@ -1,6 +1,5 @@
-use Rattle.mxf_views.proofs.Common.{inl, inr, subst, sym, List, YieldsList-from_slice}
-use Rattle.mxf_views.proofs.Common.{items_from_extend, YieldsList-from_copied, on_ok_weaker, In}
-use Rattle.mxf_views.proofs.Common.{In-append}
+use Rattle.mxf_views.proofs.Common.{inl, inr, subst, sym, List, YieldsList-from_slice, items_from_extend}
+use Rattle.mxf_views.proofs.Common.{YieldsList-from_copied, on_ok_weaker, In, In-append}
 use Rattle.mxf_restore.specs.declared.named.NamedPlace.{NamedPlace}
 use Rattle.mxf_partial.proofs.NearPlaces.{true_not_false}
 use Rattle.mxf_partial.proofs.PlaceLaws.{on_ok}

@@ -1,5 +1,5 @@
-use Rattle.mxf_views.proofs.Common.{◌≡◌, ◌↔◌, ◌⊎◌, ◌<◌, ◌≤◌, ℕ, List, Some, true, false, arith}
-use Rattle.mxf_views.proofs.Common.{length, subst, on_ok_weaker, In, LiesIn}
+use Rattle.mxf_views.proofs.Common.{◌≡◌, ◌↔◌, ◌⊎◌, ◌<◌, ◌≤◌, ℕ, List, Some, true, false, arith, length, subst}
+use Rattle.mxf_views.proofs.Common.{on_ok_weaker, In, LiesIn}
 use Rattle.std.proofs.Common.{slice_get}
 use Rattle.mxf_restore.specs.declared.named.NamedPlace.{NamedPlace}
 use Rattle.mxf_partial.specs.NearTable.{named_of}

@@ -1,6 +1,5 @@
-use Rattle.mxf_views.proofs.Common.{◌≡◌, ◌∙◌, ◌++◌, List, ap, map, rules, YieldsList-from_map}
-use Rattle.mxf_views.proofs.Common.{YieldsList-from_slice, items_from_extend}
-use Rattle.mxf_views.proofs.Common.{YieldsList-from_copied, map-map, in_numbers, partitions_of}
+use Rattle.mxf_views.proofs.Common.{◌≡◌, ◌∙◌, ◌++◌, List, ap, map, rules, YieldsList-from_map, YieldsList-from_slice}
+use Rattle.mxf_views.proofs.Common.{items_from_extend, YieldsList-from_copied, map-map, in_numbers, partitions_of}
 use Rattle.mxf_restore.specs.declared.named.NamedPlace.{NamedPlace}
 use Rattle.mxf_partial.specs.NearTable.{partition_place}
 use Rattle.mxf_partial.proofs.PlaceLaws.{on_ok}

@@ -1,5 +1,4 @@
-use Rattle.mxf_views.proofs.Common.{rules, YieldsList-from_map, YieldsList-from_slice}
-use Rattle.mxf_views.proofs.Common.{items_from_extend}
+use Rattle.mxf_views.proofs.Common.{rules, YieldsList-from_map, YieldsList-from_slice, items_from_extend}
 use Rattle.mxf_partial.specs.Orders.{unit_order}
 use Rattle.mxf_partial.proofs.plan.add_ranges.Goals as goal
 

@@ -1,5 +1,4 @@
-use Rattle.mxf_views.proofs.Common.{◌∙◌, ◌↔◌, ◌⊎◌, ◌<◌, ℕ, Option, min, subst, sym, unwrap_or}
-use Rattle.mxf_views.proofs.Common.{greatest_end, LiesIn}
+use Rattle.mxf_views.proofs.Common.{◌∙◌, ◌↔◌, ◌⊎◌, ◌<◌, ℕ, Option, min, subst, sym, unwrap_or, greatest_end, LiesIn}
 use Rattle.mxf_units.specs.declared.unit.Extent.{Extent}
 use Rattle.mxf_partial.specs.Wanted.{HasByte}
 use Rattle.mxf_partial.proofs.WantedLaws.{added}

@@ -1,5 +1,5 @@
-use Rattle.mxf_views.proofs.Common.{◌≡◌, ◌↔◌, ◌⊎◌, ◌∙◌, List, Ok, Err, Result, inl, inr, subst, sym}
-use Rattle.mxf_views.proofs.Common.{Some, OnOk, NoteParts, In, IsContent}
+use Rattle.mxf_views.proofs.Common.{◌≡◌, ◌↔◌, ◌⊎◌, ◌∙◌, List, Ok, Err, Result, inl, inr, subst, sym, Some, OnOk}
+use Rattle.mxf_views.proofs.Common.{NoteParts, In, IsContent}
 use Rattle.mxf_views.specs.declared.index.place.StreamPlace.{StreamPlace}
 use Rattle.mxf_restore.specs.declared.named.NamedPlace.{NamedPlace}
 use Rattle.mxf_units.specs.EssenceZones.{parts_of}

@@ -1,5 +1,4 @@
-use Rattle.mxf_views.proofs.Common.{map, rules, items_from_extend, YieldsList-from_filter_map}
-use Rattle.mxf_views.proofs.Common.{YieldsList-from_first}
+use Rattle.mxf_views.proofs.Common.{map, rules, items_from_extend, YieldsList-from_filter_map, YieldsList-from_first}
 use Rattle.mxf_places.specs.Claims.{entry_claim}
 use Rattle.mxf_places.proofs.claim.add_entries_of.Goals as goal
 

@@ -1,6 +1,5 @@
-use Rattle.mxf_views.proofs.Common.{◌≡◌, ◌∙◌, List, ap, map, rules, YieldsList-from_slice}
-use Rattle.mxf_views.proofs.Common.{items_from_extend, YieldsList-from_filter_map, NoteParts}
-use Rattle.mxf_views.proofs.Common.{in_numbers, partitions_of}
+use Rattle.mxf_views.proofs.Common.{◌≡◌, ◌∙◌, List, ap, map, rules, YieldsList-from_slice, items_from_extend}
+use Rattle.mxf_views.proofs.Common.{YieldsList-from_filter_map, NoteParts, in_numbers, partitions_of}
 use Rattle.std.specs.List.{filter_map}
 use Rattle.mxf_places.specs.Claims.{zone_claim}
 use Rattle.mxf_places.proofs.InNumbers.{zones}

@@ -1,6 +1,5 @@
-use Rattle.mxf_views.proofs.Common.{◌≡◌, ◌∙◌, [], List, ap, map, subst, sym, union_of_runs}
-use Rattle.mxf_views.proofs.Common.{with_run, run, covered_end, NoteParts, DisputedParts}
-use Rattle.mxf_views.proofs.Common.{disputed_notes, covered_run}
+use Rattle.mxf_views.proofs.Common.{◌≡◌, ◌∙◌, [], List, ap, map, subst, sym, union_of_runs, with_run, run, covered_end}
+use Rattle.mxf_views.proofs.Common.{NoteParts, DisputedParts, disputed_notes, covered_run}
 use Rattle.mxf_places.specs.Held.{AreDisputed}
 use Rattle.mxf_places.proofs.HeldLaws.{disputed_runs}
 use Rattle.mxf_places.proofs.held.disputed_in.Goals as goal

@@ -1,5 +1,4 @@
-use Rattle.mxf_views.proofs.Common.{◌∙◌, ap, sym, List, Option, option_map, Some, NoteParts, end_of}
-use Rattle.mxf_views.proofs.Common.{clear_notes}
+use Rattle.mxf_views.proofs.Common.{◌∙◌, ap, sym, List, Option, option_map, Some, NoteParts, end_of, clear_notes}
 use Rattle.std.specs.Prelude.{find, ◌==◌}
 use Rattle.mxf_places.specs.Held.{rip_end_by}
 use Rattle.mxf_places.proofs.held.rip_end.Goals as goal

@@ -1,5 +1,4 @@
-use Rattle.mxf_views.proofs.Common.{List, ap, subst, sym, ◌∙◌, ◌<◌, ◌≡◌, arith, NoteParts}
-use Rattle.mxf_views.proofs.Common.{IsCatalogue, PartitionParts}
+use Rattle.mxf_views.proofs.Common.{List, ap, subst, sym, ◌∙◌, ◌<◌, ◌≡◌, arith, NoteParts, IsCatalogue, PartitionParts}
 use Rattle.mxf_places.proofs.StretchLaws.{far_index}
 use Rattle.mxf_places.proofs.stretch.index_of.Goals as goal
 

@@ -1,7 +1,6 @@
-use Rattle.mxf_views.proofs.Common.{◌≡◌, ◌∙◌, ◌+◌, None, Some, drop, ◌∷◌, List, ℕ, refl, sym, ap}
-use Rattle.mxf_views.proofs.Common.{arith, length, length-drop, note_of, size_of, PacketParts}
-use Rattle.mxf_views.proofs.Common.{notes_in, packet_at, packets_in, stop_in, packets_in-none}
-use Rattle.mxf_views.proofs.Common.{packets_in-some}
+use Rattle.mxf_views.proofs.Common.{◌≡◌, ◌∙◌, ◌+◌, None, Some, drop, ◌∷◌, List, ℕ, refl, sym, ap, arith, length}
+use Rattle.mxf_views.proofs.Common.{length-drop, note_of, size_of, PacketParts, notes_in, packet_at, packets_in}
+use Rattle.mxf_views.proofs.Common.{stop_in, packets_in-none, packets_in-some}
 use Rattle.mxf_read.proofs.Taking.{ended, one_more, stopped, stopped_at_head}
 use Rattle.mxf_read.proofs.absorbing.note_packets.Goals as goal
 

@@ -1,9 +1,9 @@
 use Rattle.std.proofs.Common.{[], ◌≡◌, ◌∙◌, sym, subst, List, arith}
 use Rattle.std.specs.Vec.Iter.{into_iter_items}
 use Rattle.mxf_read.proofs.GatheringLaws.{IsPassed, IsGathered, passed_none, gathered_none, passed_one, gathered_one}
-use Rattle.mxf_read.proofs.GatheringLaws.{nothing_left, passed_all, passed_within}
-use Rattle.mxf_read.proofs.GatheringLaws.{gathered_good, gathered_reports, gathered_run, gathered_left}
-use Rattle.mxf_read.proofs.GatheringLaws.{gathered_nothing, gathered_fault, gathered_wants, told}
+use Rattle.mxf_read.proofs.GatheringLaws.{nothing_left, passed_all, passed_within, gathered_good, gathered_reports}
+use Rattle.mxf_read.proofs.GatheringLaws.{gathered_run, gathered_left, gathered_nothing, gathered_fault, gathered_wants}
+use Rattle.mxf_read.proofs.GatheringLaws.{told}
 use Rattle.mxf_read.proofs.gathering.gather.Goals as goal
 
 pub parts-init : goal.parts-init

@@ -1,9 +1,9 @@
-use Rattle.mxf_views.proofs.Common.{◌≡◌, ◌∙◌, length, List, [], None, IfSome, take, sym, ap, subst}
-use Rattle.mxf_views.proofs.Common.{NoteParts, reduced_union}
+use Rattle.mxf_views.proofs.Common.{◌≡◌, ◌∙◌, length, List, [], None, IfSome, take, sym, ap, subst, NoteParts}
+use Rattle.mxf_views.proofs.Common.{reduced_union}
 use Rattle.mxf_read.specs.Gathering.{piece_limit}
 use Rattle.mxf_read.specs.Ranges.{no_start, range_notes, start_in}
-use Rattle.mxf_read.proofs.RangeLaws.{found, left_unread, nothing_noted, nothing_told, piece_noted}
-use Rattle.mxf_read.proofs.RangeLaws.{piece_told, start_left}
+use Rattle.mxf_read.proofs.RangeLaws.{found, left_unread, nothing_noted, nothing_told, piece_noted, piece_told}
+use Rattle.mxf_read.proofs.RangeLaws.{start_left}
 use Rattle.mxf_read.proofs.gathering.read_range.Goals as goal
 
 pub returns-in_default-clause-report : goal.returns-in_default-clause-report

@@ -1,5 +1,4 @@
-use Rattle.mxf_klv.proofs.Common.{rules, nat_lt, ordering_index, ltb-false, ltb-true}
-use Rattle.mxf_klv.proofs.Common.{IsPartitionPoint-from_clause}
+use Rattle.mxf_klv.proofs.Common.{rules, nat_lt, ordering_index, ltb-false, ltb-true, IsPartitionPoint-from_clause}
 use Rattle.mxf_readings.specs.Holdings.{side}
 use Rattle.mxf_readings.proofs.HoldingLaws.{parted_below}
 use Rattle.mxf_readings.proofs.holding.count_below.Goals as goal

@@ -1,11 +1,13 @@
-use Rattle.std.proofs.Common.{◌≡◌, ◌∙◌, ◌+◌, ◌-◌, ◌<◌, ℕ, suc, List, ap, arith, eq-eqb, false, get_or, inl, inr, length, not, refl, sym}
+use Rattle.std.proofs.Common.{◌≡◌, ◌∙◌, ◌+◌, ◌-◌, ◌<◌, ℕ, suc, List, ap, arith, eq-eqb, false, get_or, inl, inr, length}
+use Rattle.std.proofs.Common.{not, refl, sym}
 use Rattle.std.proofs.lemmas.Bool.{cases_Bool}
 use Rattle.std.proofs.lemmas.List.{get_or_default}
 use Rattle.mxf_klv.specs.Parts.{NoteParts}
 use Rattle.mxf_readings.specs.Holdings.{HoldingParts, is_of}
 use Rattle.mxf_readings.proofs.HoldingLaws.{not_only_ahead, not_only_behind, only}
 use Rattle.mxf_readings.proofs.holding.is_only.Goals as goal
-use Rattle.mxf_readings.proofs.holding.is_only.Goals.{else-at-gt0-via-then-at-gt0+else-is_of, else-at-gt0-via-else-at-gt0}
+use Rattle.mxf_readings.proofs.holding.is_only.Goals.{else-at-gt0-via-then-at-gt0+else-is_of}
+use Rattle.mxf_readings.proofs.holding.is_only.Goals.{else-at-gt0-via-else-at-gt0}
 
 -- Whether the holding at a place is of a note.
 there : (hs : List HoldingParts) (j k : ℕ) (n m : NoteParts) (x d : HoldingParts) → j ≡ k → n ≡ m → x ≡ get_or hs j x

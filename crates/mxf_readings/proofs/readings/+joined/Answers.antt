@@ -1,5 +1,4 @@
-use Rattle.mxf_klv.proofs.Common.{◌≡◌, ◌∙◌, ◌++◌, ◌/◌, IfOk, List, ap, length, subst, take}
-use Rattle.mxf_klv.proofs.Common.{take-append-drop, NoteParts}
+use Rattle.mxf_klv.proofs.Common.{◌≡◌, ◌∙◌, ◌++◌, ◌/◌, IfOk, List, ap, length, subst, take, take-append-drop, NoteParts}
 use Rattle.mxf_readings.proofs.AllNotesLaws.{halves_joined}
 use Rattle.mxf_readings.proofs.readings.+joined.Goals as goal
 

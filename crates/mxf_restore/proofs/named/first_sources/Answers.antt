@@ -1,6 +1,5 @@
-use Rattle.mxf_views.proofs.Common.{◌≡◌, ◌∙◌, ◌++◌, ◌∷◌, [], ℕ, List, Option, ap, append-nil}
-use Rattle.mxf_views.proofs.Common.{append_assoc, arith, subst, sym, nil_from_length, lookup}
-use Rattle.mxf_views.proofs.Common.{nat_cmp, is_at}
+use Rattle.mxf_views.proofs.Common.{◌≡◌, ◌∙◌, ◌++◌, ◌∷◌, [], ℕ, List, Option, ap, append-nil, append_assoc, arith}
+use Rattle.mxf_views.proofs.Common.{subst, sym, nil_from_length, lookup, nat_cmp, is_at}
 use Rattle.mxf_restore.specs.NamedPlaces.{AreFirst}
 use Rattle.mxf_restore.specs.declared.named.NamedPlace.{NamedPlace}
 use Rattle.mxf_restore.proofs.NamedPlaceLaws.{first_sources-insert}

@@ -1,5 +1,4 @@
-use Rattle.mxf_views.proofs.Common.{◌∙◌, drop, nat_lt, true, le-ltb, option_map_or, by_itself}
-use Rattle.mxf_views.proofs.Common.{never_falls}
+use Rattle.mxf_views.proofs.Common.{◌∙◌, drop, nat_lt, true, le-ltb, option_map_or, by_itself, never_falls}
 use Rattle.std.proofs.lemmas.Bool.{lt-ltb}
 use Rattle.mxf_klv.proofs.Windows.{window}
 use Rattle.mxf_restore.proofs.section.cuts_in.Goals as goal

@@ -1,5 +1,4 @@
-use Rattle.mxf_klv.proofs.Common.{◌≡◌, ℕ, Ok, Err, true, ◌∙◌, sym, arith, all_ascii_digits}
-use Rattle.mxf_klv.proofs.Common.{both_ways}
+use Rattle.mxf_klv.proofs.Common.{◌≡◌, ℕ, Ok, Err, true, ◌∙◌, sym, arith, all_ascii_digits, both_ways}
 use Rattle.std.proofs.lemmas.Str.Parse.{parse_digits}
 use Rattle.mxf_saving.proofs.SourceLaws.{numerals, list_all-digits}
 use Rattle.mxf_saving.proofs.source.offset_of.Goals as goal

@@ -1,5 +1,5 @@
-use Rattle.mxf_views.proofs.Common.{◌≡◌, ◌∙◌, [], List, ap, filter, map, subst, sym, NoteParts}
-use Rattle.mxf_views.proofs.Common.{union_of_runs, undisputed_notes, covered_run}
+use Rattle.mxf_views.proofs.Common.{◌≡◌, ◌∙◌, [], List, ap, filter, map, subst, sym, NoteParts, union_of_runs}
+use Rattle.mxf_views.proofs.Common.{undisputed_notes, covered_run}
 use Rattle.mxf_units.specs.Units.{AreBesideEssence}
 use Rattle.mxf_units.proofs.BesideLaws.{beside_runs, cant_be}
 use Rattle.mxf_units.proofs.beside.beside_essence.Goals as goal

@@ -1,6 +1,5 @@
 -- The runs, with those of the packets that are to come and can't be essence.
-use Rattle.mxf_views.proofs.Common.{◌≡◌, [], filter, map, union_of_runs, undisputed_notes}
-use Rattle.mxf_views.proofs.Common.{covered_run}
+use Rattle.mxf_views.proofs.Common.{◌≡◌, [], filter, map, union_of_runs, undisputed_notes, covered_run}
 use Rattle.mxf_units.proofs.BesideLaws.{cant_be}
 use Rattle.mxf_units.proofs.beside.beside_essence.Given as goal
 

@@ -1,5 +1,4 @@
-use Rattle.mxf_views.proofs.Common.{rules, YieldsList-from_slice, items_from_extend}
-use Rattle.mxf_views.proofs.Common.{YieldsList-from_filter_map}
+use Rattle.mxf_views.proofs.Common.{rules, YieldsList-from_slice, items_from_extend, YieldsList-from_filter_map}
 use Rattle.mxf_units.specs.EssenceZones.{open_place}
 use Rattle.mxf_units.proofs.bounds.add_open_places.Goals as goal
 

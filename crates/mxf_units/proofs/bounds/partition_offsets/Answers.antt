@@ -1,6 +1,5 @@
-use Rattle.mxf_views.proofs.Common.{◌≡◌, ◌∙◌, ap, map, rules, YieldsList-from_map}
-use Rattle.mxf_views.proofs.Common.{YieldsList-from_slice, items_from_collect, map-map}
-use Rattle.mxf_views.proofs.Common.{PartitionParts, in_numbers, partitions_of}
+use Rattle.mxf_views.proofs.Common.{◌≡◌, ◌∙◌, ap, map, rules, YieldsList-from_map, YieldsList-from_slice}
+use Rattle.mxf_views.proofs.Common.{items_from_collect, map-map, PartitionParts, in_numbers, partitions_of}
 use Rattle.mxf_units.proofs.bounds.partition_offsets.Goals as goal
 
 pub returns : goal.returns

@@ -1,5 +1,4 @@
-use Rattle.mxf_views.proofs.Common.{◌∙◌, ◌==◌, List, ap, false, find, true, NoteParts}
-use Rattle.mxf_views.proofs.Common.{undisputed_notes}
+use Rattle.mxf_views.proofs.Common.{◌∙◌, ◌==◌, List, ap, false, find, true, NoteParts, undisputed_notes}
 use Rattle.mxf_units.specs.EssenceZones.{may_be_essence}
 use Rattle.mxf_units.proofs.PacketLaws.{essence_is}
 use Rattle.mxf_units.proofs.first_packet.essence_at.Goals as goal

@@ -1,5 +1,4 @@
-use Rattle.mxf_views.proofs.Common.{List, arith, subst, ◌∙◌, ◌≤◌, NoteParts, greatest_end}
-use Rattle.mxf_views.proofs.Common.{IsCatalogue}
+use Rattle.mxf_views.proofs.Common.{List, arith, subst, ◌∙◌, ◌≤◌, NoteParts, greatest_end, IsCatalogue}
 use Rattle.mxf_units.proofs.PacketLaws.{far_packet}
 use Rattle.mxf_units.proofs.first_packet.first_packet.Goals as goal
 

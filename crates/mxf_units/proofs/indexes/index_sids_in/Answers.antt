@@ -1,6 +1,5 @@
-use Rattle.mxf_views.proofs.Common.{◌≡◌, ◌∙◌, ap, map, rules, YieldsList-from_map}
-use Rattle.mxf_views.proofs.Common.{YieldsList-from_slice, items_from_collect, map-map}
-use Rattle.mxf_views.proofs.Common.{SegmentAtParts, segments_of, without_entries}
+use Rattle.mxf_views.proofs.Common.{◌≡◌, ◌∙◌, ap, map, rules, YieldsList-from_map, YieldsList-from_slice}
+use Rattle.mxf_views.proofs.Common.{items_from_collect, map-map, SegmentAtParts, segments_of, without_entries}
 use Rattle.mxf_units.proofs.indexes.index_sids_in.Goals as goal
 
 pub returns : goal.returns

@@ -1,6 +1,5 @@
-use Rattle.mxf_views.proofs.Common.{◌≡◌, ◌∙◌, List, ap, filter_map, rules, YieldsList-from_slice}
-use Rattle.mxf_views.proofs.Common.{items_from_collect, YieldsList-from_filter_map, PartitionParts}
-use Rattle.mxf_views.proofs.Common.{partitions_of}
+use Rattle.mxf_views.proofs.Common.{◌≡◌, ◌∙◌, List, ap, filter_map, rules, YieldsList-from_slice, items_from_collect}
+use Rattle.mxf_views.proofs.Common.{YieldsList-from_filter_map, PartitionParts, partitions_of}
 use Rattle.mxf_units.specs.Indexes.{index_sid_named}
 use Rattle.mxf_units.proofs.SidLaws.{named-mapped}
 use Rattle.mxf_units.proofs.indexes.index_sids_named.Goals as goal

@@ -1,6 +1,5 @@
-use Rattle.mxf_views.proofs.Common.{◌↔◌, ◌∙◌, ◌==◌, ℕ, IfErr, IsTrue, List, Ok, Err, Result, is_ok}
-use Rattle.mxf_views.proofs.Common.{refl, nat_cmp_total, nat_cmp-IsAntisymmetric, list_any, nat_cmp}
-use Rattle.mxf_views.proofs.Common.{In, IsPlaceOf, same_bool, search_says}
+use Rattle.mxf_views.proofs.Common.{◌↔◌, ◌∙◌, ◌==◌, ℕ, IfErr, IsTrue, List, Ok, Err, Result, is_ok, refl, nat_cmp_total}
+use Rattle.mxf_views.proofs.Common.{nat_cmp-IsAntisymmetric, list_any, nat_cmp, In, IsPlaceOf, same_bool, search_says}
 use Rattle.std.proofs.Common.{OnOk}
 use Rattle.mxf_units.proofs.SidLaws.{any-says}
 use Rattle.mxf_units.proofs.indexes.is_among.Goals as goal

@@ -1,5 +1,4 @@
-use Rattle.mxf_views.proofs.Common.{rules, nat_le, leb-false, IsPartitionPoint-from_clause}
-use Rattle.mxf_views.proofs.Common.{IsPartitionedBy-leb}
+use Rattle.mxf_views.proofs.Common.{rules, nat_le, leb-false, IsPartitionPoint-from_clause, IsPartitionedBy-leb}
 use Rattle.mxf_units.proofs.intervals.begun_by.Goals as goal
 
 pub returns-clause-above : goal.returns-clause-above

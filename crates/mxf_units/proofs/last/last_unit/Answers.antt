@@ -1,9 +1,8 @@
-use Rattle.mxf_views.proofs.Common.{◌≡◌, ◌∙◌, ap, subst, sym, inl, refl, Some, max, unwrap_or}
-use Rattle.mxf_views.proofs.Common.{SegmentParts, SegmentAtParts, segments_of}
+use Rattle.mxf_views.proofs.Common.{◌≡◌, ◌∙◌, ap, subst, sym, inl, refl, Some, max, unwrap_or, SegmentParts}
+use Rattle.mxf_views.proofs.Common.{SegmentAtParts, segments_of}
 use Rattle.mxf_sets.specs.declared.segment.numbers.SegmentNumbers.{SegmentNumbers}
 use Rattle.mxf_units.specs.LastUnits.{GivesPlace, IsEndless, IsLastWith, NoneWith}
-use Rattle.mxf_units.proofs.LastLaws.{HasPassed, all-passed, endless-more, last-more, none-more}
-use Rattle.mxf_units.proofs.LastLaws.{other-passed}
+use Rattle.mxf_units.proofs.LastLaws.{HasPassed, all-passed, endless-more, last-more, none-more, other-passed}
 use Rattle.mxf_units.proofs.last.last_unit.Goals as goal
 
 pub returns-then-is_endless : goal.returns-then-is_endless

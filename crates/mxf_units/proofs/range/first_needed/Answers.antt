@@ -1,5 +1,5 @@
-use Rattle.mxf_views.proofs.Common.{◌≡◌, ◌∙◌, ℕ, List, ◌∷◌, Option, None, Some, ap, arith}
-use Rattle.mxf_views.proofs.Common.{filter_map, refl, sym, cons_option, option_to_list}
+use Rattle.mxf_views.proofs.Common.{◌≡◌, ◌∙◌, ℕ, List, ◌∷◌, Option, None, Some, ap, arith, filter_map, refl, sym}
+use Rattle.mxf_views.proofs.Common.{cons_option, option_to_list}
 use Rattle.mxf_units.specs.Ranges.{least_of, needed_from}
 use Rattle.mxf_units.specs.declared.unit.EditUnit.{EditUnit}
 use Rattle.mxf_units.proofs.range.first_needed.Goals as goal

@@ -1,6 +1,5 @@
-use Rattle.mxf_views.proofs.Common.{◌∙◌, ◌≡◌, ◌++◌, ◌+◌, ◌-◌, ◌<◌, List, [], ◌∷◌, ap, arith}
-use Rattle.mxf_views.proofs.Common.{filter_map, subst, sym, ℕ, AllByRecursion, range_with_len}
-use Rattle.mxf_views.proofs.Common.{all_push, place_in}
+use Rattle.mxf_views.proofs.Common.{◌∙◌, ◌≡◌, ◌++◌, ◌+◌, ◌-◌, ◌<◌, List, [], ◌∷◌, ap, arith, filter_map, subst, sym, ℕ}
+use Rattle.mxf_views.proofs.Common.{AllByRecursion, range_with_len, all_push, place_in}
 use Rattle.mxf_views.specs.declared.index.place.StreamPlace.{StreamPlace}
 use Rattle.mxf_units.specs.Streams.{IsSmall}
 use Rattle.mxf_units.proofs.RangeLaws.{placed-step, skipped-step}

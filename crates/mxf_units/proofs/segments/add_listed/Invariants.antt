@@ -1,6 +1,5 @@
 -- The places so far, with those of the units that are to come.
-use Rattle.mxf_views.proofs.Common.{◌≡◌, ◌++◌, ◌-◌, filter_map, AllByRecursion, range_with_len}
-use Rattle.mxf_views.proofs.Common.{place_in}
+use Rattle.mxf_views.proofs.Common.{◌≡◌, ◌++◌, ◌-◌, filter_map, AllByRecursion, range_with_len, place_in}
 use Rattle.mxf_units.specs.Streams.{IsSmall}
 use Rattle.mxf_units.proofs.segments.add_listed.Given as goal
 

@@ -1,7 +1,6 @@
-use Rattle.mxf_views.proofs.Common.{◌≡◌, ◌∙◌, ◌==◌, List, ap, filter, filter_map, find, rules}
-use Rattle.mxf_views.proofs.Common.{YieldsList-from_slice, items_from_collect, YieldsList-at}
-use Rattle.mxf_views.proofs.Common.{YieldsList-from_filter, YieldsList-from_filter_map}
-use Rattle.mxf_views.proofs.Common.{SegmentAtParts, segments_of, without_entries, In-filter}
+use Rattle.mxf_views.proofs.Common.{◌≡◌, ◌∙◌, ◌==◌, List, ap, filter, filter_map, find, rules, YieldsList-from_slice}
+use Rattle.mxf_views.proofs.Common.{items_from_collect, YieldsList-at, YieldsList-from_filter}
+use Rattle.mxf_views.proofs.Common.{YieldsList-from_filter_map, SegmentAtParts, segments_of, without_entries, In-filter}
 use Rattle.mxf_views.proofs.KeptLaws.{segments_found}
 use Rattle.mxf_views.proofs.NumbersLaws.{filter_mapped}
 use Rattle.mxf_units.proofs.segments.segments_for.Goals as goal

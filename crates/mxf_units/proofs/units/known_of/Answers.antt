@@ -1,5 +1,5 @@
-use Rattle.mxf_views.proofs.Common.{◌≡◌, ◌∙◌, ◌↔◌, Ok, Err, Result, IfOk, List, ℕ, inl, inr, subst}
-use Rattle.mxf_views.proofs.Common.{sym, union_of_runs, union_of_runs-IsUnion, LiesIn, NoteParts}
+use Rattle.mxf_views.proofs.Common.{◌≡◌, ◌∙◌, ◌↔◌, Ok, Err, Result, IfOk, List, ℕ, inl, inr, subst, sym, union_of_runs}
+use Rattle.mxf_views.proofs.Common.{union_of_runs-IsUnion, LiesIn, NoteParts}
 use Rattle.mxf_catalogue.specs.declared.cover.Cover.{Cover}
 use Rattle.mxf_catalogue.specs.declared.run.Run.{Run}
 use Rattle.mxf_places.specs.AtHand.{KnownParts}

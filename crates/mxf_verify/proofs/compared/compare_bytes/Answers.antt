@@ -1,5 +1,5 @@
-use Rattle.mxf_views.proofs.Common.{◌∙◌, ◌+◌, ◌-◌, ◌≤◌, IfSome, length, refl, arith, subst, sym}
-use Rattle.mxf_views.proofs.Common.{take, AllWithin, IsNonDecreasingBy}
+use Rattle.mxf_views.proofs.Common.{◌∙◌, ◌+◌, ◌-◌, ◌≤◌, IfSome, length, refl, arith, subst, sym, take, AllWithin}
+use Rattle.mxf_views.proofs.Common.{IsNonDecreasingBy}
 use Rattle.mxf_verify.specs.Candidates.{offset_of}
 use Rattle.mxf_verify.specs.Compared.{ComparesBytes}
 use Rattle.mxf_verify.specs.declared.compared.Compared.{Compared}

@@ -1,5 +1,4 @@
-use Rattle.mxf_views.proofs.Common.{◌↔◌, ◌∙◌, map, refl, subst, sym, AllByRecursion, In}
-use Rattle.mxf_views.proofs.Common.{all_from_In}
+use Rattle.mxf_views.proofs.Common.{◌↔◌, ◌∙◌, map, refl, subst, sym, AllByRecursion, In, all_from_In}
 use Rattle.mxf_verify.specs.declared.verification.Differing.{Differing}
 use Rattle.mxf_verify.proofs.FinishingLaws.{bytes_same, verification_of}
 use Rattle.mxf_verify.proofs.finishing.finish.Goals as goal

@@ -1,5 +1,4 @@
-use Rattle.mxf_views.proofs.Common.{rules, is_lt, IsPartitionPoint-from_clause, NoteParts}
-use Rattle.mxf_views.proofs.Common.{head_note, note_cmp}
+use Rattle.mxf_views.proofs.Common.{rules, is_lt, IsPartitionPoint-from_clause, NoteParts, head_note, note_cmp}
 use denote.Bor.{Bor}
 use Rattle.mxf_verify.proofs.OtherLaws.{parted-count, parted_below}
 use Rattle.mxf_verify.proofs.others.heads_below.Goals as goal

@@ -1,5 +1,4 @@
-use Rattle.mxf_views.proofs.Common.{rules, is_le, IsPartitionPoint-from_clause, NoteParts}
-use Rattle.mxf_views.proofs.Common.{head_note, note_cmp}
+use Rattle.mxf_views.proofs.Common.{rules, is_le, IsPartitionPoint-from_clause, NoteParts, head_note, note_cmp}
 use denote.Bor.{Bor}
 use Rattle.mxf_verify.proofs.OtherLaws.{parted-count, parted_up_to}
 use Rattle.mxf_verify.proofs.others.heads_up_to.Goals as goal

@@ -1,5 +1,5 @@
-use Rattle.mxf_views.proofs.Common.{rules, nat_le, leb-true, leb-false}
-use Rattle.mxf_views.proofs.Common.{IsPartitionPoint-from_clause, IsPartitionedBy-leb}
+use Rattle.mxf_views.proofs.Common.{rules, nat_le, leb-true, leb-false, IsPartitionPoint-from_clause}
+use Rattle.mxf_views.proofs.Common.{IsPartitionedBy-leb}
 use Rattle.mxf_catalogue.specs.declared.run.Run.{Run}
 use Rattle.mxf_verify.proofs.ranges.begun_by.Goals as goal
 

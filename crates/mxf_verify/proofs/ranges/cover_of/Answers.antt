@@ -1,5 +1,4 @@
-use Rattle.mxf_views.proofs.Common.{◌≤◌, List, subst, sym, AllByRecursion, IfOk-weaker}
-use Rattle.mxf_views.proofs.Common.{greatest_end, SameOffsets}
+use Rattle.mxf_views.proofs.Common.{◌≤◌, List, subst, sym, AllByRecursion, IfOk-weaker, greatest_end, SameOffsets}
 use Rattle.mxf_catalogue.specs.declared.run.Run.{Run}
 use Rattle.mxf_units.proofs.NextPlaceLaws.{all_permuted}
 use Rattle.mxf_verify.proofs.RangeLaws.{offsets_permuted}

@@ -1,5 +1,4 @@
-use Rattle.mxf_views.proofs.Common.{◌+◌, List, subst, sym, take, take_all, greatest_end}
-use Rattle.mxf_views.proofs.Common.{SameOffsets}
+use Rattle.mxf_views.proofs.Common.{◌+◌, List, subst, sym, take, take_all, greatest_end, SameOffsets}
 use Rattle.mxf_catalogue.specs.declared.run.Run.{Run}
 use Rattle.mxf_catalogue.proofs.CoverLaws.{end_within}
 use Rattle.mxf_verify.proofs.RangeLaws.{added-step, skipped-step}

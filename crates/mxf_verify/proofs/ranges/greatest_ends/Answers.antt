@@ -1,5 +1,4 @@
-use Rattle.mxf_views.proofs.Common.{ℕ, max, rules, YieldsList-from_slice, items_from_collect}
-use Rattle.mxf_views.proofs.Common.{YieldsList-from_scan}
+use Rattle.mxf_views.proofs.Common.{ℕ, max, rules, YieldsList-from_slice, items_from_collect, YieldsList-from_scan}
 use Rattle.mxf_catalogue.specs.declared.run.Run.{Run}
 use Rattle.mxf_units.proofs.IntervalLaws.{greater}
 use Rattle.mxf_verify.proofs.ReachLaws.{scanned}

@@ -1,5 +1,5 @@
-use Rattle.mxf_views.proofs.Common.{◌≡◌, ◌↔◌, ◌<◌, ◌≤◌, ◌-◌, ◌∙◌, ℕ, List, ap, arith, get_or}
-use Rattle.mxf_views.proofs.Common.{length, subst, sym, le-leb, leb-true}
+use Rattle.mxf_views.proofs.Common.{◌≡◌, ◌↔◌, ◌<◌, ◌≤◌, ◌-◌, ◌∙◌, ℕ, List, ap, arith, get_or, length, subst, sym}
+use Rattle.mxf_views.proofs.Common.{le-leb, leb-true}
 use Rattle.mxf_catalogue.specs.declared.run.Run.{Run}
 use Rattle.mxf_verify.specs.Reaching.{HasOne}
 use Rattle.mxf_units.proofs.IntervalLaws.{length-ends}

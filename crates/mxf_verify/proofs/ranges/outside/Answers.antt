@@ -1,5 +1,5 @@
-use Rattle.mxf_views.proofs.Common.{◌≡◌, ◌∷◌, ◌++◌, [], rules, items_from_collect}
-use Rattle.mxf_views.proofs.Common.{YieldsList-from_first, greatest_end, gaps_of_runs, run}
+use Rattle.mxf_views.proofs.Common.{◌≡◌, ◌∷◌, ◌++◌, [], rules, items_from_collect, YieldsList-from_first, greatest_end}
+use Rattle.mxf_views.proofs.Common.{gaps_of_runs, run}
 use Rattle.mxf_verify.proofs.RangeLaws.{below_greatest, outside-offsets, outside-within}
 use Rattle.mxf_verify.proofs.ranges.outside.Goals as goal
 

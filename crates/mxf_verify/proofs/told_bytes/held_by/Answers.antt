@@ -1,5 +1,5 @@
-use Rattle.mxf_views.proofs.Common.{◌≡◌, ◌∙◌, [], List, ap, arith, map, subst, sym, drop_all}
-use Rattle.mxf_views.proofs.Common.{NoteParts, union_of_runs, Covers, covered_run, covers_all}
+use Rattle.mxf_views.proofs.Common.{◌≡◌, ◌∙◌, [], List, ap, arith, map, subst, sym, drop_all, NoteParts, union_of_runs}
+use Rattle.mxf_views.proofs.Common.{Covers, covered_run, covers_all}
 use Rattle.mxf_catalogue.specs.declared.run.Run.{Run}
 use denote.Bor.{Bor}
 use Rattle.mxf_verify.specs.Telling.{notes_at}

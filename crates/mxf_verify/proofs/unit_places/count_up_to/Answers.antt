@@ -1,5 +1,5 @@
-use Rattle.mxf_views.proofs.Common.{nat_le, rules, ℕ, leb-true, leb-false}
-use Rattle.mxf_views.proofs.Common.{IsPartitionPoint-from_clause, IsPartitionedBy-leb}
+use Rattle.mxf_views.proofs.Common.{nat_le, rules, ℕ, leb-true, leb-false, IsPartitionPoint-from_clause}
+use Rattle.mxf_views.proofs.Common.{IsPartitionedBy-leb}
 use Rattle.mxf_verify.proofs.unit_places.count_up_to.Goals as goal
 
 pub returns : goal.returns

@@ -1,5 +1,5 @@
-use Rattle.mxf_klv.proofs.Common.{◌≡◌, ◌≤◌, ◌∙◌, [], IfOk, ap, arith, refl, sym, subst, List}
-use Rattle.mxf_klv.proofs.Common.{IfOk-weaker, end_of, In, NoteParts}
+use Rattle.mxf_klv.proofs.Common.{◌≡◌, ◌≤◌, ◌∙◌, [], IfOk, ap, arith, refl, sym, subst, List, IfOk-weaker, end_of, In}
+use Rattle.mxf_klv.proofs.Common.{NoteParts}
 use Rattle.std.proofs.lemmas.Result.{on_ok_weaker}
 use Rattle.mxf_catalogue.specs.Moved.{TellsMoved}
 use Rattle.mxf_catalogue.specs.declared.catalogue.change.Change.{Change}

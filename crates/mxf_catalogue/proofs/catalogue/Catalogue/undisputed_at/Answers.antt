@@ -1,5 +1,4 @@
-use Rattle.mxf_klv.proofs.Common.{◌∙◌, ap, sym, subst, ◌≡◌, ◌≢◌, Some, None, IfSome, find}
-use Rattle.mxf_klv.proofs.Common.{option_copied, NoteParts, In}
+use Rattle.mxf_klv.proofs.Common.{◌∙◌, ap, sym, subst, ◌≡◌, ◌≢◌, Some, None, IfSome, find, option_copied, NoteParts, In}
 use Rattle.std.specs.Prelude.{IfNone, ◌==◌}
 use Rattle.mxf_catalogue.specs.Disputes.{undisputed_notes}
 use Rattle.mxf_catalogue.proofs.DisputeLaws.{undisputed_at-found, undisputed_at-lacked}

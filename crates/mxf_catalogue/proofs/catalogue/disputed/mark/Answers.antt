@@ -1,5 +1,4 @@
-use Rattle.mxf_klv.proofs.Common.{◌+◌, ◌<◌, ◌≤◌, ◌||◌, ℕ, length, nat_lt, subst, AllWithin}
-use Rattle.mxf_klv.proofs.Common.{NoteParts}
+use Rattle.mxf_klv.proofs.Common.{◌+◌, ◌<◌, ◌≤◌, ◌||◌, ℕ, length, nat_lt, subst, AllWithin, NoteParts}
 use Rattle.mxf_catalogue.proofs.MarkLaws.{left_rises, marks_are}
 use Rattle.mxf_catalogue.proofs.catalogue.disputed.mark.Goals as goal
 

@@ -1,5 +1,5 @@
-use Rattle.mxf_klv.proofs.Common.{◌++◌, ◌∷◌, ◌∙◌, [], List, ap, append-nil, append_assoc, arith}
-use Rattle.mxf_klv.proofs.Common.{sym, err_from_is_err_and, NoteParts}
+use Rattle.mxf_klv.proofs.Common.{◌++◌, ◌∷◌, ◌∙◌, [], List, ap, append-nil, append_assoc, arith, sym}
+use Rattle.mxf_klv.proofs.Common.{err_from_is_err_and, NoteParts}
 use Rattle.std.proofs.KnownBytes.{Appends-nil}
 use Rattle.mxf_catalogue.proofs.FileParts.{fails_in_note, note_written}
 use Rattle.mxf_catalogue.proofs.catalogue.file.put_notes.Goals as goal

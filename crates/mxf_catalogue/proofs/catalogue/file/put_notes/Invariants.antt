@@ -1,6 +1,5 @@
 -- Some notes were written, and the others are to come.
-use Rattle.mxf_klv.proofs.Common.{◌≡◌, ◌+◌, ◌++◌, List, length, Appends, flat_map, NoteParts}
-use Rattle.mxf_klv.proofs.Common.{counted}
+use Rattle.mxf_klv.proofs.Common.{◌≡◌, ◌+◌, ◌++◌, List, length, Appends, flat_map, NoteParts, counted}
 use Rattle.mxf_catalogue.specs.CatalogueFile.{note_bytes}
 use Rattle.mxf_catalogue.specs.declared.catalogue.file.start.Version.TheVariants.{Two}
 use Rattle.mxf_catalogue.proofs.catalogue.file.put_notes.Given as goal

@@ -1,5 +1,5 @@
-use Rattle.mxf_klv.proofs.Common.{◌+◌, ◌++◌, ◌∷◌, ◌∙◌, [], List, arith, ap, refl, sym, subst}
-use Rattle.mxf_klv.proofs.Common.{length, length-append, err_from_is_err_and, NoteParts}
+use Rattle.mxf_klv.proofs.Common.{◌+◌, ◌++◌, ◌∷◌, ◌∙◌, [], List, arith, ap, refl, sym, subst, length, length-append}
+use Rattle.mxf_klv.proofs.Common.{err_from_is_err_and, NoteParts}
 use Rattle.std.specs.Prelude.{IsTrue}
 use Rattle.mxf_catalogue.specs.Content.{IsContent}
 use Rattle.mxf_catalogue.specs.CatalogueFile.{IsFront, IsHeadLast}

@@ -1,7 +1,7 @@
 use Rattle.mxf_klv.proofs.Common.{◌∙◌, ◌∷◌, arith, ap, refl, sym, Some, nil_from_length}
 use Rattle.mxf_catalogue.specs.Content.{union_of}
-use Rattle.mxf_catalogue.proofs.MergeLaws.{first_and_rest, taken, taken_right, union_of-less}
-use Rattle.mxf_catalogue.proofs.MergeLaws.{union_of-same, union_of-greater}
+use Rattle.mxf_catalogue.proofs.MergeLaws.{first_and_rest, taken, taken_right, union_of-less, union_of-same}
+use Rattle.mxf_catalogue.proofs.MergeLaws.{union_of-greater}
 use Rattle.mxf_catalogue.proofs.catalogue.merging.take_first.Goals as goal
 
 pub returns-in_default-clause-first : goal.returns-in_default-clause-first

@@ -1,5 +1,4 @@
-use Rattle.mxf_klv.proofs.Common.{length, sym, ◌∙◌, ap, subst, ltb-true, lt-ltb, false≢true}
-use Rattle.mxf_klv.proofs.Common.{NoteParts, In}
+use Rattle.mxf_klv.proofs.Common.{length, sym, ◌∙◌, ap, subst, ltb-true, lt-ltb, false≢true, NoteParts, In}
 use Rattle.mxf_catalogue.proofs.Ranges.{stands_at}
 use Rattle.mxf_catalogue.proofs.catalogue.placing.at_offset.Goals.{in_default-via-in-Some+else-offset}
 use Rattle.mxf_catalogue.proofs.catalogue.placing.at_offset.Goals.{in_default-via-in_default}

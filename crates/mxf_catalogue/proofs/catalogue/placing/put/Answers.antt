@@ -1,5 +1,4 @@
-use Rattle.mxf_klv.proofs.Common.{sym, ◌∙◌, ap, subst, insert, note_total, note_cmp-IsAntisymmetric}
-use Rattle.mxf_klv.proofs.Common.{In}
+use Rattle.mxf_klv.proofs.Common.{sym, ◌∙◌, ap, subst, insert, note_total, note_cmp-IsAntisymmetric, In}
 use Rattle.mxf_klv.proofs.RisingLemmas.{with_one_present}
 use Rattle.mxf_catalogue.specs.Content.{IsContent}
 use Rattle.mxf_catalogue.proofs.ContentLaws.{IsContent-with_note}

@@ -1,5 +1,4 @@
-use Rattle.mxf_klv.proofs.Common.{◌∙◌, ◌+◌, ◌<◌, ◌≤◌, ◌≡◌, arith, ap, drop, get_or, length}
-use Rattle.mxf_klv.proofs.Common.{AllWithin, IsNote, end_of}
+use Rattle.mxf_klv.proofs.Common.{◌∙◌, ◌+◌, ◌<◌, ◌≤◌, ◌≡◌, arith, ap, drop, get_or, length, AllWithin, IsNote, end_of}
 use Rattle.mxf_catalogue.proofs.Ranges.{zone_range}
 use Rattle.mxf_klv.proofs.Lists.{all-In, In-at}
 use Rattle.mxf_catalogue.proofs.catalogue.placing.within.Goals as goal

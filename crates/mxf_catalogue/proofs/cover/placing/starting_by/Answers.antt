@@ -1,6 +1,6 @@
 use Rattle.mxf_klv.proofs.Common.{rules, nat_le, arith, ap, length, sym, ◌-◌, leb-true, leb-false}
-use Rattle.mxf_klv.proofs.Common.{IsPartitionPoint-from_clause, IsPartitionedBy-leb}
-use Rattle.mxf_klv.proofs.Common.{get_or_from_slice_get, slice_get_within}
+use Rattle.mxf_klv.proofs.Common.{IsPartitionPoint-from_clause, IsPartitionedBy-leb, get_or_from_slice_get}
+use Rattle.mxf_klv.proofs.Common.{slice_get_within}
 use Rattle.mxf_catalogue.specs.declared.run.Run.{Run}
 use Rattle.mxf_catalogue.proofs.CoverLaws.{starts_rise}
 use Rattle.mxf_catalogue.proofs.cover.placing.starting_by.Goals as goal

@@ -2,8 +2,7 @@ use Rattle.mxf_klv.proofs.Common.{◌≡◌, ◌∙◌, ◌&&◌, false, not, su
 use Rattle.mxf_find.specs.Telling.{IsNoneOf}
 use Rattle.mxf_find.specs.Votes.{voted_by}
 use Rattle.mxf_find.proofs.TellerLaws.{all_true, either_false, or_false}
-use Rattle.mxf_find.proofs.VoteLaws.{length_vote, no_length, unfalse, untold_length, untrue}
-use Rattle.mxf_find.proofs.VoteLaws.{whole_length}
+use Rattle.mxf_find.proofs.VoteLaws.{length_vote, no_length, unfalse, untold_length, untrue, whole_length}
 use Rattle.mxf_find.proofs.recording.Recording.voted_by_length.Goals.{then-is_head, else-is_head}
 use Rattle.mxf_find.proofs.recording.Recording.voted_by_length.Goals as goal
 

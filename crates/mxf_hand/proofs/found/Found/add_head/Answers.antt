@@ -1,5 +1,4 @@
-use Rattle.mxf_views.proofs.Common.{◌∙◌, ◌+◌, [], map, refl, subst, sym, Option, NoteParts}
-use Rattle.mxf_views.proofs.Common.{with_run, run}
+use Rattle.mxf_views.proofs.Common.{◌∙◌, ◌+◌, [], map, refl, subst, sym, Option, NoteParts, with_run, run}
 use Rattle.mxf_read.specs.Feeding.{option_list}
 use Rattle.mxf_hand.specs.Finding.{Grows}
 use Rattle.mxf_hand.specs.declared.found.CutHead.{CutHead}

@@ -1,5 +1,4 @@
-use Rattle.mxf_views.proofs.Common.{◌≡◌, ◌+◌, ◌∙◌, ℕ, ap, arith, subst, covered_end, end_of}
-use Rattle.mxf_views.proofs.Common.{LengthParts}
+use Rattle.mxf_views.proofs.Common.{◌≡◌, ◌+◌, ◌∙◌, ℕ, ap, arith, subst, covered_end, end_of, LengthParts}
 use Rattle.mxf_read.specs.Coming.{HasTaken}
 use Rattle.mxf_hand.specs.Given.{bytes_between}
 use Rattle.mxf_read.proofs.ComingLaws.{some_where}

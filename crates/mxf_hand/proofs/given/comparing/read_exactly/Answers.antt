@@ -1,5 +1,5 @@
-use Rattle.mxf_views.proofs.Common.{◌∙◌, ◌+◌, ◌-◌, ◌++◌, List, ℕ, Option, arith, inr, length}
-use Rattle.mxf_views.proofs.Common.{length-append, refl, subst, sym, take, take-append-le}
+use Rattle.mxf_views.proofs.Common.{◌∙◌, ◌+◌, ◌-◌, ◌++◌, List, ℕ, Option, arith, inr, length, length-append, refl}
+use Rattle.mxf_views.proofs.Common.{subst, sym, take, take-append-le}
 use Rattle.std.proofs.Common.{length-take}
 use Rattle.std.specs.Prelude.{IfSome}
 use borrow.Rule.Slice.PartMut.{post_of}

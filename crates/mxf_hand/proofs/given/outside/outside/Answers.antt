@@ -1,5 +1,4 @@
-use Rattle.mxf_views.proofs.Common.{◌∙◌, ◌↔◌, [], List, ap, subst, sym, AllByRecursion, IsCover}
-use Rattle.mxf_views.proofs.Common.{IsRun, LiesIn}
+use Rattle.mxf_views.proofs.Common.{◌∙◌, ◌↔◌, [], List, ap, subst, sym, AllByRecursion, IsCover, IsRun, LiesIn}
 use Rattle.mxf_catalogue.specs.declared.run.Run.{Run}
 use Rattle.mxf_hand.specs.Outside.{with_all_outside}
 use Rattle.mxf_hand.proofs.OutsideLaws.{IsCover-with_all_outside, LiesIn-outside}

@@ -1,5 +1,5 @@
-use Rattle.mxf_views.proofs.Common.{◌≡◌, ◌∙◌, ◌≤◌, ◌<◌, ◌+◌, ◌-◌, ℕ, List, ap, arith, inl, inr}
-use Rattle.mxf_views.proofs.Common.{refl, subst, sym, get_or, length, ◌≢◌, In, LiesIn}
+use Rattle.mxf_views.proofs.Common.{◌≡◌, ◌∙◌, ◌≤◌, ◌<◌, ◌+◌, ◌-◌, ℕ, List, ap, arith, inl, inr, refl, subst, sym}
+use Rattle.mxf_views.proofs.Common.{get_or, length, ◌≢◌, In, LiesIn}
 use Rattle.mxf_catalogue.specs.declared.run.Run.{Run}
 use Rattle.mxf_hand.specs.Given.{AreTold, bytes_between}
 use Rattle.mxf_hand.specs.Hand.{HandParts}

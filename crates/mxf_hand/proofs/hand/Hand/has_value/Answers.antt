@@ -1,5 +1,5 @@
-use Rattle.mxf_views.proofs.Common.{◌≡◌, ◌∙◌, ◌&&◌, List, ap, arith, nat_lt, not, subst, sym, true}
-use Rattle.mxf_views.proofs.Common.{covered_end, end_of, same_bool, LiesIn}
+use Rattle.mxf_views.proofs.Common.{◌≡◌, ◌∙◌, ◌&&◌, List, ap, arith, nat_lt, not, subst, sym, true, covered_end, end_of}
+use Rattle.mxf_views.proofs.Common.{same_bool, LiesIn}
 use Rattle.mxf_catalogue.specs.declared.run.Run.{Run}
 use Rattle.std.proofs.lemmas.Bool.{lt-ltb}
 use Rattle.mxf_places.specs.AtHand.{has_offsets}

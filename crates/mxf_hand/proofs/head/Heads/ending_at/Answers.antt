@@ -1,6 +1,6 @@
 use Rattle.mxf_views.proofs.Common.{◌∙◌, ◌&&◌, ◌==◌, List, ap, filter, map, nat_le, nat_lt, rules}
-use Rattle.mxf_views.proofs.Common.{YieldsList-from_slice, items_from_collect, YieldsList-at}
-use Rattle.mxf_views.proofs.Common.{YieldsList-from_copied, YieldsList-from_filter, covered_end}
+use Rattle.mxf_views.proofs.Common.{YieldsList-from_slice, items_from_collect, YieldsList-at, YieldsList-from_copied}
+use Rattle.mxf_views.proofs.Common.{YieldsList-from_filter, covered_end}
 use Rattle.mxf_hand.specs.Heads.{heads_to}
 use Rattle.mxf_hand.specs.declared.head.HeadNote.{HeadNote}
 use Rattle.mxf_hand.proofs.HeadNoteLaws.{ending}

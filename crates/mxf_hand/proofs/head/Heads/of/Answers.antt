@@ -1,6 +1,6 @@
-use Rattle.mxf_views.proofs.Common.{◌≡◌, ◌∙◌, filter, map, map-id, not, rules, subst}
-use Rattle.mxf_views.proofs.Common.{YieldsList-from_map_by, YieldsList-at, YieldsList-from_filter}
-use Rattle.mxf_views.proofs.Common.{YieldsList-from_first, map_from_collect, NoteParts}
+use Rattle.mxf_views.proofs.Common.{◌≡◌, ◌∙◌, filter, map, map-id, not, rules, subst, YieldsList-from_map_by}
+use Rattle.mxf_views.proofs.Common.{YieldsList-at, YieldsList-from_filter, YieldsList-from_first, map_from_collect}
+use Rattle.mxf_views.proofs.Common.{NoteParts}
 use Rattle.std.specs.Result.{IfOk}
 use Rattle.mxf_hand.specs.declared.head.HeadNote.{HeadNote}
 use Rattle.mxf_hand.proofs.HeadNoteLaws.{heads_are}

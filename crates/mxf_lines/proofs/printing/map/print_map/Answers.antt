@@ -1,5 +1,5 @@
-use Rattle.mxf_views.proofs.Common.{◌≡◌, ◌∙◌, ◌*◌, ◌<◌, ℕ, arith, length, subst, Appends-nil}
-use Rattle.mxf_views.proofs.Common.{err_from_is_err_and, Writes}
+use Rattle.mxf_views.proofs.Common.{◌≡◌, ◌∙◌, ◌*◌, ◌<◌, ℕ, arith, length, subst, Appends-nil, err_from_is_err_and}
+use Rattle.mxf_views.proofs.Common.{Writes}
 use Rattle.mxf_places.specs.AtHand.{KnownParts}
 use Rattle.mxf_map.specs.Map.{IsMap, MapParts}
 use Rattle.mxf_map.specs.declared.extent.MapExtent.{MapExtent}

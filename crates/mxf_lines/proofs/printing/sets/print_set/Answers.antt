@@ -1,5 +1,5 @@
-use Rattle.mxf_views.proofs.Common.{ℕ, List, Option, ◌∷◌, sym, ap, subst, ◌∙◌, option_and_then}
-use Rattle.mxf_views.proofs.Common.{Puts, ItemParts, primer_for, primer_of}
+use Rattle.mxf_views.proofs.Common.{ℕ, List, Option, ◌∷◌, sym, ap, subst, ◌∙◌, option_and_then, Puts, ItemParts}
+use Rattle.mxf_views.proofs.Common.{primer_for, primer_of}
 use Rattle.mxf_views.specs.declared.copy.CopyInfo.{CopyInfo}
 use Rattle.mxf_lines.specs.ItemLines.{label_by_copy, item_line, item_lines}
 use Rattle.mxf_lines.specs.Lines.{lines_where}

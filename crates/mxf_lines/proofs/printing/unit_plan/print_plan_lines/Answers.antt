@@ -1,5 +1,5 @@
-use Rattle.std.proofs.Common.{◌≡◌, ◌∙◌, ◌==◌, ◌+◌, ◌++◌, ◌&&◌, ◌∷◌, [], ℕ, IfOk, count_by, flat_map, if◌then◌else◌, is_none}
-use Rattle.std.proofs.Common.{length, subst, sum_by, sym}
+use Rattle.std.proofs.Common.{◌≡◌, ◌∙◌, ◌==◌, ◌+◌, ◌++◌, ◌&&◌, ◌∷◌, [], ℕ, IfOk, count_by, flat_map, if◌then◌else◌}
+use Rattle.std.proofs.Common.{is_none, length, subst, sum_by, sym}
 use Rattle.mxf_klv.specs.Written.{Puts}
 use Rattle.mxf_restore.specs.declared.disputes.Disputes.{Disputes}
 use Rattle.mxf_restore.specs.declared.plan.Order.{Order}

@@ -1,5 +1,5 @@
-use Rattle.mxf_views.proofs.Common.{◌≡◌, ◌<◌, ℕ, IfOk, arith, length, length-append, rules, subst}
-use Rattle.mxf_views.proofs.Common.{err_from_is_err_and, Writes}
+use Rattle.mxf_views.proofs.Common.{◌≡◌, ◌<◌, ℕ, IfOk, arith, length, length-append, rules, subst, err_from_is_err_and}
+use Rattle.mxf_views.proofs.Common.{Writes}
 use Rattle.mxf_units.specs.Units.{UnitsParts}
 use Rattle.mxf_partial.proofs.UnitPlanLaws.{one_plan}
 use Rattle.mxf_partial.specs.Orders.{IsUnitPlan, UnitPlanParts}

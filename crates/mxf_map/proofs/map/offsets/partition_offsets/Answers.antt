@@ -1,7 +1,6 @@
-use Rattle.mxf_views.proofs.Common.{◌≡◌, ◌∙◌, List, ap, filter, map, rules, YieldsList-from_map}
-use Rattle.mxf_views.proofs.Common.{YieldsList-from_slice, items_from_collect, YieldsList-at}
-use Rattle.mxf_views.proofs.Common.{YieldsList-from_filter, map-map, PartitionParts, in_numbers}
-use Rattle.mxf_views.proofs.Common.{partitions_of}
+use Rattle.mxf_views.proofs.Common.{◌≡◌, ◌∙◌, List, ap, filter, map, rules, YieldsList-from_map, YieldsList-from_slice}
+use Rattle.mxf_views.proofs.Common.{items_from_collect, YieldsList-at, YieldsList-from_filter, map-map, PartitionParts}
+use Rattle.mxf_views.proofs.Common.{in_numbers, partitions_of}
 use Rattle.mxf_views.proofs.NumbersLaws.{filter_mapped}
 use Rattle.mxf_map.specs.Layers.{is_part}
 use Rattle.mxf_map.proofs.map.offsets.partition_offsets.Goals as goal

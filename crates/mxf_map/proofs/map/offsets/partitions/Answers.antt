@@ -1,5 +1,5 @@
-use Rattle.mxf_views.proofs.Common.{◌∙◌, ◌<◌, subst, sym, List, AllByRecursion, greatest_end}
-use Rattle.mxf_views.proofs.Common.{NoteParts, IsCatalogue, partitions_of}
+use Rattle.mxf_views.proofs.Common.{◌∙◌, ◌<◌, subst, sym, List, AllByRecursion, greatest_end, NoteParts, IsCatalogue}
+use Rattle.mxf_views.proofs.Common.{partitions_of}
 use Rattle.mxf_map.specs.Layers.{BeginsPartition, partition_offsets}
 use Rattle.mxf_map.proofs.LayerLaws.{offsets_of, partitions_begin, partitions_within}
 use Rattle.mxf_map.proofs.map.offsets.partitions.Goals as goal

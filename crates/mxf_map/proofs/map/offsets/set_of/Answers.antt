@@ -1,5 +1,4 @@
-use Rattle.mxf_views.proofs.Common.{◌≡◌, ◌∙◌, [], List, ap, map, subst, sym, ℕ, drop_all, In}
-use Rattle.mxf_views.proofs.Common.{union_of_runs}
+use Rattle.mxf_views.proofs.Common.{◌≡◌, ◌∙◌, [], List, ap, map, subst, sym, ℕ, drop_all, In, union_of_runs}
 use Rattle.mxf_catalogue.specs.declared.run.Run.{Run}
 use Rattle.mxf_map.specs.Layers.{AreOffsets}
 use Rattle.mxf_map.proofs.LayerLaws.{first_byte, offsets_are}

@@ -1,5 +1,5 @@
-use Rattle.mxf_views.proofs.Common.{◌≡◌, ◌∙◌, [], List, ap, map, subst, sym, NoteParts}
-use Rattle.mxf_views.proofs.Common.{union_of_runs, clear_notes, run_of}
+use Rattle.mxf_views.proofs.Common.{◌≡◌, ◌∙◌, [], List, ap, map, subst, sym, NoteParts, union_of_runs, clear_notes}
+use Rattle.mxf_views.proofs.Common.{run_of}
 use Rattle.mxf_catalogue.specs.declared.run.Run.{Run}
 use Rattle.mxf_map.specs.Layers.{AreOffsets, LiesInZone, zone_notes}
 use Rattle.mxf_map.proofs.LayerLaws.{zone_are}

@@ -1,6 +1,5 @@
-use Rattle.mxf_views.proofs.Common.{◌≡◌, ◌↔◌, ◌∙◌, ◌-◌, ◌<◌, ◌≤◌, ℕ, List, ap, arith, get_or}
-use Rattle.mxf_views.proofs.Common.{length, map, subst, sym, AllWithin, length-map, length-reverse}
-use Rattle.mxf_views.proofs.Common.{In}
+use Rattle.mxf_views.proofs.Common.{◌≡◌, ◌↔◌, ◌∙◌, ◌-◌, ◌<◌, ◌≤◌, ℕ, List, ap, arith, get_or, length, map, subst, sym}
+use Rattle.mxf_views.proofs.Common.{AllWithin, length-map, length-reverse, In}
 use Rattle.std.specs.Prelude.{reverse}
 use Rattle.mxf_partial.specs.SegmentStarts.{least_so_far}
 use Rattle.mxf_partial.specs.declared.between.SegmentStart.{SegmentStart}

@@ -1,5 +1,5 @@
-use Rattle.mxf_views.proofs.Common.{◌↔◌, ◌∙◌, ◌<◌, ◌≤◌, ℕ, List, ap, arith, get_or, length, map}
-use Rattle.mxf_views.proofs.Common.{subst, sym, AllWithin, length-map, In}
+use Rattle.mxf_views.proofs.Common.{◌↔◌, ◌∙◌, ◌<◌, ◌≤◌, ℕ, List, ap, arith, get_or, length, map, subst, sym, AllWithin}
+use Rattle.mxf_views.proofs.Common.{length-map, In}
 use Rattle.mxf_partial.specs.declared.between.SegmentStart.{SegmentStart}
 use Rattle.mxf_partial.proofs.StartLaws.{length-greatest, low_says, first_unit}
 use Rattle.mxf_partial.proofs.between.Starts.low.Goals as goal

@@ -1,5 +1,4 @@
-use Rattle.mxf_views.proofs.Common.{◌∙◌, ◌++◌, ◌↔◌, ◌⊎◌, [], List, subst, sym, ap, In, union}
-use Rattle.mxf_views.proofs.Common.{LiesIn, RiseBy, IsCover}
+use Rattle.mxf_views.proofs.Common.{◌∙◌, ◌++◌, ◌↔◌, ◌⊎◌, [], List, subst, sym, ap, In, union, LiesIn, RiseBy, IsCover}
 use Rattle.mxf_units.specs.Units.{IsKnown}
 use Rattle.mxf_restore.specs.NamedPlaces.{IsNamedPlace}
 use Rattle.mxf_restore.specs.Plan.{order_cmp}

@@ -1,6 +1,5 @@
-use Rattle.mxf_views.proofs.Common.{◌≡◌, ◌∙◌, [], ◌∷◌, ◌++◌, ap, sym, append_assoc, append-nil}
-use Rattle.mxf_views.proofs.Common.{List, ℕ, unwrap_or, cond, Some, arith, nil_from_length, lookup}
-use Rattle.mxf_views.proofs.Common.{nat_cmp, get, is_at, undisputed_notes}
+use Rattle.mxf_views.proofs.Common.{◌≡◌, ◌∙◌, [], ◌∷◌, ◌++◌, ap, sym, append_assoc, append-nil, List, ℕ, unwrap_or}
+use Rattle.mxf_views.proofs.Common.{cond, Some, arith, nil_from_length, lookup, nat_cmp, get, is_at, undisputed_notes}
 use Rattle.mxf_places.specs.Fills.{fills_among, over_list}
 use Rattle.mxf_places.specs.declared.fills.Fill.{Fill}
 use Rattle.mxf_places.proofs.FillLaws.{over_among-list, over_in-insert}

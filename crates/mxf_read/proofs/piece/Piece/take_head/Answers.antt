@@ -1,5 +1,5 @@
-use Rattle.mxf_views.proofs.Common.{◌≡◌, ◌+◌, ◌-◌, ◌++◌, [], length, take, arith, refl, sym, ap}
-use Rattle.mxf_views.proofs.Common.{◌∙◌, take_all, LengthParts, IsHeadNow}
+use Rattle.mxf_views.proofs.Common.{◌≡◌, ◌+◌, ◌-◌, ◌++◌, [], length, take, arith, refl, sym, ap, ◌∙◌, take_all}
+use Rattle.mxf_views.proofs.Common.{LengthParts, IsHeadNow}
 use Rattle.mxf_read.proofs.Feeding.{begun, head_whole}
 use Rattle.mxf_read.proofs.Reports.{nil_from}
 use Rattle.mxf_read.proofs.piece.Piece.take_head.Goals as goal

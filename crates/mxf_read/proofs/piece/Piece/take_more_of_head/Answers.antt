@@ -1,5 +1,5 @@
-use Rattle.mxf_views.proofs.Common.{◌≡◌, ◌++◌, ◌+◌, ◌-◌, length, take, arith, refl, sym, ap, ◌∙◌}
-use Rattle.mxf_views.proofs.Common.{LengthParts, IsHeadNow}
+use Rattle.mxf_views.proofs.Common.{◌≡◌, ◌++◌, ◌+◌, ◌-◌, length, take, arith, refl, sym, ap, ◌∙◌, LengthParts}
+use Rattle.mxf_views.proofs.Common.{IsHeadNow}
 use Rattle.mxf_read.proofs.Feeding.{begun, few_held, head_whole, held_more, lacks_head, stopped}
 use Rattle.mxf_read.proofs.piece.Piece.take_more_of_head.Goals as goal
 

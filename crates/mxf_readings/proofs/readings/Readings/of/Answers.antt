@@ -1,5 +1,5 @@
-use Rattle.mxf_klv.proofs.Common.{◌∙◌, ap, map, subst, sym, IsTrue, List, ℕ}
-use Rattle.mxf_klv.proofs.Common.{IsNonDecreasingBy-from_sort, AllByRecursion, In}
+use Rattle.mxf_klv.proofs.Common.{◌∙◌, ap, map, subst, sym, IsTrue, List, ℕ, IsNonDecreasingBy-from_sort}
+use Rattle.mxf_klv.proofs.Common.{AllByRecursion, In}
 use Rattle.std.proofs.Common.{IsPermutation}
 use Rattle.mxf_readings.specs.Holdings.{HoldingParts, sources_alone}
 use Rattle.mxf_readings.proofs.AloneLaws.{whole_held}

@@ -1,5 +1,5 @@
-use Rattle.mxf_klv.proofs.Common.{rules, ◌≡◌, ◌∙◌, List, ap, subst, FitsSigned, ℤ, cast_unsigned}
-use Rattle.mxf_klv.proofs.Common.{to_be_bytes, to_z-of_z, flat_map, WritesPart}
+use Rattle.mxf_klv.proofs.Common.{rules, ◌≡◌, ◌∙◌, List, ap, subst, FitsSigned, ℤ, cast_unsigned, to_be_bytes}
+use Rattle.mxf_klv.proofs.Common.{to_z-of_z, flat_map, WritesPart}
 use Rattle.std.proofs.Common.{w64}
 use Rattle.mxf_sets.specs.Items.{ItemParts, item_bytes}
 use Rattle.mxf_sets.proofs.SegmentBytes.{numbers_written}

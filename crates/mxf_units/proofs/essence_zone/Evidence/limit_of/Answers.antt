@@ -1,5 +1,5 @@
-use Rattle.mxf_views.proofs.Common.{List, [], ap, subst, sym, ◌∙◌, ℕ, nat_cmp-IsAntisymmetric}
-use Rattle.mxf_views.proofs.Common.{option_or, nat_cmp, nat_cmp_total, IsRising, IsRising-union}
+use Rattle.mxf_views.proofs.Common.{List, [], ap, subst, sym, ◌∙◌, ℕ, nat_cmp-IsAntisymmetric, option_or, nat_cmp}
+use Rattle.mxf_views.proofs.Common.{nat_cmp_total, IsRising, IsRising-union}
 use Rattle.mxf_units.specs.Streams.{least_above}
 use Rattle.mxf_units.specs.EssenceZones.{bounds_of, limit_of}
 use Rattle.mxf_units.proofs.LeastLaws.{least-rising}

@@ -1,5 +1,4 @@
-use Rattle.mxf_views.proofs.Common.{List, ap, subst, sym, ◌∙◌, NoteParts, IsRising, segments_of}
-use Rattle.mxf_views.proofs.Common.{place_cmp}
+use Rattle.mxf_views.proofs.Common.{List, ap, subst, sym, ◌∙◌, NoteParts, IsRising, segments_of, place_cmp}
 use Rattle.mxf_views.specs.declared.index.place.StreamPlace.{StreamPlace}
 use Rattle.mxf_units.specs.Streams.{least_above, next_of, offsets_in, places_above}
 use Rattle.mxf_units.proofs.LeastLaws.{least-in_order}

@@ -1,5 +1,5 @@
-use Rattle.mxf_views.proofs.Common.{◌≡◌, ◌∙◌, ap, map, rules, YieldsList-from_map}
-use Rattle.mxf_views.proofs.Common.{YieldsList-from_slice, items_from_collect, partitions_of}
+use Rattle.mxf_views.proofs.Common.{◌≡◌, ◌∙◌, ap, map, rules, YieldsList-from_map, YieldsList-from_slice}
+use Rattle.mxf_views.proofs.Common.{items_from_collect, partitions_of}
 use Rattle.mxf_units.specs.EssenceZones.{part_of}
 use Rattle.mxf_units.proofs.InNumbers.{parts_in_numbers}
 use Rattle.mxf_units.proofs.essence_zone.part.parts_in.Goals as goal

@@ -1,5 +1,5 @@
-use Rattle.mxf_views.proofs.Common.{◌∙◌, ◌<◌, ◌≤◌, List, ℕ, ap, drop, length, subst, sym, take}
-use Rattle.mxf_views.proofs.Common.{AllWithin, IsNonDecreasing}
+use Rattle.mxf_views.proofs.Common.{◌∙◌, ◌<◌, ◌≤◌, List, ℕ, ap, drop, length, subst, sym, take, AllWithin}
+use Rattle.mxf_views.proofs.Common.{IsNonDecreasing}
 use Rattle.mxf_units.specs.Intervals.{IsAround}
 use Rattle.mxf_units.proofs.IntervalLaws.{around, ends-rise}
 use Rattle.mxf_units.proofs.intervals.Intervals.around.Goals as goal

@@ -1,5 +1,5 @@
-use Rattle.mxf_views.proofs.Common.{rules, YieldsList-from_map_by, YieldsList-at}
-use Rattle.mxf_views.proofs.Common.{YieldsList-from_filter, YieldsList-from_first, map_from_collect}
+use Rattle.mxf_views.proofs.Common.{rules, YieldsList-from_map_by, YieldsList-at, YieldsList-from_filter}
+use Rattle.mxf_views.proofs.Common.{YieldsList-from_first, map_from_collect}
 use Rattle.std.proofs.lemmas.Result.{IfOk-at_ok}
 use Rattle.mxf_verify.specs.declared.verification.CutNote.{CutNote}
 use Rattle.mxf_verify.proofs.FinishingLaws.{is_left_out, left_out_by, those_left_out}

@@ -1,9 +1,8 @@
-use Rattle.mxf_views.proofs.Common.{◌≡◌, ◌∙◌, ◌↔◌, ◌-◌, ap, sym, subst, IsTrue, nat_lt, nat_le}
-use Rattle.mxf_views.proofs.Common.{count_by, IsNonDecreasing, covered_end, head_note, has_note}
-use Rattle.mxf_views.proofs.Common.{is_same_note}
+use Rattle.mxf_views.proofs.Common.{◌≡◌, ◌∙◌, ◌↔◌, ◌-◌, ap, sym, subst, IsTrue, nat_lt, nat_le, count_by}
+use Rattle.mxf_views.proofs.Common.{IsNonDecreasing, covered_end, head_note, has_note, is_same_note}
 use Rattle.mxf_verify.specs.Opposing.{IsOpposed}
-use Rattle.mxf_verify.proofs.TouchCounts.{begun-count, ended-begun, ended-count, held-byte}
-use Rattle.mxf_verify.proofs.TouchCounts.{opposed-by_counts, starts-rise}
+use Rattle.mxf_verify.proofs.TouchCounts.{begun-count, ended-begun, ended-count, held-byte, opposed-by_counts}
+use Rattle.mxf_verify.proofs.TouchCounts.{starts-rise}
 use Rattle.mxf_verify.proofs.opposing.Opposing.opposes.Goals as goal
 
 pub below-begun-requires : goal.below-begun-requires

@@ -1,5 +1,5 @@
-use Rattle.mxf_views.proofs.Common.{◌∙◌, ap, map, subst, sym, map-map, IsNonDecreasingBy-from_sort}
-use Rattle.mxf_views.proofs.Common.{NoteParts, covered_end}
+use Rattle.mxf_views.proofs.Common.{◌∙◌, ap, map, subst, sym, map-map, IsNonDecreasingBy-from_sort, NoteParts}
+use Rattle.mxf_views.proofs.Common.{covered_end}
 use Rattle.std.proofs.Common.{IsPermutation}
 use denote.Bor.{Bor}
 use Rattle.mxf_verify.proofs.others.Others.bounded.Goals as goal

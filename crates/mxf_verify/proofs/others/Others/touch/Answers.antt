@@ -1,6 +1,5 @@
-use Rattle.mxf_views.proofs.Common.{◌≡◌, ◌∙◌, ◌-◌, ap, arith, sym, subst, count_by, nat_le, nat_lt}
-use Rattle.mxf_views.proofs.Common.{IsNonDecreasing, is_le, is_lt, covered_end, head_note, note_cmp}
-use Rattle.mxf_views.proofs.Common.{IsContent, is_same_note}
+use Rattle.mxf_views.proofs.Common.{◌≡◌, ◌∙◌, ◌-◌, ap, arith, sym, subst, count_by, nat_le, nat_lt, IsNonDecreasing}
+use Rattle.mxf_views.proofs.Common.{is_le, is_lt, covered_end, head_note, note_cmp, IsContent, is_same_note}
 use Rattle.mxf_verify.specs.Others.{is_touched}
 use Rattle.mxf_verify.specs.Telling.{notes_at}
 use Rattle.mxf_verify.proofs.OtherLaws.{packets-count, touched-by_counts}

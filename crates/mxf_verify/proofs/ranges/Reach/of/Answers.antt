@@ -1,5 +1,4 @@
-use Rattle.mxf_views.proofs.Common.{◌∙◌, List, ap, rules, IsNonDecreasingBy-from_sort}
-use Rattle.mxf_views.proofs.Common.{answers_always}
+use Rattle.mxf_views.proofs.Common.{◌∙◌, List, ap, rules, IsNonDecreasingBy-from_sort, answers_always}
 use Rattle.mxf_catalogue.specs.declared.run.Run.{Run}
 use Rattle.mxf_units.specs.Intervals.{greatest_ends}
 use Rattle.mxf_units.proofs.NextPlaceLaws.{permuted}

@@ -1,6 +1,5 @@
-use Rattle.mxf_views.proofs.Common.{◌≡◌, ◌+◌, ◌<◌, [], false, ap, subst, sym, refl, ◌∙◌, arith}
-use Rattle.mxf_views.proofs.Common.{get_or, length, append-nil, Consumes-nil, get_or_default}
-use Rattle.mxf_views.proofs.Common.{true≢false, NoteParts}
+use Rattle.mxf_views.proofs.Common.{◌≡◌, ◌+◌, ◌<◌, [], false, ap, subst, sym, refl, ◌∙◌, arith, get_or, length}
+use Rattle.mxf_views.proofs.Common.{append-nil, Consumes-nil, get_or_default, true≢false, NoteParts}
 use denote.Bor.{Bor}
 use Rattle.mxf_verify.specs.Verifying.{is_digested}
 use Rattle.mxf_verify.specs.Taking.{HasTaken}

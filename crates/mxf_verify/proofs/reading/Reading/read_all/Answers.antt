@@ -1,7 +1,7 @@
-use Rattle.mxf_views.proofs.Common.{◌≡◌, ◌+◌, ◌<◌, ◌≤◌, ◌++◌, [], IsTrue, ap, subst, sym, refl, ◌∙◌}
-use Rattle.mxf_views.proofs.Common.{arith, get_or, length, append_assoc, append-nil, length-append}
-use Rattle.mxf_views.proofs.Common.{true, false, if◌then◌else◌, Consumes-nil, Consumes-trans}
-use Rattle.mxf_views.proofs.Common.{on_ok_weaker, NoteParts, covered_end, AllWithin, get_or_default}
+use Rattle.mxf_views.proofs.Common.{◌≡◌, ◌+◌, ◌<◌, ◌≤◌, ◌++◌, [], IsTrue, ap, subst, sym, refl, ◌∙◌, arith, get_or}
+use Rattle.mxf_views.proofs.Common.{length, append_assoc, append-nil, length-append, true, false, if◌then◌else◌}
+use Rattle.mxf_views.proofs.Common.{Consumes-nil, Consumes-trans, on_ok_weaker, NoteParts, covered_end, AllWithin}
+use Rattle.mxf_views.proofs.Common.{get_or_default}
 use denote.Bor.{Bor}
 use Rattle.mxf_verify.specs.Verifying.{is_digested}
 use Rattle.mxf_verify.specs.Candidates.{offset_of}

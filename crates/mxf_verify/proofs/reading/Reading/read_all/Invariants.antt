@@ -1,5 +1,4 @@
-use Rattle.mxf_views.proofs.Common.{◌≡◌, ◌+◌, ◌<◌, ◌≤◌, ◌++◌, ℕ, List, IsTrue, get_or, length}
-use Rattle.mxf_views.proofs.Common.{Consumes, NoteParts}
+use Rattle.mxf_views.proofs.Common.{◌≡◌, ◌+◌, ◌<◌, ◌≤◌, ◌++◌, ℕ, List, IsTrue, get_or, length, Consumes, NoteParts}
 use denote.Bor.{Bor}
 use Rattle.mxf_verify.specs.Verifying.{is_digested}
 use Rattle.mxf_verify.specs.Candidates.{notes_of, offset_of}

@@ -1,7 +1,6 @@
-use Rattle.mxf_views.proofs.Common.{◌≡◌, ◌+◌, ◌<◌, ◌++◌, IsTrue, ap, subst, sym, ◌∙◌, arith, get_or}
-use Rattle.mxf_views.proofs.Common.{length, append_assoc, length-append, inl, inr, Consumes-trans}
-use Rattle.mxf_views.proofs.Common.{get_or_default, false≢true, true≢false, covered_end, NoteParts}
-use Rattle.mxf_views.proofs.Common.{bytes_eq}
+use Rattle.mxf_views.proofs.Common.{◌≡◌, ◌+◌, ◌<◌, ◌++◌, IsTrue, ap, subst, sym, ◌∙◌, arith, get_or, length}
+use Rattle.mxf_views.proofs.Common.{append_assoc, length-append, inl, inr, Consumes-trans, get_or_default, false≢true}
+use Rattle.mxf_views.proofs.Common.{true≢false, covered_end, NoteParts, bytes_eq}
 use Rattle.mxf_verify.specs.Taking.{HasTaken}
 use Rattle.mxf_verify.specs.SourceReads.{Digests}
 use Rattle.mxf_verify.specs.Verifying.{front_size, is_digested}

@@ -1,5 +1,4 @@
-use Rattle.mxf_views.proofs.Common.{◌+◌, ◌-◌, arith, min, take, length-take, IfSome_then}
-use Rattle.mxf_views.proofs.Common.{greatest_end}
+use Rattle.mxf_views.proofs.Common.{◌+◌, ◌-◌, arith, min, take, length-take, IfSome_then, greatest_end}
 use Rattle.mxf_verify.proofs.reference.Reference.read.Goals as goal
 
 pub returns-clause-told : goal.returns-clause-told

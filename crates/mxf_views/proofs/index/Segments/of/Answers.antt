@@ -1,5 +1,5 @@
-use Rattle.mxf_views.proofs.Common.{◌∙◌, ap, arith, clear_notes, length, length-filter_map, placed_segment, segments_among}
-use Rattle.mxf_views.proofs.Common.{segments_of}
+use Rattle.mxf_views.proofs.Common.{◌∙◌, ap, arith, clear_notes, length, length-filter_map, placed_segment}
+use Rattle.mxf_views.proofs.Common.{segments_among, segments_of}
 use Rattle.mxf_views.proofs.KeptLaws.{segments_kept}
 use Rattle.mxf_views.proofs.index.Segments.of.Goals as goal
 

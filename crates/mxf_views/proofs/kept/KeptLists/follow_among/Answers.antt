@@ -1,13 +1,11 @@
-use Rattle.mxf_views.proofs.Common.{◌≡◌, ◌∙◌, ℕ, Global, Vec, ap, arith, length, subst, sym}
-use Rattle.mxf_views.proofs.Common.{CopiesRise, copies_of, KeptParts, kept_partition}
-use Rattle.mxf_views.proofs.Common.{kept_random_index_pack, kept_segment, kept_unreadable_pack}
-use Rattle.mxf_views.proofs.Common.{reaches_of, vec_capacity, with_found, partition_in}
+use Rattle.mxf_views.proofs.Common.{◌≡◌, ◌∙◌, ℕ, Global, Vec, ap, arith, length, subst, sym, CopiesRise, copies_of}
+use Rattle.mxf_views.proofs.Common.{KeptParts, kept_partition, kept_random_index_pack, kept_segment}
+use Rattle.mxf_views.proofs.Common.{kept_unreadable_pack, reaches_of, vec_capacity, with_found, partition_in}
 use Rattle.mxf_views.proofs.Common.{random_index_pack_in, segment_in, unreadable_pack_in}
 use Rattle.mxf_views.specs.declared.copy.CopyInfo.{CopyInfo}
 use Rattle.mxf_views.proofs.CopyLaws.{copies_rise}
-use Rattle.mxf_views.proofs.KeptLaws.{copies_after, kept_by, list_after, offset-kept_partition}
-use Rattle.mxf_views.proofs.KeptLaws.{offset-kept_segment, offset-kept_rip, offset-kept_unreadable}
-use Rattle.mxf_views.proofs.KeptLaws.{outside_never_falls}
+use Rattle.mxf_views.proofs.KeptLaws.{copies_after, kept_by, list_after, offset-kept_partition, offset-kept_segment}
+use Rattle.mxf_views.proofs.KeptLaws.{offset-kept_rip, offset-kept_unreadable, outside_never_falls}
 use Rattle.mxf_views.proofs.ReachLaws.{length-copies_followed, length-reaches_from}
 use Rattle.mxf_views.proofs.kept.KeptLists.follow_among.Goals as goal
 

@@ -1,5 +1,5 @@
-use Rattle.mxf_views.proofs.Common.{◌∙◌, ap, get_or, subst, sym, None, false, In, counted_above}
-use Rattle.mxf_views.proofs.Common.{In-at, set, next_changed, next_unchanged}
+use Rattle.mxf_views.proofs.Common.{◌∙◌, ap, get_or, subst, sym, None, false, In, counted_above, In-at, set}
+use Rattle.mxf_views.proofs.Common.{next_changed, next_unchanged}
 use Rattle.mxf_klv.specs.declared.kinds.Status.TheVariants.{OpenIncomplete}
 use Rattle.mxf_views.specs.declared.copy.CopyInfo.{CopyInfo}
 use Rattle.mxf_views.proofs.kept.above.count_above.Goals as goal

@@ -1,7 +1,6 @@
-use Rattle.mxf_views.proofs.Common.{◌≡◌, ◌<◌, ◌^◌, ◌∙◌, ◌++◌, ◌-◌, List, ap, arith, drop, get_or}
-use Rattle.mxf_views.proofs.Common.{length, map, subst, sym, take, AllWithin, length-map, NoteParts}
-use Rattle.mxf_views.proofs.Common.{In, clear_notes, CopiesRise, clear_from, counted_above}
-use Rattle.mxf_views.proofs.Common.{IsOfNone, IsStarting, length-drop, ◌≤◌, PartitionParts}
+use Rattle.mxf_views.proofs.Common.{◌≡◌, ◌<◌, ◌^◌, ◌∙◌, ◌++◌, ◌-◌, List, ap, arith, drop, get_or, length, map, subst}
+use Rattle.mxf_views.proofs.Common.{sym, take, AllWithin, length-map, NoteParts, In, clear_notes, CopiesRise}
+use Rattle.mxf_views.proofs.Common.{clear_from, counted_above, IsOfNone, IsStarting, length-drop, ◌≤◌, PartitionParts}
 use Rattle.mxf_views.proofs.Common.{copies_among, count_by, has_metadata}
 use Rattle.mxf_views.specs.declared.copy.CopyInfo.{CopyInfo}
 use Rattle.mxf_views.proofs.AboveCopies.{copies_at, fits_at, stays_above}

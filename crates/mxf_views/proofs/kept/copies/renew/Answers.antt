@@ -1,5 +1,4 @@
-use Rattle.mxf_views.proofs.Common.{◌∙◌, ◌<◌, List, ap, get_or, length, subst, None, false, renewed}
-use Rattle.mxf_views.proofs.Common.{set, next_changed}
+use Rattle.mxf_views.proofs.Common.{◌∙◌, ◌<◌, List, ap, get_or, length, subst, None, false, renewed, set, next_changed}
 use Rattle.mxf_klv.specs.declared.kinds.Status.TheVariants.{OpenIncomplete}
 use Rattle.mxf_views.specs.declared.copy.CopyInfo.{CopyInfo}
 use Rattle.mxf_views.proofs.kept.copies.renew.Goals as goal

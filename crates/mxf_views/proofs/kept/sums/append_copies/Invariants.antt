@@ -1,6 +1,6 @@
 -- What is there and what is to come are the copies before and the new ones, and there is room for them.
-use Rattle.mxf_views.proofs.Common.{◌≡◌, ◌+◌, ◌++◌, ◌≤◌, drop, vec_capacity, vec_len, count_by, clear_notes, copies_among}
-use Rattle.mxf_views.proofs.Common.{has_metadata}
+use Rattle.mxf_views.proofs.Common.{◌≡◌, ◌+◌, ◌++◌, ◌≤◌, drop, vec_capacity, vec_len, count_by, clear_notes}
+use Rattle.mxf_views.proofs.Common.{copies_among, has_metadata}
 use Rattle.mxf_views.proofs.kept.sums.append_copies.Given as goal
 
 abbrev pub invariant-loop-partition : goal.invariant-loop-partition

@@ -1,5 +1,5 @@
-use Rattle.mxf_views.proofs.Common.{◌∙◌, ap, arith, clear_notes, length, length-filter_map, partition_at, partitions_among}
-use Rattle.mxf_views.proofs.Common.{partitions_of}
+use Rattle.mxf_views.proofs.Common.{◌∙◌, ap, arith, clear_notes, length, length-filter_map, partition_at}
+use Rattle.mxf_views.proofs.Common.{partitions_among, partitions_of}
 use Rattle.mxf_views.proofs.KeptLaws.{partitions_kept}
 use Rattle.mxf_views.proofs.partition.Partitions.of.Goals as goal
 

@@ -1,5 +1,4 @@
-use Rattle.mxf_views.proofs.Common.{◌==◌, ◌∙◌, ap, clear_notes, cons_option, find, NoteParts, rules}
-use Rattle.mxf_views.proofs.Common.{sym}
+use Rattle.mxf_views.proofs.Common.{◌==◌, ◌∙◌, ap, clear_notes, cons_option, find, NoteParts, rules, sym}
 use Rattle.mxf_views.specs.Kept.{notes_at}
 use Rattle.mxf_views.proofs.placed.NotesAtIterator.next.Goals as goal
 

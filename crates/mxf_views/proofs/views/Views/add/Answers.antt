@@ -1,6 +1,5 @@
-use Rattle.mxf_views.proofs.Common.{◌≡◌, ◌↔◌, List, Ok, ◌∙◌, ap, refl, subst, sym, NoteParts}
-use Rattle.mxf_views.proofs.Common.{AreReduced, IsContent, has_note, reduced_with}
-use Rattle.mxf_views.proofs.Common.{err_from_is_err_and, reduced_with-present}
+use Rattle.mxf_views.proofs.Common.{◌≡◌, ◌↔◌, List, Ok, ◌∙◌, ap, refl, subst, sym, NoteParts, AreReduced, IsContent}
+use Rattle.mxf_views.proofs.Common.{has_note, reduced_with, err_from_is_err_and, reduced_with-present}
 use Rattle.mxf_catalogue.specs.declared.catalogue.change.Change.TheVariants.{Repeated}
 use Rattle.mxf_views.proofs.views.Views.add.Goals as goal
 

@@ -1,5 +1,5 @@
-use Rattle.mxf_views.proofs.Common.{◌∙◌, List, ap, subst, sym, find, copies_of, KeptParts}
-use Rattle.mxf_views.proofs.Common.{StartsRise, reaches_of, is_in_copy}
+use Rattle.mxf_views.proofs.Common.{◌∙◌, List, ap, subst, sym, find, copies_of, KeptParts, StartsRise, reaches_of}
+use Rattle.mxf_views.proofs.Common.{is_in_copy}
 use Rattle.mxf_views.specs.declared.copy.CopyInfo.{CopyInfo}
 use Rattle.mxf_views.proofs.StartsOrder.{starts_rise}
 use Rattle.mxf_views.proofs.views.Views.copy_with.Goals as goal

@@ -1,6 +1,6 @@
-use Rattle.mxf_views.proofs.Common.{◌≡◌, ◌∙◌, ◌==◌, ◌&&◌, Bool, true, false, List, [], ◌∷◌, ap, refl, cons_option, filter_map}
-use Rattle.mxf_views.proofs.Common.{arith, eqb-true, false_from_ne_true, length, list_all, not, suc, NoteParts}
-use Rattle.mxf_views.proofs.Common.{clear_notes, KeptParts, is_no_unreadable_pack}
+use Rattle.mxf_views.proofs.Common.{◌≡◌, ◌∙◌, ◌==◌, ◌&&◌, Bool, true, false, List, [], ◌∷◌, ap, refl, cons_option}
+use Rattle.mxf_views.proofs.Common.{filter_map, arith, eqb-true, false_from_ne_true, length, list_all, not, suc}
+use Rattle.mxf_views.proofs.Common.{NoteParts, clear_notes, KeptParts, is_no_unreadable_pack}
 use Rattle.mxf_views.specs.Kept.{offset_if}
 use Rattle.mxf_views.proofs.views.Views.has_readable_packs.Goals as goal
 

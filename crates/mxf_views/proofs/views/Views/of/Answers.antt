@@ -1,6 +1,5 @@
-use Rattle.mxf_views.proofs.Common.{List, refl, ◌↔◌, ◌∙◌, ap, inl, inr, head_note, NoteParts, In}
-use Rattle.mxf_views.proofs.Common.{AreReduced, has_note, IsLocated, file_bytes, written_file}
-use Rattle.mxf_views.proofs.Common.{In-located}
+use Rattle.mxf_views.proofs.Common.{List, refl, ◌↔◌, ◌∙◌, ap, inl, inr, head_note, NoteParts, In, AreReduced, has_note}
+use Rattle.mxf_views.proofs.Common.{IsLocated, file_bytes, written_file, In-located}
 use Rattle.mxf_catalogue.specs.Reduced.{IsKnown}
 use Rattle.mxf_views.proofs.RunLaws.{IsTheRun-from_set}
 use Rattle.mxf_views.proofs.views.Views.of.Goals as goal

@@ -1,5 +1,4 @@
-use Rattle.mxf_klv.proofs.Common.{◌≡◌, [], ◌∷◌, List, ℕ, arith, false, length, refl, NoteParts}
-use Rattle.mxf_klv.proofs.Common.{IsNote}
+use Rattle.mxf_klv.proofs.Common.{◌≡◌, [], ◌∷◌, List, ℕ, arith, false, length, refl, NoteParts, IsNote}
 use Rattle.mxf_catalogue.proofs.catalogue.file.entry.mark_and_held.Goals as goal
 
 no_bytes : (xs : List ℕ) → length xs ≡ 0 → [] ≡ xs

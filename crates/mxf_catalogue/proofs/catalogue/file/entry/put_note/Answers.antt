@@ -1,5 +1,5 @@
-use Rattle.mxf_klv.proofs.Common.{◌≡◌, ◌++◌, ◌∷◌, ◌∙◌, [], List, ℕ, ap, append_assoc, sym}
-use Rattle.mxf_klv.proofs.Common.{err_from_is_err_and, NoteParts}
+use Rattle.mxf_klv.proofs.Common.{◌≡◌, ◌++◌, ◌∷◌, ◌∙◌, [], List, ℕ, ap, append_assoc, sym, err_from_is_err_and}
+use Rattle.mxf_klv.proofs.Common.{NoteParts}
 use Rattle.mxf_catalogue.specs.CatalogueFile.{fixed_bytes, fixed_part_of, mark_of, note_bytes}
 use Rattle.mxf_catalogue.specs.declared.catalogue.file.start.Version.TheVariants.{Two}
 use Rattle.mxf_catalogue.proofs.FileParts.{WritesPart-second, fails_in_first}

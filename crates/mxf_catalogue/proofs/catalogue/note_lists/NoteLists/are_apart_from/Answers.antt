@@ -1,5 +1,5 @@
-use Rattle.mxf_klv.proofs.Common.{◌≡◌, ◌==◌, ◌+◌, ◌-◌, ◌≤◌, Bool, not, true, false, length, refl}
-use Rattle.mxf_klv.proofs.Common.{arith, sym, ◌∙◌, ap, subst, end_of}
+use Rattle.mxf_klv.proofs.Common.{◌≡◌, ◌==◌, ◌+◌, ◌-◌, ◌≤◌, Bool, not, true, false, length, refl, arith, sym, ◌∙◌, ap}
+use Rattle.mxf_klv.proofs.Common.{subst, end_of}
 use Rattle.mxf_catalogue.specs.NoteLists.{StandApart, touching}
 use Rattle.mxf_catalogue.specs.Runs.{LiesIn}
 use Rattle.mxf_catalogue.proofs.PartLaws.{apart_of, is_nil, is_not_nil}

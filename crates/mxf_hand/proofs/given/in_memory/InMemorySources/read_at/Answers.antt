@@ -1,6 +1,5 @@
-use Rattle.mxf_views.proofs.Common.{◌≡◌, ◌<◌, ◌++◌, ◌∙◌, ℕ, List, length, get_or, take, drop, refl}
-use Rattle.mxf_views.proofs.Common.{sym, ap, arith, length-append, slice_get, take_at}
-use Rattle.mxf_views.proofs.Common.{slice_get-map, slice_get_read}
+use Rattle.mxf_views.proofs.Common.{◌≡◌, ◌<◌, ◌++◌, ◌∙◌, ℕ, List, length, get_or, take, drop, refl, sym, ap, arith}
+use Rattle.mxf_views.proofs.Common.{length-append, slice_get, take_at, slice_get-map, slice_get_read}
 use Rattle.std.proofs.Common.{length-take, take-append-drop}
 use Rattle.std.specs.Option.{option_map}
 use Rattle.mxf_hand.specs.Given.{StandAt}

@@ -1,7 +1,6 @@
-use Rattle.mxf_klv.proofs.Common.{◌≡◌, ◌≢◌, ℕ, ◌+◌, ◌-◌, ◌≤◌, ◌<◌, List, ◌++◌, Option, arith}
-use Rattle.mxf_klv.proofs.Common.{length, take, drop, refl, sym, ap, subst, ◌∙◌, append-nil}
-use Rattle.mxf_klv.proofs.Common.{append_assoc, length-append, nil_from_length, take_rest}
-use Rattle.mxf_klv.proofs.Common.{Appends-trans, Appends, counted}
+use Rattle.mxf_klv.proofs.Common.{◌≡◌, ◌≢◌, ℕ, ◌+◌, ◌-◌, ◌≤◌, ◌<◌, List, ◌++◌, Option, arith, length, take, drop, refl}
+use Rattle.mxf_klv.proofs.Common.{sym, ap, subst, ◌∙◌, append-nil, append_assoc, length-append, nil_from_length}
+use Rattle.mxf_klv.proofs.Common.{take_rest, Appends-trans, Appends, counted}
 use Rattle.std.proofs.Common.{take-append-drop, length-take-le}
 use Rattle.std.proofs.lemmas.Bool.{eqb-false, eqb-true}
 use Rattle.std.proofs.Math.Seq.{take-append_seam}

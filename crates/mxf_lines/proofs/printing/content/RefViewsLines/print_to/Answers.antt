@@ -1,5 +1,4 @@
-use Rattle.mxf_views.proofs.Common.{◌<◌, arith, length, length-append, refl, rules, subst}
-use Rattle.mxf_views.proofs.Common.{err_from_is_err_and, Puts}
+use Rattle.mxf_views.proofs.Common.{◌<◌, arith, length, length-append, refl, rules, subst, err_from_is_err_and, Puts}
 use Rattle.mxf_lines.specs.Printing.{Prints, content_lines}
 use Rattle.mxf_lines.proofs.printing.content.RefViewsLines.print_to.Goals as goal
 

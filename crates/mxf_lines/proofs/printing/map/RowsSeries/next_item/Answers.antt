@@ -1,4 +1,5 @@
-use Rattle.std.proofs.Common.{◌∙◌, ◌≡◌, ◌+◌, ◌-◌, ◌*◌, ◌<◌, ◌∷◌, List, ℕ, ap, arith, decimal, drop, length, min, sym, take}
+use Rattle.std.proofs.Common.{◌∙◌, ◌≡◌, ◌+◌, ◌-◌, ◌*◌, ◌<◌, ◌∷◌, List, ℕ, ap, arith, decimal, drop, length, min, sym}
+use Rattle.std.proofs.Common.{take}
 use Rattle.std.proofs.lemmas.List.{length-drop}
 use Rattle.mxf_map.specs.declared.map.Mark.{Mark}
 use Rattle.mxf_lines.specs.MapLines.{row_line, rows_of}

@@ -1,5 +1,5 @@
-use Rattle.mxf_views.proofs.Common.{◌≡◌, ◌∙◌, ◌==◌, ap, false, flat_map, length, rules, sym}
-use Rattle.mxf_views.proofs.Common.{nil_from_length, err_from_is_err_and}
+use Rattle.mxf_views.proofs.Common.{◌≡◌, ◌∙◌, ◌==◌, ap, false, flat_map, length, rules, sym, nil_from_length}
+use Rattle.mxf_views.proofs.Common.{err_from_is_err_and}
 use Rattle.mxf_lines.specs.ReferenceLines.{lines_of_reference}
 use Rattle.mxf_lines.proofs.PrintLaws.{leads_more, leads_failed, leads_end}
 use Rattle.mxf_lines.proofs.RecordLaws.{lines_of_some}

@@ -1,5 +1,5 @@
-use Rattle.mxf_views.proofs.Common.{◌≡◌, ◌∙◌, ◌++◌, ◌∷◌, [], List, ap, flat_map, length, map, refl}
-use Rattle.mxf_views.proofs.Common.{subst, sym, NoteParts, Puts, disputed_notes}
+use Rattle.mxf_views.proofs.Common.{◌≡◌, ◌∙◌, ◌++◌, ◌∷◌, [], List, ap, flat_map, length, map, refl, subst, sym}
+use Rattle.mxf_views.proofs.Common.{NoteParts, Puts, disputed_notes}
 use Rattle.mxf_verify.specs.declared.renewal.DroppedNote.{DroppedNote}
 use Rattle.mxf_forms.specs.Forms.{PrintedLine}
 use Rattle.mxf_lines.specs.Printing.{Prints}

@@ -1,5 +1,4 @@
-use Rattle.mxf_views.proofs.Common.{◌≡◌, arith, ap, refl, flat_map, err_from_is_err_and}
-use Rattle.mxf_views.proofs.Common.{clear_notes}
+use Rattle.mxf_views.proofs.Common.{◌≡◌, arith, ap, refl, flat_map, err_from_is_err_and, clear_notes}
 use Rattle.mxf_lines.specs.ItemLines.{set_lines}
 use Rattle.mxf_lines.proofs.PrintLaws.{leads_first, leads_more, leads_failed, leads_end}
 use Rattle.mxf_lines.proofs.printing.sets.SetLinesLines.print_to.Goals as goal

@@ -5,7 +5,8 @@ use Rattle.mxf_map.specs.declared.map.Mark.TheVariants as marks
 use Rattle.mxf_places.specs.declared.stretch.Zone.TheVariants as zones
 use Rattle.mxf_places.specs.AtHand.{KnownParts}
 use Rattle.mxf_map.specs.declared.map.layers.Layers.TheInside.{Inside}
-use Rattle.mxf_map.proofs.MarkLaws.{Meets, hand_denied, hand_met, missing_met, none_held, partition_met, random_index_met, some_lacks, told, zone_met}
+use Rattle.mxf_map.proofs.MarkLaws.{Meets, hand_denied, hand_met, missing_met, none_held, partition_met}
+use Rattle.mxf_map.proofs.MarkLaws.{random_index_met, some_lacks, told, zone_met}
 use Rattle.mxf_map.proofs.map.layers.Layers.says.Goals as goal
 
 -- What the layers are of.

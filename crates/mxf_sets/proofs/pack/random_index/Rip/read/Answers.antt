@@ -1,5 +1,4 @@
-use Rattle.mxf_klv.proofs.Common.{◌≡◌, ◌∙◌, ◌+◌, ◌-◌, ◌*◌, ◌%◌, arith, ap, length, refl, sym}
-use Rattle.mxf_klv.proofs.Common.{length-drop, AreBytes}
+use Rattle.mxf_klv.proofs.Common.{◌≡◌, ◌∙◌, ◌+◌, ◌-◌, ◌*◌, ◌%◌, arith, ap, length, refl, sym, length-drop, AreBytes}
 use Rattle.byteorder.specs.Endian.{big_number}
 use Rattle.mxf_klv.proofs.RoundTrips.{AreBytes-take, AreBytes-drop}
 use Rattle.mxf_sets.specs.RandomIndexPack.{entries_of}

@@ -1,5 +1,5 @@
-use Rattle.mxf_views.proofs.Common.{◌≡◌, ◌+◌, ◌-◌, ◌<◌, ◌^◌, ◌≤◌, ◌∙◌, ap, arith, subst, sym}
-use Rattle.mxf_views.proofs.Common.{clear_notes, covered_of, prefaces_of, clear_from, AreInRange, SumsParts}
+use Rattle.mxf_views.proofs.Common.{◌≡◌, ◌+◌, ◌-◌, ◌<◌, ◌^◌, ◌≤◌, ◌∙◌, ap, arith, subst, sym, clear_notes, covered_of}
+use Rattle.mxf_views.proofs.Common.{prefaces_of, clear_from, AreInRange, SumsParts}
 use Rattle.mxf_views.proofs.MarkLaws.{covered_by, covered_fits, covered_order, prefaces_by, prefaces_fit}
 use Rattle.mxf_views.proofs.MarkLaws.{prefaces_order}
 use Rattle.mxf_views.proofs.kept.sums.Sums.counts_by.Goals.{After-counts-above}

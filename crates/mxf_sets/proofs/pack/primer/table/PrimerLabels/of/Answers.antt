@@ -1,5 +1,5 @@
-use Rattle.mxf_klv.proofs.Common.{◌≡◌, ℕ, List, Option, Some, sym, ap, subst, ◌∙◌, length, cond}
-use Rattle.mxf_klv.proofs.Common.{lookup, nat_cmp, is_at, AllByRecursion}
+use Rattle.mxf_klv.proofs.Common.{◌≡◌, ℕ, List, Option, Some, sym, ap, subst, ◌∙◌, length, cond, lookup, nat_cmp, is_at}
+use Rattle.mxf_klv.proofs.Common.{AllByRecursion}
 use Rattle.byteorder.specs.Endian.{big_number}
 use Rattle.mxf_sets.specs.PrimerTable.{with_label}
 use Rattle.mxf_sets.specs.Batch.{batch_items}
