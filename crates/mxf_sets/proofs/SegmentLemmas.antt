@@ -27,9 +27,7 @@ pub record AreEntries (n : SegmentNumbers) (e : List ℕ) : Type 0 where
   pub constant : 0 < n.unit_bytes → e ≡ []
 
 none_fit : (n : SegmentNumbers) → AreEntries n []
-none_fit n = record { whole = mod_zero (entry_size n); room = omega arith; constant = λ h. refl } where
-  mod_zero : (m : ℕ) → 0 % m ≡ 0
-  mod_zero m = (let e : 0 ≡ 0 * m = omega arith in ap (λ (t : ℕ). t % m) e) ∙ mul-mod_left 0 m
+none_fit n = grind (arith, entry_size, mul-mod_left)
 
 batch_fits : (n : SegmentNumbers) (v : List ℕ) → nat_lt 0 n.unit_bytes ≡ false → is_batch (entry_size n) v ≡ true
     → length v < 65536 → AreEntries n (drop 8 v)
