@@ -5,11 +5,7 @@ use Rattle.mxf_catalogue.specs.declared.run.Run.{Run}
 use Rattle.mxf_places.specs.Held.{bytes_of}
 
 pub runs_of_cover : (runs : List Run) → IsCover runs → AllByRecursion IsRun runs
-runs_of_cover runs is =
-    all_from_In IsRun runs (λ r h. record {
-      order = has_byte 0 runs r is.maximal h;
-      within = all-In (λ (s : Run). s.end ≤ greatest_end) runs r is.within h;
-    })
+runs_of_cover runs is = grind (arith, all_from_In, has_byte, all-In, greatest_end)
 
 bytes_from : (low high : ℕ) (runs : List Run) → AreMaximal low runs → AllByRecursion (λ r. r.end ≤ high) runs
     → bytes_of runs ≤ high - low

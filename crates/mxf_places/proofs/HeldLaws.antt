@@ -23,11 +23,7 @@ covers-says x n = (
 )
 
 pub is_held-says : (notes : List NoteParts) (x : ℕ) → IsTrue (is_held notes x) ↔ IsHeld notes x
-is_held-says notes x =
-    let any = list_any-In (covers x) notes in (
-      λ h. let s = any.0 h in (s.0, s.1, (covers-says x s.0).0 s.2),
-      λ h. any.1 (h.0, h.1, (covers-says x h.0).1 h.2),
-    )
+is_held-says notes x = grind (arith, list_any-In, covers, covers-says)
 
 -- Of the disputed notes some is a disputed note.
 pub In-disputed : (notes : List NoteParts) (n : NoteParts)
@@ -68,14 +64,7 @@ top_of-bound (m ∷ notes) bound =
 pub held_end-bound : (notes : List NoteParts) (bound : ℕ)
     → held_end notes ≤ bound ↔ ((n : NoteParts) → In n notes → covered_end n ≤ bound)
 held_end-bound [] bound = (λ h n k. absurd k, λ f. omega arith)
-held_end-bound (m ∷ notes) bound =
-    let ih = held_end-bound notes bound in (
-      λ h n k. elim k [
-        | inl e ↦ let s : covered_end n ≡ covered_end m = ap covered_end e in omega (arith, h, s)
-        | inr i ↦ ih.0 (omega (arith, h)) n i
-      ],
-      λ f. let a = f m (inl refl) in let b = ih.1 (λ n k. f n (inr k)) in omega (arith, a, b),
-    )
+held_end-bound (m ∷ notes) bound = grind (arith, covered_end, held_end-bound notes bound)
 
 -- Numbers with the same bounds are one.
 pub same_bounds : (a b : ℕ) (P : ℕ → Type 0) → ((bound : ℕ) → a ≤ bound ↔ P bound)
@@ -140,5 +129,4 @@ pub end_of_file-by : (notes : List NoteParts) (end reached : ℕ) → rip_end_by
     → reached ≡ held_end notes → end_of_file notes ≡ cond (nat_lt end reached) None (Some end)
 unfolding end_of_file
 end_of_file-by notes end reached e h =
-    ap (λ o. option_and_then (λ e. cond (reaches_past e notes) None (Some e)) o) e
-    ∙ ap (λ b. cond b None (Some end)) (reaches_past-is end notes ∙ ap (nat_lt end) (sym h))
+    grind (arith, option_and_then, cond, reaches_past, reaches_past-is, nat_lt)

@@ -6,9 +6,7 @@ use Rattle.mxf_places.specs.Held.{IsHeld}
 -- Each packet ends at or below the end of all.
 pub ends_below : (o : ℕ) (l : List PacketParts) (m : NoteParts) → In m (notes_from o l) → end_of m ≤ end_after o l
 ends_below o [] m i = absurd i
-ends_below o (p ∷ l) m (inl e) =
-    let end : end_of m ≡ end_of (note_of o p) = ap end_of e in
-    let more = end_up (o + size_of p) l in omega (arith, end, more)
+ends_below o (p ∷ l) m (inl e) = grind (arith, end_of, note_of, end_up, size_of)
 ends_below o (p ∷ l) m (inr i) = ends_below (o + size_of p) l m i
 
 -- All bytes of the packets are held.

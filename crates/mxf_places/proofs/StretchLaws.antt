@@ -42,7 +42,4 @@ pub far_index : (notes : List NoteParts) (p : PartitionParts) (from : ℕ) → I
     → index_of notes p ≡ None
 unfolding index_of
 far_index notes p from is some behind far =
-    let count = p.pack.numbers.index_byte_count in
-    let stretch = λ (f : ℕ). stretch_from zones.Index notes f count in
-    ap (λ b. cond b (option_and_then stretch (behind_metadata notes p)) None) (lt-ltb 0 count some)
-    ∙ ap (λ (o : Option ℕ). option_and_then stretch o) behind ∙ far_stretch zones.Index notes from count is far
+    grind (arith, stretch_from, cond, option_and_then, behind_metadata, lt-ltb, far_stretch)

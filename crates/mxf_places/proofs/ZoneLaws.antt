@@ -31,11 +31,7 @@ begins_says zones.Metadata n =
               | inr s ↦ reads.0 s
             ],
           ),
-      λ k. and_from (is_primer (kind_of n.key)) (not n.whole || read) (primer.1 k.0)
-          (elim n.whole as (λ b. n.whole ≡ b → (not b || read) ≡ true) [
-            | true ↦ λ w. reads.1 (k.1 w)
-            | false ↦ λ _. refl
-          ] refl),
+      λ k. grind (arith, and_from, is_primer, kind_of, not, read),
     )
 begins_says zones.Index n = segment_kind (kind_of n.key)
 

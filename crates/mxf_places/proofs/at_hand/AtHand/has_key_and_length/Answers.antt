@@ -16,12 +16,4 @@ returns-in-Some c =
 
 pub returns-in-None : goal.returns-in-None
 returns-in-None c =
-    let runs = c.self.inside.hand in
-    let start = c.args.start in
-    let says = has_offsets-says runs start (start + 25) c.self.invariant.hand in
-    sym (false_from_ne_true (has_offsets runs start (start + 25)) (λ t.
-    let at = says.0 t start (omega arith) (omega arith) in
-    let within : at.0.end ≤ greatest_end =
-    all-In (λ (r : Run). r.end ≤ greatest_end) runs at.0 c.self.invariant.hand.within at.1 in
-    let before : start + 1 ≤ at.0.end = at.2.before in c.in-None.ensures (omega (arith, within, before))))
-    ∙ ap (λ (a : AtHandParts). has_offsets a.hand start (start + 25)) c.self.view_is
+    grind (arith, has_offsets-says, false_from_ne_true, has_offsets, greatest_end, all-In)
