@@ -155,7 +155,8 @@ fails_in_note a b c before mid after e notes done rest n is p m (q, told) =
     grind (
       arith,
       flat_at notes done rest n is,
-      StopsIn-part a b c before mid e (flat_map (note_bytes Two) done) (note_bytes Two n) (flat_map (note_bytes Two) rest) p m q,
+      StopsIn-part a b c before mid e (flat_map (note_bytes Two) done) (note_bytes Two n)
+          (flat_map (note_bytes Two) rest) p m q,
       flat_map (note_bytes Two) done,
       note_bytes Two,
       note_bytes Two n,

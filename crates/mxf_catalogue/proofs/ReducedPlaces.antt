@@ -87,7 +87,11 @@ module _ {K : Type 0} {R : K → K → Ordering} (o : IsTotalOrder R) (same : Is
           let new = In-append x xs (w ∷ ys) in
           let old = In-append x xs (h ∷ ys) in (
             λ k. elim (new.0 k) [
-              | inl i ↦ inr (old.1 (inl i), λ e. not_less_itself o h (subst (λ v. R v h ≡ Less) e (before xs ys h x r i)))
+              | inl i ↦ inr (
+                old.1 (inl i),
+                λ e. not_less_itself o h
+                    (subst (λ v. R v h ≡ Less) e (before xs ys h x r i)),
+              )
               | inr i ↦ elim i [
                 | inl e ↦ inl e
                 | inr j ↦ inr (
@@ -205,7 +209,12 @@ module _ {K : Type 0} {R : K → K → Ordering} (o : IsTotalOrder R) (same : Is
                   let up : R s.1 n ≡ Less = before xs [] n s.1 r in_l in
                   let rxs : IsRising R (s.0 ++ s.1 ∷ []) = subst (IsRising R) s.2 (front_rises xs r) in
                   let low : R x s.1 ≡ Less = before s.0 [] s.1 x rxs i in
-                  red x a (s.1, in_l, (λ e. not_less_itself o x (subst (λ v. R x v ≡ Less) e low)), between x s.1 n low up t)
+                  red x a (
+                    s.1,
+                    in_l,
+                    (λ e. not_less_itself o x (subst (λ v. R x v ≡ Less) e low)),
+                    between x s.1 n low up t,
+                  )
             ]
           where
             front_rises : (zs : List K) → IsRising R (zs ++ n ∷ []) → IsRising R zs

@@ -45,7 +45,8 @@ by_length n notes is i = (
   },
   λ t. length_teller notes n (so_sound n notes t.sound) (one_there front_of n notes is.content i (λ m j s.
       let e = sym (same_says front_of n m s) in
-      t.only m j (ap (λ (x : NoteParts). x.key) e) (ap (λ (x : NoteParts). x.width) e) (ap (λ (x : NoteParts). x.length) e))),
+      t.only m j (ap (λ (x : NoteParts). x.key) e) (ap (λ (x : NoteParts). x.width) e)
+      (ap (λ (x : NoteParts). x.length) e))),
 )
 
 same_packets : (m n : NoteParts) → m.whole ≡ n.whole → m.key ≡ n.key → m.width ≡ n.width → m.length ≡ n.length

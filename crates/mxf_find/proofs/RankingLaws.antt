@@ -89,7 +89,8 @@ module _ {K : Type 0} {R : K → K → Ordering} (o : IsTotalOrder R) (same : Is
       → take n (union R [] (take n (union R [] xs) ++ x ∷ [])) ≡ take n (union R [] (xs ++ x ∷ []))
   kept_more n xs x =
       let kept = take n (union R [] xs) in
-      ap (take n) (union-last kept x ∙ ap (with_one R x) (union-rising kept (rising_taken n (union R [] xs) (rising_union xs))))
+      ap (take n) (union-last kept x
+      ∙ ap (with_one R x) (union-rising kept (rising_taken n (union R [] xs) (rising_union xs))))
       ∙ take-with_one R n x (union R [] xs) ∙ ap (take n) (sym (union-last xs x))
 
 all_from : (before all : List Ranked) → with_all all (ranked before) ≡ ranked (before ++ all)

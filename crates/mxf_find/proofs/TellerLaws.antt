@@ -59,9 +59,11 @@ value_told notes n t = grind arith
 pub lent : (notes packets seen slice : List NoteParts) → IsByPacket notes packets → notes ≡ seen → slice ≡ packets
     → IsByPacket seen slice
 lent notes packets seen slice is e f =
-    subst (λ (l : List NoteParts). IsByPacket seen l) (sym f) (subst (λ (l : List NoteParts). IsByPacket l packets) e is)
+    subst (λ (l : List NoteParts). IsByPacket seen l) (sym f)
+    (subst (λ (l : List NoteParts). IsByPacket l packets) e is)
 
-module _ (notes packets : List NoteParts) (is : IsByPacket notes packets) (p : NoteParts) (only : Option NoteParts) where
+module _ (notes packets : List NoteParts) (is : IsByPacket notes packets) (p : NoteParts)
+    (only : Option NoteParts) where
   module _ (found : only ≡ sole (filter (is_same_length p) packets)) where
     pub length_held : (n : NoteParts) → only ≡ Some n → In n notes
     length_held n e = one_held front_of notes packets is.ordered is.content p only found n e

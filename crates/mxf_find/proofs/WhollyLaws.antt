@@ -44,7 +44,8 @@ whole_note a b e f i = record {
   held = (e i).held;
 }
 
-head_of : (p q n : NoteParts) → packet_of p ≡ packet_of n → packet_of q ≡ front_of n → p.offset ≡ q.offset → head_note p ≡ q
+head_of : (p q n : NoteParts) → packet_of p ≡ packet_of n → packet_of q ≡ front_of n → p.offset ≡ q.offset
+    → head_note p ≡ q
 head_of p q n e g o i = record {
   offset = o i;
   key = (ap (λ (x : NoteParts). x.key) e ∙ sym (ap (λ (x : NoteParts). x.key) g)) i;

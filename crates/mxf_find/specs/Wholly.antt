@@ -17,7 +17,8 @@ pub record TellsFor (recording : List NoteParts) (p n : NoteParts) : Type 0 wher
   pub by_value : p.whole ≡ true → IsTellingByValue n recording
   pub by_length : p.whole ≡ false → IsTellingByLength n recording
 
--- The recording has no head; it has the packet of each note of the fragment, at one shift; and one of these tells there.
+-- The recording has no head; it has the packet of each note of the fragment, at one shift; and one of these tells
+-- there.
 pub record LiesWholly (f : FragmentParts) (recording : List NoteParts) (at : ℕ) : Type 0 where
   pub inside : (p : NoteParts) → In p f.notes → f.offset ≤ p.offset
   pub whole : (n : NoteParts) → In n recording → n.whole ≡ true

@@ -18,7 +18,8 @@ escaped_plain c quote backslash =
     elim (cases_lt c 128) [
       | inl h ↦ rw (lt-ltb c 128 h) (rw (plain c quote backslash) refl)
       | inr h ↦ elim (cases_lt c 2048) [
-        | inl l ↦ rw (le-ltb c 128 h, lt-ltb c 2048 l) (rw (high (192 + c / 64) (omega arith), high (next c) (omega arith)) refl)
+        | inl l ↦ rw (le-ltb c 128 h, lt-ltb c 2048 l)
+            (rw (high (192 + c / 64) (omega arith), high (next c) (omega arith)) refl)
         | inr l ↦ elim (cases_lt c 65536) [
           | inl m ↦ rw (le-ltb c 128 h, le-ltb c 2048 l, lt-ltb c 65536 m)
               (rw (high (224 + c / 4096) (omega arith), high (next (c / 64)) (omega arith), high (next c) (omega arith))
@@ -41,7 +42,8 @@ within (c ∷ text) rest =
       | inl e ↦ rw e (rw (within text rest) refl)
       | inr quote ↦ elim (cases_eq c 92) [
         | inl e ↦ rw e (rw (within text rest) refl)
-        | inr backslash ↦ rw (ne_eqb c 34 quote, ne_eqb c 92 backslash) (rw (ne_eqb c 34 quote, ne_eqb c 92 backslash, within text rest) refl)
+        | inr backslash ↦ rw (ne_eqb c 34 quote, ne_eqb c 92 backslash)
+            (rw (ne_eqb c 34 quote, ne_eqb c 92 backslash, within text rest) refl)
       ]
     ]
 

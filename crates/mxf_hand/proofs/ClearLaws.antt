@@ -59,7 +59,8 @@ cut_begins : (offset : ℕ) (bytes : List ℕ) (n : NoteParts) → In n (cut_hea
 cut_begins offset bytes n i = grind (arith, heads_few, head_begins, end_up)
 
 -- A reading goes no further than its end.
-read_within : (h : HandBytes) (end from : ℕ) → read_to h.runs (Some end) from ≤ end ⊎ (read_to h.runs (Some end) from ≡ from)
+read_within : (h : HandBytes) (end from : ℕ) → read_to h.runs (Some end) from ≤ end
+    ⊎ (read_to h.runs (Some end) from ≡ from)
 read_within h end from = grind arith
 
 read_below : (h : HandBytes) (end : Option ℕ) (from x : ℕ) → from ≤ x → x < from + (read_to h.runs end from - from)
@@ -237,12 +238,14 @@ module _ (notes : List NoteParts) (content : IsContent notes) (n : NoteParts) (c
   taken_apart h m i s =
       let sections = sections_of notes in
       let read = read_in h notes sections in
-      elim ((In-append m (packets_in h notes sections) (made_in h notes sections ++ heads_taken h notes sections)).0 i) [
+      elim ((In-append m (packets_in h notes sections)
+      (made_in h notes sections ++ heads_taken h notes sections)).0 i) [
         | inl k ↦ let p = (In-flat_map (packets_of h notes) sections m).0 k in packet_apart h p.0 m p.1 p.2 s
         | inr more ↦ elim ((In-append m (made_in h notes sections) (heads_taken h notes sections)).0 more) [
           | inl k ↦ let p = (In-flat_map (made_of h notes) sections m).0 k in made_apart h p.0 m p.2 s
           | inr k ↦
-              let c = (In-map (λ (c : CutHead). c.note) (filter (is_taken read) (read_heads_in h notes sections)) m).0 k in
+              let c = (In-map (λ (c : CutHead). c.note)
+              (filter (is_taken read) (read_heads_in h notes sections)) m).0 k in
               let f = (In-filter (is_taken read) (read_heads_in h notes sections) c.0).0 c.1 in
               let p = (In-flat_map (read_heads_of h notes) sections c.0).0 f.0 in
               let j = (In-map (λ a. cut_head a p.0.hole.end) (heads_of h notes p.0) c.0).0 p.2 in

@@ -193,14 +193,16 @@ module _ (q : ℕ) (read more behind : List ℕ) (back : List PacketParts) (join
       head_among : (l : List PacketParts) → others ≡ l → (n : NoteParts) → BeginsWithCut at (rest_in q read) n
           → (m : NoteParts) × In m (notes_from at others) × (head_note m ≡ n)
       head_among [] is n cut =
-          let all : length (rest_in q read ++ more) ≡ 0 = ap length (subst (λ l. AreLaid at (rest_in q read ++ more) l []) is others_laid) in
+          let all : length (rest_in q read ++ more) ≡ 0 =
+          ap length (subst (λ l. AreLaid at (rest_in q read ++ more) l []) is others_laid) in
           let both = length-append (rest_in q read) more in
           let key : length cut.key ≡ 16 = cut.stands.label.0 in
           let whole = ap length cut.stands.whole in
           let parts = length-append cut.key (cut.stands.spelled ++ cut.after) in
           absurd (omega (arith, all, both, key, whole, parts))
       head_among (p ∷ l) is n cut =
-          let (front, after, spelled, joined, within, laid) = subst (λ l. AreLaid at (rest_in q read ++ more) l []) is others_laid in
+          let (front, after, spelled, joined, within, laid) =
+          subst (λ l. AreLaid at (rest_in q read ++ more) l []) is others_laid in
           let one = head_in front after p spelled in
           let other : BeginsWithKeyAndLength (rest_in q read ++ more) cut.key cut.length (cut.after ++ more) = record {
             spelled = cut.stands.spelled;
@@ -210,13 +212,16 @@ module _ (q : ℕ) (read more behind : List ℕ) (back : List PacketParts) (join
                 ∙ append_assoc cut.key (cut.stands.spelled ++ cut.after) more
                 ∙ ap (λ (t : List ℕ). cut.key ++ t) (append_assoc cut.stands.spelled cut.after more);
           } in
-          let here : BeginsWithKeyAndLength (rest_in q read ++ more) p.key (record { width = p.width; value = length p.value })
-          (p.value ++ after) = subst (λ t. BeginsWithKeyAndLength t p.key (record { width = p.width; value = length p.value })
+          let here : BeginsWithKeyAndLength (rest_in q read ++ more) p.key
+          (record { width = p.width; value = length p.value })
+          (p.value ++ after) = subst (λ t. BeginsWithKeyAndLength t p.key
+          (record { width = p.width; value = length p.value })
           (p.value ++ after)) (sym joined) one in
           let lengths : cut.length ≡ record { width = p.width; value = length p.value } =
           same_Some cut.length (record { width = p.width; value = length p.value })
           (sym (head_at-head (rest_in q read ++ more) cut.key cut.length (cut.after ++ more) other)
-          ∙ head_at-head (rest_in q read ++ more) p.key (record { width = p.width; value = length p.value }) (p.value ++ after) here) in
+          ∙ head_at-head (rest_in q read ++ more) p.key (record { width = p.width; value = length p.value })
+          (p.value ++ after) here) in
           let keys : cut.key ≡ p.key = one_key other here in (
             note_of at p,
             subst (λ l. In (note_of at p) (notes_from at l)) (sym is) (inl refl),
@@ -235,7 +240,8 @@ module _ (l : List PacketParts) (bytes : List ℕ) (h : HandBytes) (laid : AreLa
   pub laid_from : (front back : List PacketParts) → l ≡ front ++ back → LaidBehind 0 bytes front back
   laid_from front back e = laid_behind 0 bytes front back (subst (λ l. AreLaid 0 bytes l []) e laid)
 
-  pub reads_front : (front back : List PacketParts) (e : l ≡ front ++ back) (end : Option ℕ) (q : ℕ) → end_after 0 front ≡ q
+  pub reads_front : (front back : List PacketParts) (e : l ≡ front ++ back) (end : Option ℕ) (q : ℕ)
+      → end_after 0 front ≡ q
       → (laid_from front back e).behind
       ≡ read_bytes h end q ++ drop (read_to h.runs end q - q) (laid_from front back e).behind
   reads_front front back e end q at =
@@ -254,7 +260,8 @@ module _ (l : List PacketParts) (bytes : List ℕ) (h : HandBytes) (laid : AreLa
       subst (λ l. In m (notes_from 0 l)) (sym e) (subst (In m) (sym (notes_from-append 0 front back))
       ((In-append m (notes_from 0 front) (notes_from (end_after 0 front) back)).1 (inr i)))
 
-  packet_of_file : (end : Option ℕ) (q : ℕ) (n : NoteParts) → IsBoundary l q → In n (packet_notes q (read_bytes h end q))
+  packet_of_file : (end : Option ℕ) (q : ℕ) (n : NoteParts) → IsBoundary l q
+      → In n (packet_notes q (read_bytes h end q))
       → IsOfFile l n
   packet_of_file end q n (front, back, e, at) i =
       let b = laid_from front back e in
@@ -455,14 +462,16 @@ module _ (l : List PacketParts) (bytes : List ℕ) (h : HandBytes) (laid : AreLa
     taken_of_file m i =
         let sections = sections_of notes in
         let read = read_in h notes sections in
-        elim ((In-append m (packets_in h notes sections) (made_in h notes sections ++ heads_taken h notes sections)).0 i) [
+        elim ((In-append m (packets_in h notes sections)
+        (made_in h notes sections ++ heads_taken h notes sections)).0 i) [
           | inl k ↦ let p = (In-flat_map (packets_of h notes) sections m).0 k in packets_of_file p.0 m p.1 p.2
           | inr more ↦ elim ((In-append m (made_in h notes sections) (heads_taken h notes sections)).0 more) [
             | inl k ↦
                 let p = (In-flat_map (made_of h notes) sections m).0 k in
                 made_by_file p.0.hole.end (fitting h notes p.0.first) m (fitted p.0.first) p.2
             | inr k ↦
-                let c = (In-map (λ (c : CutHead). c.note) (filter (is_taken read) (read_heads_in h notes sections)) m).0 k in
+                let c = (In-map (λ (c : CutHead). c.note)
+                (filter (is_taken read) (read_heads_in h notes sections)) m).0 k in
                 let f = (In-filter (is_taken read) (read_heads_in h notes sections) c.0).0 c.1 in
                 let p = (In-flat_map (read_heads_of h notes) sections c.0).0 f.0 in
                 let j = (In-map (λ a. cut_head a p.0.hole.end) (heads_of h notes p.0) c.0).0 p.2 in

@@ -155,5 +155,6 @@ are_told {told = told} given h {hand = hand} {parts = parts} t is e a = record {
   sources = given;
   are_told = subst (λ (p : GivenParts). AreTold told p.extents given) (sym e) t;
   lie = sym (one_hand given hand.runs h a is);
-  bytes = λ x b lies gives. is.bytes x b (subst (λ (l : List Run). LiesIn l x) (one_hand given hand.runs h a is) lies) gives;
+  bytes = λ x b lies gives. is.bytes x b
+      (subst (λ (l : List Run). LiesIn l x) (one_hand given hand.runs h a is) lies) gives;
 }

@@ -460,7 +460,8 @@ module _ (l : List PacketParts) (h : HandBytes) (well : IsWellFormed l) (file : 
       → HeadsHaveValues notes → BeginAtPackets l notes → put_together h notes ≡ notes_from 0 l
   all_together notes content reduced of values begin =
       all_rounds h notes ∙ round_more h notes 64 63 refl
-      ∙ ap (rounds 63 h) (one_round notes content of values begin reduced) ∙ rounds_end h (notes_from 0 l) 63 (no_more l h file)
+      ∙ ap (rounds 63 h) (one_round notes content of values begin reduced)
+      ∙ rounds_end h (notes_from 0 l) 63 (no_more l h file)
 
 pub whole_file : (packets : List PacketParts) (h : HandBytes) (notes : List NoteParts) → IsWellFormed packets
     → AreBytesOfFile packets h → IsAllAtHand packets h → IsContent notes → AreReduced notes → AreOfFile packets notes

@@ -24,7 +24,8 @@ pub shifts_one : (contents more : List (List NoteParts)) (shifts after : List (O
     → AreShifts contents shifts → AreShifts more after
 shifts_one contents more shifts after c s e f is a =
     subst (λ (l : List (List NoteParts)). AreShifts l after) (sym e)
-    (subst (λ (t : List (Option Shift)). AreShifts (contents ++ c ∷ []) t) (sym f) (shifts_push contents shifts c s a is))
+    (subst (λ (t : List (Option Shift)). AreShifts (contents ++ c ∷ []) t) (sym f)
+    (shifts_push contents shifts c s a is))
 
 -- a shift that is answered, or none
 pub shift_in : (notes : List NoteParts) (s : Option Shift)

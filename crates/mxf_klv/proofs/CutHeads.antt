@@ -69,7 +69,8 @@ heads_at-stands offset bytes n = (
         | None ↦ λ e i. absurd i
         | Some l ↦ λ e i.
             elim (is_cut_at offset bytes l) as (λ b. is_cut_at offset bytes l ≡ b
-            → In n (cond b (head_parts offset (take 16 bytes) l.width l.value ∷ []) []) → BeginsWithCut offset bytes n) [
+            → In n (cond b (head_parts offset (take 16 bytes) l.width l.value ∷ []) [])
+            → BeginsWithCut offset bytes n) [
               | true ↦ λ t j.
                   let p = and_parts (nat_lt (length bytes) (16 + l.width + l.value)) _ t in
                   let short = ltb-true (length bytes) (16 + l.width + l.value) p.0 in

@@ -63,7 +63,9 @@ pub one_reading : (bytes : List ℕ) (r s : Result LengthParts BerFault) → Rea
 one_reading bytes (Ok l) (Ok m) p q =
     grind (
       arith,
-      one_length (take l.width bytes) (take m.width bytes) (drop l.width bytes) (drop m.width bytes) l.width l.value m.width m.value p q (take-append-drop l.width bytes ∙ sym (take-append-drop m.width bytes)),
+      one_length (take l.width bytes) (take m.width bytes) (drop l.width bytes)
+          (drop m.width bytes) l.width l.value m.width m.value p q
+          (take-append-drop l.width bytes ∙ sym (take-append-drop m.width bytes)),
     )
 one_reading bytes (Ok l) (Err e) p q = absurd (ok_excludes bytes l.width l.value p e q)
 one_reading bytes (Err d) (Ok l) p q = absurd (ok_excludes bytes l.width l.value q d p)

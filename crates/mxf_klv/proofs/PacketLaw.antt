@@ -109,7 +109,8 @@ pub one_packet_reading : (bytes : List ℕ) (r s : Result (PacketParts × ℕ) P
 one_packet_reading bytes (Ok (p, m)) (Ok (q, n)) s t =
     grind (
       arith,
-      same_packet (take m bytes) (take n bytes) (drop m bytes) (drop n bytes) p q s.1 t.1 (take-append-drop m bytes ∙ sym (take-append-drop n bytes)),
+      same_packet (take m bytes) (take n bytes) (drop m bytes) (drop n bytes) p q s.1 t.1
+          (take-append-drop m bytes ∙ sym (take-append-drop n bytes)),
       length-take m bytes,
       length-take n bytes,
     )

@@ -54,7 +54,8 @@ first_row columns cell width passed (m ∷ marks) some more =
           let within : columns ≤ length all = leb-true _ _ t in
           let same : columns ≡ count = omega (arith, within) in
           let left = length-drop columns all in
-          enough columns cell width (length marks) (length (drop columns all)) (passed + columns) (drop columns all) some
+          enough columns cell width (length marks) (length (drop columns all)) (passed + columns)
+          (drop columns all) some
           (omega (arith, left)) (omega arith)
           ∙ ap (λ k. rows_of columns cell width (passed + k) (drop k all)) same
       | false ↦ λ t.

@@ -71,13 +71,15 @@ module _ (first : ℕ) (all left : List EditUnit) (units held hand from : ℕ) (
 
   -- What is answered of the last line is answered of all.
   pub answered : {f g : Form} {a b : Option (List ℕ)} {before mid : ℕ}
-      → Leads f a before (unit_lines first all) g b mid (flat_map (λ u. unit_line u ∷ []) left ++ last_line first all ∷ [])
+      → Leads f a before (unit_lines first all) g b mid
+      (flat_map (λ u. unit_line u ∷ []) left ++ last_line first all ∷ [])
       → (c : Option (List ℕ)) (after : ℕ) (r : Result (Unit {0}) AnswerFault)
       → PrintsPart g b c mid after r (units_line units held hand from ∷ [])
       → PrintsPart f a c before after r (unit_lines first all)
   answered {f} {g} {a} {b} {before} {mid} led c after r printed =
       led.leads c after r (subst (PrintsPart g b c mid after r) (sym (ap (λ (us : List EditUnit).
-      flat_map (λ u. unit_line u ∷ []) us ++ last_line first all ∷ []) none ∙ ap (λ (l : PrintedLine). l ∷ []) (sym line_is))) printed)
+      flat_map (λ u. unit_line u ∷ []) us ++ last_line first all ∷ []) none
+      ∙ ap (λ (l : PrintedLine). l ∷ []) (sym line_is))) printed)
 
 -- A fault of one call is that of another.
 pub as_fault : (X Y : Type 0) (f : Form) (a c : Option (List ℕ)) (before after : ℕ) (e : AnswerFault)

@@ -52,6 +52,7 @@ Prints form Wrote (Err BadUnit) lines = ⊥
 
 -- What a call answers that gives the next of some items, by how many are left and what their lines are: none if
 -- none is left, otherwise the first, and the others are left.
-abbrev pub Gives : {S X : Type 0} → (S → ℕ) → (S → List PrintedLine) → (X → List PrintedLine) → S → S → Option X → Type 0
+abbrev pub Gives : {S X : Type 0} → (S → ℕ) → (S → List PrintedLine) → (X → List PrintedLine) → S → S → Option X
+    → Type 0
 Gives left lines_left lines old new None = lines_left old ≡ []
 Gives left lines_left lines old new (Some x) = (left new < left old) × (lines_left old ≡ lines x ++ lines_left new)

@@ -87,7 +87,8 @@ runs_count p low len (r ∷ runs) m w f =
     let z2 : count_by p (range_with_len r.start size) ≡ size = range-all p r.start size (λ x l h.
     (f x (omega (arith, l, from)) (omega (arith, h, at2, within))).1
     (r, inl refl, record { from = l; before = omega (arith, h, at2) })) in
-    let ih : bytes_of runs ≡ count_by p (range_with_len r.end after) = runs_count p r.end after runs (lower r.end runs m.2)
+    let ih : bytes_of runs ≡ count_by p (range_with_len r.end after) =
+    runs_count p r.end after runs (lower r.end runs m.2)
     (subst (λ (h : ℕ). AllByRecursion (λ s. s.end ≤ h) runs) (sym at3) w.1) (λ x l h.
     let k = f x (omega (arith, l, from, some)) (omega (arith, h, at3)) in (
       λ t. let s = k.0 t in

@@ -118,7 +118,8 @@ pub some_lacks : (known : KnownParts) (from to : ℕ) (b : Bool)
     → IsTrue (not b) ↔ Says known from to marks.Part
 some_lacks known from to b is = (
   λ h. elim (all_or_some (is_held known.notes) from (to - from)) [
-    | inl all ↦ absurd (not-true-false b h (is.1 (λ at l r. (is_held-says known.notes at).0 (all at l (omega (arith, l, r))))))
+    | inl all ↦ absurd (not-true-false b h
+        (is.1 (λ at l r. (is_held-says known.notes at).0 (all at l (omega (arith, l, r))))))
     | inr s ↦
         let l = s.1 in
         let r = s.2 in (

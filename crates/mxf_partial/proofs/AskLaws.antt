@@ -85,7 +85,8 @@ ways_are w p =
 
 -- ---- which need what limits them
 
-limit_by : (r : Result Location UnitStanding) (x : ℕ) → option_and_then (λ (l : Location). l.zone.limit) (result_ok r) ≡ Some x
+limit_by : (r : Result Location UnitStanding) (x : ℕ)
+    → option_and_then (λ (l : Location). l.zone.limit) (result_ok r) ≡ Some x
     → (l : Location) × (r ≡ Ok l) × (l.zone.limit ≡ Some x)
 limit_by (Ok l) x e = (l, refl, e)
 limit_by (Err s) x e = absurd cc
@@ -138,7 +139,8 @@ named_limits w named limits n are is =
 
 -- All that units ask for.
 pub asked_are : (w : WantedParts) (named before_ways before_limits asked : List NamedPlace) (limits : List ℕ)
-    (partitions ways : List StreamPlace) (none : List NamedPlace) (n : NamedPlace) → AreNamed (notes_of w) named → none ≡ []
+    (partitions ways : List StreamPlace) (none : List NamedPlace) (n : NamedPlace) → AreNamed (notes_of w) named
+    → none ≡ []
     → partitions ≡ filter_map (partition_asked w.units) (wanted_units w)
     → ways ≡ filter_map (way_asked w.units) (wanted_units w)
     → limits ≡ filter_map (limit_asked w.units) (wanted_units w)
@@ -217,7 +219,8 @@ numbers_say w numbers x is = (
         unit = s.0;
         wanted = s.1;
         standing = so.0;
-        between = subst (λ n. LiesBetweenSegments (segments_for (notes_of w) w.units.index_sid) n x) (sym so.1) m.between;
+        between = subst (λ n. LiesBetweenSegments (segments_for (notes_of w) w.units.index_sid) n x)
+            (sym so.1) m.between;
       },
   λ m. record {
     named = m.named;

@@ -43,14 +43,15 @@ earlier_is None source = record { one = inr refl; before = goes_itself source; s
 earlier_is (Some None) source = record { one = inl refl; before = tt; seen = λ x e. tt }
 earlier_is (Some (Some x)) None = record { one = inr refl; before = tt; seen = λ y e. tt }
 earlier_is (Some (Some x)) (Some y) = record {
-  one = elim (nat_le x y) as (λ b. nat_le x y ≡ b → (Some (Some x) ≡ Some (Some (min x y))) ⊎ (Some y ≡ Some (min x y))) [
-    | true ↦ λ e.
-        let l = leb-true x y e in
-        let is : x ≡ min x y = omega (arith, l) in inl (ap (λ (k : ℕ). Some (Some k)) is)
-    | false ↦ λ e.
-        let l = leb-false x y e in
-        let is : y ≡ min x y = omega (arith, l) in inr (ap Some is)
-  ] refl;
+  one = elim (nat_le x y) as (λ b. nat_le x y ≡ b → (Some (Some x) ≡ Some (Some (min x y)))
+      ⊎ (Some y ≡ Some (min x y))) [
+        | true ↦ λ e.
+            let l = leb-true x y e in
+            let is : x ≡ min x y = omega (arith, l) in inl (ap (λ (k : ℕ). Some (Some k)) is)
+        | false ↦ λ e.
+            let l = leb-false x y e in
+            let is : y ≡ min x y = omega (arith, l) in inr (ap Some is)
+      ] refl;
   before = omega arith;
   seen = λ z e.
       subst (λ (o : Option ℕ). GoesFirst (Some (min x y)) o) (same_Some (Some x) z e)

@@ -165,8 +165,11 @@ named_says notes named x are = (to (named_at named x) refl, back (named_at named
     to None is t = absurd cc
     to (Some n) is t =
         let f = found-In (λ (n : NamedPlace). n.place == x) named n is in
-        let at : n.place ≡ x = eqb-true n.place x (let t : (n.place == x) ≡ true = grind (arith, f.1) in t) in
-        (n.source, subst (λ (k : ℕ). Rattle.mxf_restore.specs.NamedPlaces.IsNamedPlace notes (record { place = k; source = n.source })) at ((are.members n).0 f.0))
+        let at : n.place ≡ x = eqb-true n.place x (let t : (n.place == x) ≡ true = grind (arith, f.1) in t) in (
+          n.source,
+          subst (λ (k : ℕ). Rattle.mxf_restore.specs.NamedPlaces.IsNamedPlace notes
+              (record { place = k; source = n.source })) at ((are.members n).0 f.0),
+        )
 
     back : (o : Option NamedPlace) → named_at named x ≡ o → IsNamed notes x → is_some o ≡ true
     back None is s =
@@ -304,7 +307,8 @@ one_plan w p q a b =
     let there = one_cover (IsThere w) a.there b.there a.there_are b.there_are in
     let orders = same_from_members order_total one_order p.orders q.orders a.rising b.rising (λ o. (
       λ i. (b.members o).1 (by_covers w a.there b.there a.wanted b.wanted o there wanted ((a.members o).0 i)),
-      λ i. (a.members o).1 (by_covers w b.there a.there b.wanted a.wanted o (sym there) (sym wanted) ((b.members o).0 i)),
+      λ i. (a.members o).1 (by_covers w b.there a.there b.wanted a.wanted o (sym there) (sym wanted)
+          ((b.members o).0 i)),
     )) in
     let end = a.end ∙ sym b.end in
     λ i. record { orders = orders i; end = end i }
@@ -465,13 +469,15 @@ units_lack w p o x plan i reason lies less known =
     elim ((plan.members o).0 i) [
       | inl k ↦ not_of_units w o k reason
       | inr u ↦
-          let lacks = (lacking_members plan.there u.run.start (Some u.run.end) u.range plan.there_are.cover).0 u.lacks in
+          let lacks = (lacking_members plan.there u.run.start
+          (Some u.run.end) u.range plan.there_are.cover).0 u.lacks in
           let at = subst (λ (o : Order). LiesInOrder o x) u.is lies in
           lacks.none x (at.0, in_range u.range.end at.1) ((plan.there_are.offsets x).1 (inl known, less))
     ]
   where
     by_bound : (b : Bool) (e : ℕ) → nat_lt e greatest_end ≡ b
-        → (((if b then Some e else None) ≡ None) ⊎ ((y : ℕ) × ((if b then Some e else None) ≡ Some y) × (x < y))) → x < e
+        → (((if b then Some e else None) ≡ None) ⊎ ((y : ℕ) × ((if b then Some e else None) ≡ Some y) × (x < y)))
+        → x < e
     by_bound true e t (inl none) = absurd cc
     by_bound true e t (inr s) = let same = same_Some e s.0 s.1 in let l = s.2 in omega (arith, same, l)
     by_bound false e t h = let far = ltb-false e greatest_end t in omega (arith, far, less)

@@ -35,7 +35,8 @@ module _ (named : List NamedPlace) (u : UnitsParts) where
       ↔ ((HasByte (wanted_of named u unit) x × (x < greatest_end)) ⊎ HasByteOf named u left x)
   first_or_later unit left x = grind arith
 
-  pub one_more : (unit : EditUnit) (left before all : List EditUnit) (extent : Option Extent) (old new : List Run) (x : ℕ)
+  pub one_more : (unit : EditUnit) (left before all : List EditUnit) (extent : Option Extent) (old new : List Run)
+      (x : ℕ)
       → before ≡ unit ∷ left → extent ≡ wanted_of named u unit
       → LiesIn new x ↔ (LiesIn old x ⊎ (HasByte extent x × (x < greatest_end)))
       → (LiesIn old x ⊎ HasByteOf named u before x) ↔ HasByteOf named u all x

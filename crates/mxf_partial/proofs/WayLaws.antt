@@ -99,7 +99,8 @@ module _ (notes : List NoteParts) (places : List StreamPlace) (part : StreamPart
             | true ↦ λ t. ltb-true p.offset next t
             | false ↦ λ t.
                 let over = ltb-false p.offset next t in
-                let last = h.2.last q (subst (λ b. IsPart notes b q) h.2.body behind.part) (omega (arith, over, here, e)) in
+                let last = h.2.last q (subst (λ b. IsPart notes b q) h.2.body behind.part)
+                (omega (arith, over, here, e)) in
                 omega (arith, last, far)
           ] refl
 

@@ -46,7 +46,8 @@ pub record NeedsLimit (w : WantedParts) (limit : ℕ) : Type 0 where
 -- there; or an unknown partition may lie before it.
 abbrev pub IsAskedByUnit : WantedParts → ℕ → Option ℕ → Type 0
 IsAskedByUnit w x source =
-    (((p : StreamPlace) × NeedsPartition w p × MayLieAt w.units p.body_sid p.offset x) × IsNamedBy (notes_of w) x source)
+    (((p : StreamPlace) × NeedsPartition w p × MayLieAt w.units p.body_sid p.offset x)
+    × IsNamedBy (notes_of w) x source)
     ⊎ (((p : StreamPlace) × (part : StreamPart) × NeedsWay w p × LeadsTo (notes_of w) p.body_sid p.offset part x
     × (source ≡ Some part.partition))
     ⊎ (NeedsLimit w x × IsNamedBy (notes_of w) x source))

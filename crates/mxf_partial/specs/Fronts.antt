@@ -74,5 +74,6 @@ if_none (o ∷ orders) front = None
 
 abbrev pub front_order : Bool → AtHandParts → List NoteParts → List NamedPlace → Section → Option Order
 front_order described at notes asked p =
-    if_none (helping_of described at notes p) (option_and_then (λ source. option_map (front_by source) (front_of at notes p))
+    if_none (helping_of described at notes p)
+    (option_and_then (λ source. option_map (front_by source) (front_of at notes p))
     (first_source asked (start_of notes p.first) p.end))

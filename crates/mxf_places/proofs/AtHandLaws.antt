@@ -83,7 +83,8 @@ lacking-between low (r ∷ runs) m from start end l =
         → lacking (cond b (r ∷ filter (is_between from stop) runs) (filter (is_between from stop) runs)) start stop
         ≡ lacking (r ∷ runs) start stop
     by_end some stop ih true e =
-        ap (λ rest. some_range start (Some (up_to_bound r.start stop)) ++ rest) (ih (max start r.end) (omega (arith, l)))
+        ap (λ rest. some_range start (Some (up_to_bound r.start stop)) ++ rest)
+        (ih (max start r.end) (omega (arith, l)))
     by_end some None ih false e = absurd cc
     by_end some (Some x) ih false e =
         let behind : x ≤ r.start = ltb-false r.start x e in

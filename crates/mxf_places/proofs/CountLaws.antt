@@ -112,7 +112,8 @@ within-passing : (runs : List Run) (s e : ℕ) → within runs s e ≡ passing (
 within-passing [] s e = refl
 within-passing (r ∷ runs) s e =
     let ih = within-passing runs s e in
-    let all = range-all (λ x. true) (max r.start s) (min r.end e - max r.start s) (λ x l h. refl) in omega (arith, ih, all)
+    let all = range-all (λ x. true) (max r.start s) (min r.end e - max r.start s) (λ x l h. refl) in
+    omega (arith, ih, all)
 
 pub within_counted : (low : ℕ) (runs : List Run) → AreMaximal low runs → (s e : ℕ)
     → within runs s e ≡ count_by (has_offset runs) (range_with_len s (e - s))

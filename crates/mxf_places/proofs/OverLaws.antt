@@ -79,7 +79,8 @@ passed (n ∷ packets) low from apart =
     → Passed (n ∷ packets) low from (over_among packets (cond b (end_of n) from))) [
       | true ↦ λ e.
           let t = and_parts (n.offset == from) (is_fill (kind_of n.key)) e in
-          passed_first n packets low from _ apart.0 (eqb-true _ _ t.0) t.1 (passed packets (end_of n) (end_of n) apart.1)
+          passed_first n packets low from _ apart.0 (eqb-true _ _ t.0) t.1
+          (passed packets (end_of n) (end_of n) apart.1)
       | false ↦ λ e. passed_over n packets low from _ apart.0 e (passed packets (end_of n) from apart.1)
     ] refl
 

@@ -10,7 +10,8 @@ use Rattle.mxf_places.specs.Held.{end_of_file, is_disputed_at, is_held}
 use Rattle.mxf_places.specs.declared.stretch.Zone.{Zone}
 use Rattle.mxf_places.specs.declared.stretch.Zone.TheVariants as zones
 
-pub over_none : (notes : List NoteParts) (x : ℕ) → ((n : NoteParts) → In n notes → n.offset ≢ x) → over_among notes x ≡ x
+pub over_none : (notes : List NoteParts) (x : ℕ) → ((n : NoteParts) → In n notes → n.offset ≢ x)
+    → over_among notes x ≡ x
 over_none [] x f = refl
 over_none (n ∷ notes) x f =
     ap (λ b. over_among notes (cond (b && is_fill (kind_of n.key)) (end_of n) x)) (ne_eqb n.offset x (f n (inl

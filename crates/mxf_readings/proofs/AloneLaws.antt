@@ -23,7 +23,8 @@ count-filter p q [] = refl
 count-filter p q (x ∷ xs) =
     let ih = count-filter p q xs in
     let r = count_by-cons (λ y. q y && p y) x xs in
-    elim (q x) as (λ b. q x ≡ b → count_by p (cond b (x ∷ filter q xs) (filter q xs)) ≡ count_by (λ y. q y && p y) (x ∷ xs)) [
+    elim (q x) as (λ b. q x ≡ b → count_by p (cond b (x ∷ filter q xs) (filter q xs))
+    ≡ count_by (λ y. q y && p y) (x ∷ xs)) [
       | true ↦ λ e.
           let c = count_by-cons p x (filter q xs) in
           let z : tally (q x && p x) ≡ tally (p x) = ap (λ b. tally (b && p x)) e in
@@ -63,7 +64,8 @@ of_source number contents hs are rise =
     let kept = In-filter (λ (h : HoldingParts). h.source == number) hs in
     same_from_members note_total note_cmp-IsAntisymmetric (map (λ (h : HoldingParts). h.note) fs)
     (content_of number contents)
-    (rises_mapped holding_cmp note_cmp (λ h. h.note) fs (rising-filter holding_cmp (λ h. h.source == number) hs are.rising)
+    (rises_mapped holding_cmp note_cmp (λ h. h.note) fs
+    (rising-filter holding_cmp (λ h. h.source == number) hs are.rising)
     (λ g h i k l. note_less g h (eqb-true _ _ ((kept g).0 i).1 ∙ sym (eqb-true _ _ ((kept h).0 k).1)) l))
     rise
     (λ n.

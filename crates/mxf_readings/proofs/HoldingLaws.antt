@@ -35,8 +35,12 @@ from_members h first (c ∷ contents) =
       λ k. elim (both.0 k) [
         | inl m ↦
             let s = here.0 m in
-            let e : h.source ≡ first = ap (λ (g : HoldingParts). g.source) s.2 in
-            (zero, omega (arith, e), subst (λ (n : NoteParts). In n c) (sym (ap (λ (g : HoldingParts). g.note) s.2)) s.1)
+            let e : h.source ≡ first = ap (λ (g : HoldingParts). g.source) s.2 in (
+              zero,
+              omega (arith, e),
+              subst (λ (n : NoteParts). In n c)
+                  (sym (ap (λ (g : HoldingParts). g.note) s.2)) s.1,
+            )
         | inr m ↦
             let s = ih.0 m in
             let e : h.source ≡ first + 1 + s.0 = s.1 in
@@ -91,7 +95,8 @@ passing_part p (x ∷ xs) (suc a) (suc b) o l f g h = rw (f 0 x (omega arith) (o
     (passing_part p xs a b (omega arith) (omega arith) (λ k d _ m. f (suc k) d (omega arith) (omega arith))
     (λ k d n m. g (suc k) d (omega arith) (omega arith)) (λ k d n m. h (suc k) d (omega arith) (omega arith)))
 
-pub rising_places : {K : Type 0} {R : K → K → Ordering} (o : IsTotalOrder R) (xs : List K) (i j : ℕ) (d : K) → IsRising R xs
+pub rising_places : {K : Type 0} {R : K → K → Ordering} (o : IsTotalOrder R) (xs : List K) (i j : ℕ) (d : K)
+    → IsRising R xs
     → i < j → j < length xs → R (get_or xs i d) (get_or xs j d) ≡ Less
 rising_places o [] i j d r h l = absurd (omega arith)
 rising_places o (x ∷ xs) i zero d r h l = absurd (omega arith)
@@ -99,7 +104,8 @@ rising_places o (x ∷ xs) zero (suc j) d r h l = less_in o x (get_or xs j d) xs
 rising_places o (x ∷ xs) (suc i) (suc j) d r h l = rising_places o xs i j d r.1 (omega arith) (omega arith)
 
 -- The same of what the elements are mapped to.
-pub rising_mapped : {X K : Type 0} {R : K → K → Ordering} (o : IsTotalOrder R) (f : X → K) (xs : List X) (i j : ℕ) (d : X)
+pub rising_mapped : {X K : Type 0} {R : K → K → Ordering} (o : IsTotalOrder R) (f : X → K) (xs : List X) (i j : ℕ)
+    (d : X)
     → IsRising R (map f xs) → i < j → j < length xs → R (f (get_or xs i d)) (f (get_or xs j d)) ≡ Less
 rising_mapped {R = R} o f xs i j d r l h =
     subst (λ x. R x (f (get_or xs j d)) ≡ Less) (get_or-map f xs i d (f d) (omega arith))
@@ -135,7 +141,8 @@ at_note : (n : NoteParts) (h : HoldingParts) → side n h ≡ 1 → is_of n h �
 at_note n h e = is_eq_index (note_cmp h.note n) ∙ eq-eqb (side n h) 1 e
 
 beside_note : (n : NoteParts) (h : HoldingParts) → side n h ≢ 1 → is_of n h ≡ false
-beside_note n h f = is_eq_index (note_cmp h.note n) ∙ false_from_ne_true (side n h == 1) (λ e. f (eqb-true (side n h) 1 e))
+beside_note n h f = is_eq_index (note_cmp h.note n)
+    ∙ false_from_ne_true (side n h == 1) (λ e. f (eqb-true (side n h) 1 e))
 
 module _ (n : NoteParts) (hs : List HoldingParts) (a b : ℕ) where
   pub run_order : a ≤ length hs → AllWithin (λ h. side n h < 1) hs 0 a → AllWithin (λ h. 2 ≤ side n h) hs b (length hs)
@@ -149,7 +156,8 @@ module _ (n : NoteParts) (hs : List HoldingParts) (a b : ℕ) where
   ]
 
   -- Those of a note stand from where it begins up to where it ends.
-  pub run_is : a ≤ b → b ≤ length hs → AllWithin (λ h. side n h < 1) hs 0 a → AllWithin (λ h. 1 ≤ side n h) hs a (length hs)
+  pub run_is : a ≤ b → b ≤ length hs → AllWithin (λ h. side n h < 1) hs 0 a
+      → AllWithin (λ h. 1 ≤ side n h) hs a (length hs)
       → AllWithin (λ h. side n h < 2) hs 0 b → AllWithin (λ h. 2 ≤ side n h) hs b (length hs)
       → drop a (take b hs) ≡ filter (is_of n) hs
   run_is order within below from up_to above =
@@ -179,7 +187,8 @@ two p (x ∷ y ∷ xs) (suc k) d l f g =
     ]
 
 -- The holding at a place is the only one of its note where neither neighbour is of it.
-module _ (hs : List HoldingParts) (at : ℕ) (d : HoldingParts) (r : IsRising holding_cmp hs) (here : at < length hs) where
+module _ (hs : List HoldingParts) (at : ℕ) (d : HoldingParts) (r : IsRising holding_cmp hs)
+    (here : at < length hs) where
   abbrev own : NoteParts
   own = (get_or hs at d).note
 
@@ -195,7 +204,8 @@ module _ (hs : List HoldingParts) (at : ℕ) (d : HoldingParts) (r : IsRising ho
       not_one _ (two (is_of own) hs (at - 1) d (omega arith) t
       (subst (λ k. is_of own (get_or hs k d) ≡ true) next own_is))
 
-  pub not_only_behind : suc at < length hs → is_of own (get_or hs (suc at) d) ≡ true → is_only hs (get_or hs at d) ≡ false
+  pub not_only_behind : suc at < length hs → is_of own (get_or hs (suc at) d) ≡ true
+      → is_only hs (get_or hs at d) ≡ false
   not_only_behind more t = not_one _ (two (is_of own) hs at d more own_is t)
 
   -- The side of a neighbour that isn't of it.
@@ -236,7 +246,8 @@ source_less g h e l =
     (subst (λ (m : NoteParts). note_cmp g.note m ≡ Equal) e (tied_itself note_total g.note)) l
 
 -- What elements are mapped to rises where it does for each two of them.
-pub rises_mapped : {X Y : Type 0} (R : X → X → Ordering) (S : Y → Y → Ordering) (f : X → Y) (xs : List X) → IsRising R xs
+pub rises_mapped : {X Y : Type 0} (R : X → X → Ordering) (S : Y → Y → Ordering) (f : X → Y) (xs : List X)
+    → IsRising R xs
     → ((x y : X) → In x xs → In y xs → R x y ≡ Less → S (f x) (f y) ≡ Less) → IsRising S (map f xs)
 rises_mapped R S f [] r less = tt
 rises_mapped R S f (x ∷ xs) r less = (

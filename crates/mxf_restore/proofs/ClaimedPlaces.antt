@@ -37,6 +37,7 @@ pub open_says : (opened : Bool) (y x : ℕ) → ((if opened then Some y else Non
 open_says true y x = (λ e. (refl, same_Some _ _ e), λ k. ap (λ (z : ℕ). Some z) k.1)
 open_says false y x = (λ e. absurd (cc (e)), λ k. let e = k.0 in absurd (cc (e)))
 
-pub closed_says : (opened : Bool) (y x : ℕ) → ((if opened then None else Some y) ≡ Some x) ↔ ((opened ≡ false) × (y ≡ x))
+pub closed_says : (opened : Bool) (y x : ℕ) → ((if opened then None else Some y) ≡ Some x)
+    ↔ ((opened ≡ false) × (y ≡ x))
 closed_says true y x = (λ e. absurd (cc (e)), λ k. let e = k.0 in absurd (cc (e)))
 closed_says false y x = (λ e. (refl, same_Some _ _ e), λ k. ap (λ (z : ℕ). Some z) k.1)

@@ -134,7 +134,8 @@ module _ (notes : List NoteParts) (content : IsContent notes) where
 
   found_says : (d : DisputedPlace) → find (λ e. e.place == d.place) all ≡ Some d → IsDisputedPlace notes d
   found_says d e =
-      let t = told_by (disputed_place_of notes) d.place (claims_of notes) d up_itself (claims_in_order notes content) e in
+      let t = told_by (disputed_place_of notes) d.place (claims_of notes) d up_itself
+      (claims_in_order notes content) e in
       let is = (claims_say notes content t.by).0 t.there in
       let told = (tells_says t.by d is).0 t.tells in
       record {

@@ -159,7 +159,8 @@ module _ (at : AtHandParts) (notes : List NoteParts) (p : Section) where
   front_law o content cover hand =
       let a = looked_for at notes p in (
         λ e.
-            let m = some_from (λ (r : OffsetRange). part_order at a (front_range r)) (slice_get (parts_of at p a) 0) o e in
+            let m = some_from (λ (r : OffsetRange). part_order at a (front_range r))
+            (slice_get (parts_of at p a) 0) o e in
             let l = first_is (parts_of at p a) m.0 m.1 in
             subst (IsFront at notes p) m.2 (front_says hand a m.0 l.0 cover ((looked content cover a).0 refl) l.1),
         λ f.

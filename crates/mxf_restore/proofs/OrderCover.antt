@@ -109,7 +109,8 @@ module _ (notes : List NoteParts) where
         )
         | inr free ↦ (
             let low = above_all content r x s.1 s.2 free in
-            elim (end_of_file notes) as (λ o. end_of_file notes ≡ o → x < unwrap_or o (max (top_of notes) (runs_end at.given))
+            elim (end_of_file notes) as (λ o. end_of_file notes ≡ o
+            → x < unwrap_or o (max (top_of notes) (runs_end at.given))
             → (h : OffsetRange) × IsHole notes h × LiesInRange h x) [
               | None ↦ λ e l. (record { start = held_end notes; end = None }, open_is notes e, (low, inl refl))
               | Some end ↦ λ e l. (let top = end_held end e in absurd (omega (arith, low, l, top)))
@@ -221,7 +222,8 @@ module _ (notes : List NoteParts) where
             | None ↦ λ h. refl
             | Some e ↦ λ h. elim h [
               | inl n ↦ absurd (cc (n))
-              | inr s ↦ let same = same_Some e s.0 s.1 in let less = s.2 in lt-ltb start e (omega (arith, l, same, less))
+              | inr s ↦ let same = same_Some e s.0 s.1 in let less = s.2 in
+                  lt-ltb start e (omega (arith, l, same, less))
             ]
           ] lies.1
 

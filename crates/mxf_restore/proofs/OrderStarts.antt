@@ -143,7 +143,8 @@ module _ (at : AtHandParts) (notes : List NoteParts) where
   ] refl k
 
   pub whole_start : (p : Section) (o : Order) → (s : IsPart p o) → s.whole.start ≡ start_of notes p.first
-  whole_start p o s = asked_start (claim_at notes (start_of notes p.first)) (start_of notes p.first) _ s.whole s.asked_is
+  whole_start p o s = asked_start (claim_at notes (start_of notes p.first))
+      (start_of notes p.first) _ s.whole s.asked_is
 
   -- Where a section begins: at a head whose key and length end at its first byte, or there.
   begins_at : (first : ℕ) → ((n : NoteParts) × In n notes × (n.offset ≡ start_of notes first) × (covered_end n ≡ first))
@@ -293,7 +294,8 @@ module _ (at : AtHandParts) (notes : List NoteParts) (content : IsContent notes)
       then Some edge else None)) ≡ Some e → p.first < e) [
         | Some d ↦ λ n l h. elim l [
           | inl f ↦ absurd (cc (f))
-          | inr f ↦ (let s = same_Some d f.0 f.1 in let t = same_Some d e h in let less = f.2 in omega (arith, s, t, less))
+          | inr f ↦ (let s = same_Some d f.0 f.1 in let t = same_Some d e h in let less = f.2 in
+              omega (arith, s, t, less))
         ]
         | None ↦ λ n l h.
             let most : edge ≡ max (top_of notes) (runs_end at.given) =

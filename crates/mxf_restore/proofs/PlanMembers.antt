@@ -52,15 +52,18 @@ module _ (at : AtHandParts) (notes : List NoteParts) where
 
 -- ---- disputed places
 
-first_members : (d : DisputedPlace) (ds : List DisputedPlace) → In d (first_by_place ds) ↔ (find (λ e. e.place == d.place) ds ≡ Some d)
+first_members : (d : DisputedPlace) (ds : List DisputedPlace) → In d (first_by_place ds)
+    ↔ (find (λ e. e.place == d.place) ds ≡ Some d)
 first_members d [] = (λ k. absurd k, λ e. absurd cc)
 first_members d (x ∷ ds) =
     let ih = first_members d ds in
     let f = In-filter (λ e. not (e.place == x.place)) (first_by_place ds) d in (
       λ k. elim k [
         | inl e ↦ (
-            let same : (x.place == d.place) ≡ true = eq-eqb x.place d.place (ap (λ (y : DisputedPlace). y.place) (sym e)) in
-            ap (λ b. cond b (Some x) (find (λ e. e.place == d.place) ds)) same ∙ ap (λ (y : DisputedPlace). Some y) (sym e))
+            let same : (x.place == d.place) ≡ true =
+            eq-eqb x.place d.place (ap (λ (y : DisputedPlace). y.place) (sym e)) in
+            ap (λ b. cond b (Some x) (find (λ e. e.place == d.place) ds)) same
+            ∙ ap (λ (y : DisputedPlace). Some y) (sym e))
         | inr j ↦ (
             let s = f.0 j in
             let other : (x.place == d.place) ≡ false = unlike x d s.1 in
@@ -100,4 +103,5 @@ disputed_place_members at notes d =
 pub disputed_places_rise : (at : AtHandParts) (notes : List NoteParts)
     → IsRising disputed_place_cmp (plan_of at notes).disputed_places
 unfolding plan_of
-disputed_places_rise at notes = IsRising-union disputed_place_total one_disputed_place [] (found_disputed_places notes) tt
+disputed_places_rise at notes =
+    IsRising-union disputed_place_total one_disputed_place [] (found_disputed_places notes) tt

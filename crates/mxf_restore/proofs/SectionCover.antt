@@ -158,7 +158,8 @@ one_hole notes h k x a b u v =
     let end = ends h.end k.end a.last b.last u.1 v.1 (λ e l m. a.none_held e (l, m)) (λ e l m. b.none_held e (l, m)) in
     λ i. record { start = start i; end = end i }
   where
-    not_below : (h k : OffsetRange) → IsHole notes h → IsHole notes k → LiesInRange h x → LiesInRange k x → h.start < k.start → ⊥
+    not_below : (h k : OffsetRange) → IsHole notes h → IsHole notes k → LiesInRange h x → LiesInRange k x
+        → h.start < k.start → ⊥
     not_below h k a b u v l =
         let m : k.start ≤ x = v.0 in
         let held = b.first (k.start - 1) (omega (arith, l)) in
@@ -250,7 +251,8 @@ module _ (notes : List NoteParts) (content : IsContent notes) where
   unfolding sections_of
   piece_in p = In-flat_map (sections_in (cuts_of notes)) (holes_of notes) p
 
-  lies_in_hole : (h : OffsetRange) (p : Section) (x : ℕ) → IsHole notes h → IsPieceOf h p → LiesInSection p x → LiesInRange h x
+  lies_in_hole : (h : OffsetRange) (p : Section) (x : ℕ) → IsHole notes h → IsPieceOf h p → LiesInSection p x
+      → LiesInRange h x
   lies_in_hole h p x is k l =
       let cuts = filter (is_inside h) (cuts_of notes) in
       let from = from_first h h.start cuts p (cuts_in h is) k in

@@ -103,7 +103,8 @@ module _ (l : List PacketParts) (well : IsWellFormed l) where
     where
       covered_below : (n : NoteParts) (x : ℕ) → n.whole ≡ true → x + 1 ≤ covered_end n → end_of n ≤ end → end ≤ x → ⊥
       covered_below n x whole before below from =
-          let same : covered_end n ≡ end_of n = ap (λ b. cond b (end_of n) (n.offset + 16 + n.width)) whole in omega (arith, before, below, from, same)
+          let same : covered_end n ≡ end_of n = ap (λ b. cond b (end_of n) (n.offset + 16 + n.width)) whole in
+          omega (arith, before, below, from, same)
 
   end_known : EndsInRandomIndex l → IsEndOfFile notes end
   end_known last =

@@ -63,7 +63,8 @@ same_placed text r s h k = grind (arith, at_range, same_tail)
 one_place : (text : List ℕ) (p q : ℕ × List ℕ) → ReadsPlace text (Ok p) → ReadsPlace text (Ok q) → p ≡ q
 one_place text (m, x) (n, y) (p, (a, u)) (q, (b, v)) = grind (arith, same_split text a b x y m n u v)
 
-place_or_fault : (text : List ℕ) (p : ℕ × List ℕ) (d : SourceWordFault) → ReadsPlace text (Ok p) → ReadsPlace text (Err d)
+place_or_fault : (text : List ℕ) (p : ℕ × List ℕ) (d : SourceWordFault) → ReadsPlace text (Ok p)
+    → ReadsPlace text (Err d)
     → ⊥
 place_or_fault text (m, x) NoScheme p q = q
 place_or_fault text (m, x) BadOffset (p, (a, u)) q = q a x m u
@@ -87,7 +88,8 @@ placed_or_fault text r p NoPath at u (inl q) = placed_cat text r [] at q
 placed_or_fault text r p NoPath at u (inr (s, f, v)) =
     place_or_fault r p NoPath u (subst (λ (t : List ℕ). ReadsPlace t (Err NoPath)) (same_placed text r s at f) v)
 
-one_or_fault : (text : List ℕ) (y : SourceParts) (d : SourceWordFault) → ReadsSource text (Ok y) → ReadsSource text (Err d)
+one_or_fault : (text : List ℕ) (y : SourceParts) (d : SourceWordFault) → ReadsSource text (Ok y)
+    → ReadsSource text (Err d)
     → ⊥
 one_or_fault text (Piece m x) d (r, e, u) q = placed_or_fault text r (m, x) d (inl e) u q
 one_or_fault text (Range m x) d (r, e, u) q = placed_or_fault text r (m, x) d (inr e) u q

@@ -25,7 +25,8 @@ AreAskedBy notes (Some asked) (Err fault) = AreAsked notes asked.index asked.uni
 abbrev pub AreToldOf : List NoteParts → VerificationParts → IndexedRange → VerifiedUnitsParts → Type 0
 AreToldOf notes v asked told =
     (last : ℕ) × (last + 1 ≡ asked.range.first + asked.range.count)
-    × AreVerifiedUnits v.verified v.altered (record { known = without_hand notes; index_sid = asked.index }) asked.range.first last
+    × AreVerifiedUnits v.verified v.altered
+    (record { known = without_hand notes; index_sid = asked.index }) asked.range.first last
     told
 
 -- What is told on a terminal: that no packet is the same, though bytes came; or that not all of the reference was

@@ -70,7 +70,8 @@ module _ {K : Type 0} (end : K → ℕ) where
 -- ---- around a number
 
 module _ {K : Type 0} (first end : K → ℕ) where
-  pub around : (xs : List K) (ends : List ℕ) (at begun ended : ℕ) (front above near : List K) → AreByFirst first end xs ends
+  pub around : (xs : List K) (ends : List ℕ) (at begun ended : ℕ) (front above near : List K)
+      → AreByFirst first end xs ends
       → begun ≤ length xs → ended ≤ length ends → AllWithin (λ x. at < first x) xs begun (length xs)
       → AllWithin (λ x. x < at) ends 0 ended → front ≡ take begun xs → above ≡ drop begun xs
       → near ≡ drop (min ended (length front)) front → IsAround first end at xs near above
@@ -83,7 +84,8 @@ module _ {K : Type 0} (first end : K → ℕ) where
     below = subst_front (all_take (λ x. end x < at) xs k (λ i d h j.
         let reach = own_end end 0 xs i 0 d j in
         let end_below : get_or ends i 0 < at = below i 0 (omega arith) (omega (arith, h)) in
-        let same : get_or ends i 0 ≡ get_or (greatest_ends end 0 xs) i 0 = ap (λ (es : List ℕ). get_or es i 0) is.ends_are in
+        let same : get_or ends i 0 ≡ get_or (greatest_ends end 0 xs) i 0 =
+        ap (λ (es : List ℕ). get_or es i 0) is.ends_are in
         omega (arith, reach, end_below, same)));
     behind = subst_above (all_drop (λ x. at < first x) xs begun behind);
     rising = subst_rising (rising_drop first xs begun is.rising);

@@ -289,7 +289,15 @@ least-in_order body_sid offset xs =
     let b = In-filter_map (offset_in body_sid) xs y in (
       λ h.
           let s = a.0 h in
-          b.1 (s.0, elim ((In-union place_total place_cmp-IsAntisymmetric s.0 [] xs).0 s.1) [ inl k ↦ absurd k | inr k ↦ k ], s.2),
+          b.1 (
+            s.0,
+            elim ((In-union place_total place_cmp-IsAntisymmetric s.0 [] xs).0 s.1) [
+              | inl k ↦
+                  absurd k
+              | inr k ↦ k
+            ],
+            s.2,
+          ),
       λ h. let s = b.0 h in a.1 (s.0, (In-union place_total place_cmp-IsAntisymmetric s.0 [] xs).1 (inr s.1), s.2),
     ))
 
@@ -314,7 +322,11 @@ next-parts body_sid offset listed sized =
 pub small-in_order : (xs : List StreamPlace) → AllByRecursion IsSmall xs → AllByRecursion IsSmall (in_order xs)
 small-in_order xs a =
     all_from_In IsSmall (in_order xs) (λ p h.
-    all-In IsSmall xs p a (elim ((In-union place_total place_cmp-IsAntisymmetric p [] xs).0 h) [ inl k ↦ absurd k | inr k ↦ k ]))
+    all-In IsSmall xs p a (elim ((In-union place_total place_cmp-IsAntisymmetric p [] xs).0 h) [
+      | inl k ↦
+          absurd k
+      | inr k ↦ k
+    ]))
 
 pub small-least : (body_sid offset : ℕ) (xs : List StreamPlace) (n : ℕ) → AllByRecursion IsSmall xs
     → least_above offset (offsets_in body_sid xs) ≡ Some n → n < 2 ^ 96

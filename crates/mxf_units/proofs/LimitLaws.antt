@@ -386,7 +386,8 @@ sure-says notes p (Some x) =
 
 -- ---- where the essence lies
 
-pub zone-by : (notes : List NoteParts) (p : PartitionParts) (n : NoteParts) → IsEssenceZone notes p n (zone_by notes p n)
+pub zone-by : (notes : List NoteParts) (p : PartitionParts) (n : NoteParts)
+    → IsEssenceZone notes p n (zone_by notes p n)
 zone-by notes p n =
     let clip = clip-says notes p n in
     let limit = limit_of notes p in

@@ -75,7 +75,8 @@ abbrev Reached : List SegmentAtParts → ℕ → ℕ → ℕ → Type 0
 Reached segments body_sid low x =
     (q : StreamPlace) × In q (places_above low segments) × (q.body_sid ≡ body_sid) × (low < q.offset) × (q.offset ≤ x)
 
-in_place : (s : SegmentAtParts) (unit x : ℕ) → stream_offset s.segment unit ≡ Some x → place_in unit s ≡ Some (in_stream s x)
+in_place : (s : SegmentAtParts) (unit x : ℕ) → stream_offset s.segment unit ≡ Some x
+    → place_in unit s ≡ Some (in_stream s x)
 in_place s unit x e = ap (λ (o : Option ℕ). option_map (in_stream s) o) e
 
 pub guarded_true : (b : Bool) (x y : ℕ) → (if b then Some x else None) ≡ Some y → (b ≡ true) × (x ≡ y)
@@ -94,13 +95,15 @@ listed-reached segments low s unit x h constant e above =
     let f = ap (λ b. if b then by_size
     else (if covers_entry s.segment unit then Some (entry_offset s.segment place) else None)) (sym constant) ∙ e in
     let g = guarded_true (covers_entry s.segment unit) (entry_offset s.segment place) x f in
-    let p = and_parts (nat_le start unit && nat_lt unit (start + duration)) (nat_lt place (entry_count s.segment)) g.0 in
+    let p = and_parts (nat_le start unit && nat_lt unit (start + duration))
+    (nat_lt place (entry_count s.segment)) g.0 in
     let q = and_parts (nat_le start unit) (nat_lt unit (start + duration)) p.0 in
     let from = leb-true start unit q.0 in
     let count = ltb-true place (entry_count s.segment) p.1 in
     let units = range_with_len start (entry_count s.segment) in
     let inside = In-range start (entry_count s.segment) unit from (omega (arith, from, count)) in
-    let listed = (In-filter_map (λ unit. place_in unit s) units (in_stream s x)).1 (unit, inside, in_place s unit x e) in (
+    let listed = (In-filter_map (λ unit. place_in unit s) units (in_stream s x)).1
+    (unit, inside, in_place s unit x e) in (
       in_stream s x,
       (In-append (in_stream s x) (flat_map listed_in segments) (filter_map (sized_above low) segments)).1
           (inl ((In-flat_map listed_in segments (in_stream s x)).1 (s, h, listed))),

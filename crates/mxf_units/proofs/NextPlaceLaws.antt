@@ -185,7 +185,8 @@ module _ (body offset : ℕ) (low : offset < 2 ^ 96) where
       → AllByRecursion (λ c. end_number c < number_of body offset) cs → Offsets cs ≡ []
   ended_none cs sized ended = none (Offsets cs) (λ x h.
       let s = offset-of cs x h in
-      ended_no s.0 (all-In AreSized cs s.0 sized s.1) (all-In (λ c. end_number c < number_of body offset) cs s.0 ended s.1)
+      ended_no s.0 (all-In AreSized cs s.0 sized s.1)
+      (all-In (λ c. end_number c < number_of body offset) cs s.0 ended s.1)
       s.2 s.3)
     where
       none : (xs : List ℕ) → ((x : ℕ) → In x xs → ⊥) → xs ≡ []
@@ -203,7 +204,8 @@ module _ (body offset : ℕ) (low : offset < 2 ^ 96) where
       all-In AreSized all c sized (subst (In c) (sym around.parts) ((In-append c ended (near ++ above)).1 (inl h)))) in
       sym (least-append offset (Offsets near) (Offsets above))
       ∙ ap (least_above offset) (sym (split near above))
-      ∙ ap (λ (xs : List ℕ). least_above offset (xs ++ Offsets (near ++ above))) (sym (ended_none ended ended_sized around.below))
+      ∙ ap (λ (xs : List ℕ). least_above offset (xs ++ Offsets (near ++ above)))
+      (sym (ended_none ended ended_sized around.below))
       ∙ ap (least_above offset) (sym (split ended (near ++ above)))
       ∙ ap (λ cs. least_above offset (Offsets cs)) (sym around.parts)
     where
@@ -223,7 +225,8 @@ module _ (body offset : ℕ) (low : offset < 2 ^ 96) where
       → IsLeast offset (Offsets cs) (first_of cs)
   first-least [] sized behind rising = λ x h. absurd h
   first-least (c ∷ cs) sized behind rising =
-      elim (c.body_sid == body) as (λ b. (c.body_sid == body) ≡ b → IsLeast offset (Offsets (c ∷ cs)) (first_of (c ∷ cs))) [
+      elim (c.body_sid == body) as (λ b. (c.body_sid == body) ≡ b
+      → IsLeast offset (Offsets (c ∷ cs)) (first_of (c ∷ cs))) [
         | true ↦ λ e.
             let same = eqb-true c.body_sid body e in
             let small = sized.0.small in
@@ -233,7 +236,8 @@ module _ (body offset : ℕ) (low : offset < 2 ^ 96) where
             let own : unit_of c ≡ c.start = omega (arith, from) in
             let is : first_of (c ∷ cs) ≡ Some (c.unit_bytes * c.start) = own_first c own e above in
             subst (IsLeast offset (Offsets (c ∷ cs))) (sym is) (
-              subst (λ (o : Option StreamPlace). In (c.unit_bytes * c.start) (offsets_in body (cons_option o (filter_map (place_above offset) cs))))
+              subst (λ (o : Option StreamPlace). In (c.unit_bytes * c.start)
+                  (offsets_in body (cons_option o (filter_map (place_above offset) cs))))
                   (sym (own_place c own)) (subst (λ b. In (c.unit_bytes * c.start)
                   (cons_option (if b then Some (c.unit_bytes * c.start) else None) (Offsets cs))) (sym e) (inl refl)),
               above,
@@ -283,10 +287,12 @@ module _ (body offset : ℕ) (low : offset < 2 ^ 96) where
       own_place : (c : ConstantUnits) → unit_of c ≡ c.start
           → place_above offset c ≡ Some (record { body_sid = c.body_sid; offset = c.unit_bytes * c.start })
       own_place c own =
-          ap (λ b. if b then Some (record { body_sid = c.body_sid; offset = c.unit_bytes * unit_of c }) else None) (goes c own)
+          ap (λ b. if b then Some (record { body_sid = c.body_sid; offset = c.unit_bytes * unit_of c }) else None)
+          (goes c own)
           ∙ ap (λ u. Some (record { body_sid = c.body_sid; offset = c.unit_bytes * u })) own
 
-      own_first : (c : ConstantUnits) → unit_of c ≡ c.start → (c.body_sid == body) ≡ true → offset < c.unit_bytes * c.start
+      own_first : (c : ConstantUnits) → unit_of c ≡ c.start → (c.body_sid == body) ≡ true
+          → offset < c.unit_bytes * c.start
           → option_and_then (offset_above body offset) (place_above offset c) ≡ Some (c.unit_bytes * c.start)
       own_first c own e above =
           ap (option_and_then (offset_above body offset)) (own_place c own)
@@ -308,7 +314,8 @@ module _ (body offset : ℕ) (low : offset < 2 ^ 96) where
           either false o e = refl
 
   pub first-found : (cs : List ConstantUnits)
-      → option_and_then (λ c. option_and_then (offset_above body offset) (place_above offset c)) (slice_get cs 0) ≡ first_of cs
+      → option_and_then (λ c. option_and_then (offset_above body offset) (place_above offset c)) (slice_get cs 0)
+      ≡ first_of cs
   first-found [] = refl
   first-found (c ∷ cs) = refl
 

@@ -124,7 +124,8 @@ later body_sid offset q p e t =
           ]
     ])
 
-pub parted : (body_sid offset : ℕ) (xs : List StreamPart) → IsFalling xs → IsPartitionedBy (is_behind body_sid offset) xs
+pub parted : (body_sid offset : ℕ) (xs : List StreamPart) → IsFalling xs
+    → IsPartitionedBy (is_behind body_sid offset) xs
 parted body_sid offset [] r i j d l h e = absurd (omega arith)
 parted body_sid offset (x ∷ xs) r zero zero d l h e = e
 parted body_sid offset (x ∷ xs) r zero (suc j) d l h e =
@@ -141,7 +142,8 @@ abbrev HeadUpTo : ℕ → ℕ → List StreamPart → Type 0
 HeadUpTo body_sid offset [] = Unit {0}
 HeadUpTo body_sid offset (p ∷ parts) = UpTo body_sid offset p
 
-not_up_to : (body_sid offset : ℕ) (p : StreamPart) → Behind body_sid offset p → begins_up_to body_sid offset p ≡ true → ⊥
+not_up_to : (body_sid offset : ℕ) (p : StreamPart) → Behind body_sid offset p → begins_up_to body_sid offset p ≡ true
+    → ⊥
 not_up_to body_sid offset p b e =
     let s = and_parts (p.body_sid == body_sid) (nat_le p.body_offset offset) e in
     let same = eqb-true p.body_sid body_sid s.0 in
@@ -206,7 +208,8 @@ second body_sid offset p (q ∷ parts) f same l =
       | inl m ↦
           let none_left = none body_sid offset q parts f.1 (omega (arith, m, same)) in
           let other : (p.body_sid == q.body_sid) ≡ false =
-          false_from_ne_true (p.body_sid == q.body_sid) (λ e. let t = eqb-true p.body_sid q.body_sid e in omega (arith, m, t)) in
+          false_from_ne_true (p.body_sid == q.body_sid)
+          (λ e. let t = eqb-true p.body_sid q.body_sid e in omega (arith, m, t)) in
           ap (λ b. if (b && (p.body_offset == q.body_offset))
           then (if is_some q.zone then Err standings.Several else ok_or p.zone standings.Several)
           else ok_or p.zone standings.Unknown) other

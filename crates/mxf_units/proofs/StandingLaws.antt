@@ -74,4 +74,5 @@ pub standings_by_cause : (known : KnownParts) (index_sid unit : ℕ)
     → IsStanding known index_sid unit (unit_of known index_sid unit).standing
 unfolding unit_of location_of
 standings_by_cause known index_sid unit =
-    by_place known index_sid unit (place_of (segments_for known.notes index_sid) unit) (placing known.notes index_sid unit)
+    by_place known index_sid unit (place_of (segments_for known.notes index_sid) unit)
+    (placing known.notes index_sid unit)

@@ -1,4 +1,5 @@
--- The place and the entry that all of some are: whichever way these stand, and by those segments alone that may have them.
+-- The place and the entry that all of some are: whichever way these stand, and by those segments alone that may have
+-- them.
 use Rattle.mxf_views.proofs.Common.{◌≡◌, ◌≢◌, ◌∙◌, ◌⊎◌, ◌==◌, ◌&&◌, ◌||◌, ◌<◌, ◌≤◌, ◌+◌, ◌-◌, ◌^◌, ℕ, Bool, true, false}
 use Rattle.mxf_views.proofs.Common.{not, List, [], ◌∷◌, Option, None, Some, Result, Ok, Err, refl, sym, ap, inl, inr}
 use Rattle.mxf_views.proofs.Common.{arith, eq-eqb, eqb-true, ◌*◌, filter_map, if◌then◌else◌, nat_le, nat_lt, option_map}
@@ -48,7 +49,8 @@ module _ {K R : Type 0} (none : R) (one : K → R) (two : R) where
   one_answer xs q r (inr (inr s)) (inr (inr t)) = s.5 ∙ sym t.5
 
   -- What repeats the one before says nothing new.
-  repeated : (x y : K) (xs : List K) (r : R) → x ≡ y → Walked none one two (y ∷ xs) r → Walked none one two (x ∷ y ∷ xs) r
+  repeated : (x y : K) (xs : List K) (r : R) → x ≡ y → Walked none one two (y ∷ xs) r
+      → Walked none one two (x ∷ y ∷ xs) r
   repeated x y xs r e w =
       other_members (y ∷ xs) (x ∷ y ∷ xs) r (λ z. (inr, λ h. elim h [ inl f ↦ inl (f ∙ e) | inr k ↦ k ])) w
 
@@ -145,8 +147,10 @@ module _ (unit : ℕ) (fits : unit < 2 ^ 64) (s : SegmentAtParts)
       elim (is_constant s.segment.numbers) as (λ b. is_constant s.segment.numbers ≡ b → option_map (in_stream s)
       (if b then (if covers_constant s.segment unit then Some (s.segment.numbers.unit_bytes * unit) else None)
       else (if covers_entry s.segment unit then Some (entry_offset s.segment (unit - start)) else None)) ≡ None) [
-        | true ↦ λ e. ap (λ b. option_map (in_stream s) (if b then Some (s.segment.numbers.unit_bytes * unit) else None)) (no_constant e)
-        | false ↦ λ e. ap (λ b. option_map (in_stream s) (if b then Some (entry_offset s.segment (unit - start)) else None)) (no_entry e)
+        | true ↦ λ e. ap (λ b. option_map (in_stream s)
+            (if b then Some (s.segment.numbers.unit_bytes * unit) else None)) (no_constant e)
+        | false ↦ λ e. ap (λ b. option_map (in_stream s)
+            (if b then Some (entry_offset s.segment (unit - start)) else None)) (no_entry e)
       ] refl
 
   pub outside-entry : index_entry s.segment unit ≡ None

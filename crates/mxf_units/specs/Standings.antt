@@ -105,7 +105,8 @@ IsStandingAt known index_sid unit body_sid offset standing =
 
 -- How a unit stands: no segment gives it a place, or two give different ones, or all that give one give this one.
 abbrev pub IsStanding : KnownParts → ℕ → ℕ → UnitStanding → Type 0
-IsStanding known index_sid unit standings.NotIndexed = (p : StreamPlace) → ¬ IsGiven (segments_of known.notes) index_sid unit p
+IsStanding known index_sid unit standings.NotIndexed =
+    (p : StreamPlace) → ¬ IsGiven (segments_of known.notes) index_sid unit p
 IsStanding known index_sid unit standings.Ambiguous =
     (p : StreamPlace) × (q : StreamPlace) × IsGiven (segments_of known.notes) index_sid unit p
     × IsGiven (segments_of known.notes) index_sid unit q × (p ≢ q)

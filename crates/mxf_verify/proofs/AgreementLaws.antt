@@ -10,7 +10,8 @@ use Rattle.mxf_verify.proofs.ByteLaws.{agrees_append, drop_of_append}
 -- key and length are as many bytes as the note says
 pub front_length : (n : NoteParts) → IsNote n → length (front_bytes n) ≡ front_size n
 front_length n is =
-    let spelled = spelled_len (length_bytes n.width n.length) n.width n.length (length_bytes-spelled n.width n.length is.width) in
+    let spelled = spelled_len (length_bytes n.width n.length) n.width n.length
+    (length_bytes-spelled n.width n.length is.width) in
     omega (arith, length-append n.key (length_bytes n.width n.length), is.label.0)
 
 regrouped : (a b k c d : Bool) → ((a && b) && (k || (c && d))) ≡ ((a && (k || c)) && (b && (k || d)))

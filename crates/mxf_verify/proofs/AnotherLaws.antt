@@ -107,7 +107,8 @@ length-step false n xs = omega arith
 
 -- one note more
 pub dropped-step : (n : NoteParts) (rest new : List NoteParts)
-    → length (dropped_essence (n ∷ rest) new) ≡ length (dropped_essence (n ∷ []) new) + length (dropped_essence rest new)
+    → length (dropped_essence (n ∷ rest) new)
+    ≡ length (dropped_essence (n ∷ []) new) + length (dropped_essence rest new)
 dropped-step n rest new = grind (arith, length-step)
 
 pub had-step : (n : NoteParts) (rest new : List NoteParts)

@@ -42,7 +42,8 @@ and_true true = refl
 and_true false = refl
 
 -- a candidate of which no byte came stays as it is
-pub compared_none : (at : ℕ) (bytes : List ℕ) (c : Candidate) → part_of c.note.now at bytes ≡ [] → compared at bytes c ≡ c
+pub compared_none : (at : ℕ) (bytes : List ℕ) (c : Candidate) → part_of c.note.now at bytes ≡ []
+    → compared at bytes c ≡ c
 unfolding compared
 compared_none at bytes c e = grind (arith, agrees_on_none, and_true)
 
@@ -132,7 +133,8 @@ settled_said settled at cs i is_same d h s =
     }
 
 -- comparing, and saying something else, leaves the notes
-pub notes_compared : (at : ℕ) (bytes : List ℕ) (cs : List Candidate) → notes_of (map (compared at bytes) cs) ≡ notes_of cs
+pub notes_compared : (at : ℕ) (bytes : List ℕ) (cs : List Candidate)
+    → notes_of (map (compared at bytes) cs) ≡ notes_of cs
 unfolding compared
 notes_compared at bytes [] = refl
 notes_compared at bytes (c ∷ cs) = ap (λ l. c.note ∷ l) (notes_compared at bytes cs)

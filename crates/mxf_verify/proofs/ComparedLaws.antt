@@ -62,8 +62,10 @@ agreeing_same offset bytes r is left among =
 -- of what was read to its end each candidate says whether its bytes are what its note says
 pub told_are_same : (offset : ℕ) (bytes : List ℕ) (digested : ℕ) (notes : List (Bor NoteParts))
     → AllWithin (λ r. IsNote r.now) notes 0 (length notes)
-    → AllWithin (λ r. IsTrue (is_digested r.now) → offset + length bytes < covered_end r.now) notes digested (length notes)
-    → AreSame offset bytes (map (told offset bytes) (take digested notes) ++ map (agreeing offset bytes) (drop digested notes))
+    → AllWithin (λ r. IsTrue (is_digested r.now) → offset + length bytes < covered_end r.now) notes digested
+    (length notes)
+    → AreSame offset bytes (map (told offset bytes) (take digested notes)
+    ++ map (agreeing offset bytes) (drop digested notes))
 unfolding told agreeing
 told_are_same offset bytes zero [] are left k d l h among = absurd (omega arith)
 told_are_same offset bytes (suc digested) [] are left k d l h among = absurd (omega arith)
@@ -80,7 +82,8 @@ told_are_same offset bytes (suc digested) (r ∷ notes) are left (suc k) d l h a
 
 -- the notes are those that it began with
 notes_told : (offset : ℕ) (bytes : List ℕ) (digested : ℕ) (notes : List (Bor NoteParts))
-    → notes_of (map (told offset bytes) (take digested notes) ++ map (agreeing offset bytes) (drop digested notes)) ≡ notes
+    → notes_of (map (told offset bytes) (take digested notes) ++ map (agreeing offset bytes) (drop digested notes))
+    ≡ notes
 unfolding told agreeing
 notes_told offset bytes zero [] = refl
 notes_told offset bytes (suc digested) [] = refl
@@ -106,7 +109,8 @@ notes_within P (c ∷ cs) a (suc k) d l h =
     notes_within P cs (λ j x m q. a (suc j) x (omega arith) (omega arith)) k d (omega arith) (omega arith)
 
 -- nothing came yet
-pub none_taken : (offset : ℕ) (c : Comparison) → AllWithin (λ x. x.is_same ≡ true) c.candidates.items 0 (length c.candidates.items)
+pub none_taken : (offset : ℕ) (c : Comparison)
+    → AllWithin (λ x. x.is_same ≡ true) c.candidates.items 0 (length c.candidates.items)
     → AllWithin (λ x. offset ≤ offset_of x) c.candidates.items 0 (length c.candidates.items) → c.at ≡ offset
     → HasTaken offset [] 0 (notes_of c.candidates.items) c
 none_taken offset c fresh behind at = record {
@@ -163,7 +167,8 @@ pub compares_bytes : (all : List Candidate) (offset limit first last : ℕ) (bef
     → c.first ≡ first → c.candidates.items ≡ new.comparison.candidates.items → c.end ≡ new.comparison.at
     → IfSome before (λ bytes. ComparesBytes all offset (offset + limit) (take limit bytes) c)
 compares_bytes all offset limit first last None after old new c fresh are lower upper behind l m items at r place same end = tt
-compares_bytes all offset limit first last (Some bytes) after old new c fresh are lower upper behind l m items at r place same end =
+compares_bytes all offset limit first last
+    (Some bytes) after old new c fresh are lower upper behind l m items at r place same end =
     let part = take (last - first) (drop first all) in
     let is_fresh = subst (λ cs. AllWithin (λ x. x.is_same ≡ true) cs 0 (length cs)) (sym items)
     (slice_within (λ x. x.is_same ≡ true) all first (last - first) (λ k d l h. fresh k d (omega arith) h)) in
@@ -174,13 +179,16 @@ compares_bytes all offset limit first last (Some bytes) after old new c fresh ar
     let notes = notes_of old.comparison.candidates.items in
     let (digested, read) = r.taken offset [] notes (none_taken offset old.comparison is_fresh is_ahead at) in
     let within : length r.more ≤ limit = omega (arith, r.within, r.at, at) in
-    let ended : (length r.more ≡ limit) ⊎ IsAtEnd after = elim r.ended as (λ _. (length r.more ≡ limit) ⊎ IsAtEnd after) [
+    let ended : (length r.more ≡ limit) ⊎ IsAtEnd after =
+    elim r.ended as (λ _. (length r.more ≡ limit) ⊎ IsAtEnd after) [
       | inl e ↦ inl (omega (arith, e, r.at, at))
       | inr e ↦ inr e
     ] in
     let came = front_came (Some bytes) after r.more limit r.consumed within ended in
-    let named : notes_of c.candidates.items ≡ notes = ap notes_of same ∙ notes_read offset r.more digested notes new.comparison read in
-    let size : length part ≡ last - first = omega (arith, length-take (last - first) (drop first all), length-drop first all) in
+    let named : notes_of c.candidates.items ≡ notes =
+    ap notes_of same ∙ notes_read offset r.more digested notes new.comparison read in
+    let size : length part ≡ last - first =
+    omega (arith, length-take (last - first) (drop first all), length-drop first all) in
     let count : length c.candidates.items ≡ last - first =
     sym (length-map c.candidates.items (λ (x : Candidate). x.note)) ∙ ap length named
     ∙ length-map old.comparison.candidates.items (λ (x : Candidate). x.note) ∙ ap length items ∙ size in record {
@@ -191,7 +199,8 @@ compares_bytes all offset limit first last (Some bytes) after old new c fresh ar
       before = subst (λ k. AllWithin (λ x. offset_of x < offset) all 0 k) (sym place) lower;
       from = subst (λ k. AllWithin (λ x. offset ≤ offset_of x) all k (length all)) (sym place) upper;
       behind = λ k d p q. behind k d (omega (arith, place, count, p)) q;
-      same = subst (AreSame offset (take limit bytes)) (sym same) (subst (λ b. AreSame offset b new.comparison.candidates.items) came
+      same = subst (AreSame offset (take limit bytes)) (sym same)
+          (subst (λ b. AreSame offset b new.comparison.candidates.items) came
           (read_are_same offset r.more digested notes new.comparison
           (notes_within (λ x. IsNote x.now) old.comparison.candidates.items are_notes) read));
       at = end ∙ r.at ∙ ap (λ k. k + length r.more) at ∙ ap (λ b. offset + length b) came;

@@ -64,7 +64,8 @@ one_range (Bytes offset bytes) sources r n i (inr z) f t = absurd z
 one_range (Saved notes) sources r n i m f t = absurd m
 
 -- one of the ranges has all bytes of a note where some source of bytes has
-pub among_says : (sources : List Source) (n : NoteParts) → IsWithinOne (flat_map range_in sources) n ↔ IsAmongSome sources n
+pub among_says : (sources : List Source) (n : NoteParts) → IsWithinOne (flat_map range_in sources) n
+    ↔ IsAmongSome sources n
 among_says sources n = (
   λ h.
       let s = (In-flat_map range_in sources h.0).0 h.1 in
@@ -139,7 +140,9 @@ module _ (reference : List NoteParts) (sources : List Source) (seen : Seen) (is 
   pub damaged_members : (n : NoteParts) → In n (map (λ (d : Differing). d.note.now) seen.differing.items)
       ↔ (In n reference × IsDiffering reference sources n)
   damaged_members n =
-      subst (λ l. In n l ↔ (In n reference × IsDiffering reference sources n)) (map-map (λ (p : DifferingParts). p.note) (λ (d : Differing). differing_in d.source d.note.now) seen.differing.items)
+      subst (λ l. In n l ↔ (In n reference × IsDiffering reference sources n))
+      (map-map (λ (p : DifferingParts). p.note)
+      (λ (d : Differing). differing_in d.source d.note.now) seen.differing.items)
       (damaged_says reference 1 sources _ n is.differing)
 
   came_from : (s : Source) (at : ℕ) → In s sources → IsByteOf s at → ¬ IsHeldBy reference at
@@ -158,7 +161,10 @@ module _ (reference : List NoteParts) (sources : List Source) (seen : Seen) (is 
           ((Bytes r.0 r.1, r.2, (r.3, r.4)), h.1)
       | inr k ↦ let b = (is.beside at).0 k in ((Saved b.0.0, b.0.1, b.0.2), h.1)
     ],
-    λ h. ((some_both (λ r. IsWithin r at) seen.ranges.items seen.beside.items).1 (came_from h.0.0 at h.0.1 h.0.2 h.1), h.1),
+    λ h. (
+      (some_both (λ r. IsWithin r at) seen.ranges.items seen.beside.items).1 (came_from h.0.0 at h.0.1 h.0.2 h.1),
+      h.1,
+    ),
   )
 
   module _ (u : Uncompared)
@@ -216,7 +222,8 @@ added_once old added all new e o n =
     )
 
 -- what differs, put in order
-pub damaged_once : (none lent set ordered : List NoteParts) (ds : List Differing) (rs : List (Bor NoteParts)) → none ≡ []
+pub damaged_once : (none lent set ordered : List NoteParts) (ds : List Differing) (rs : List (Bor NoteParts))
+    → none ≡ []
     → rs ≡ map (λ (d : Differing). d.note) ds → lent ≡ notes_at rs
     → ((n : NoteParts) → In n set ↔ (In n none ⊎ In n lent)) → ordered ≡ union_of [] set → (n : NoteParts)
     → In n ordered ↔ In n (map (λ (d : Differing). d.note.now) ds)
@@ -244,12 +251,14 @@ bytes_more members i d n old new start end h is from to put were at =
         | inl r ↦ inr ((were at).1 r)
         | inr r ↦
             let f : n.offset ≤ at = r.from in
-            let t : at + 1 ≤ covered_end n = r.before in inl (record { from = omega (arith, from); before = omega (arith, to) })
+            let t : at + 1 ≤ covered_end n = r.before in
+            inl (record { from = omega (arith, from); before = omega (arith, to) })
       ])),
     )
 
 -- what is left of some offsets without others, and without further ones
-pub left_of_both : (all some others left rest : List Run) → ((at : ℕ) → LiesIn left at ↔ (LiesIn all at × ¬ LiesIn some at))
+pub left_of_both : (all some others left rest : List Run)
+    → ((at : ℕ) → LiesIn left at ↔ (LiesIn all at × ¬ LiesIn some at))
     → ((at : ℕ) → LiesIn rest at ↔ (LiesIn left at × ¬ LiesIn others at)) → (at : ℕ)
     → LiesIn rest at ↔ (LiesIn all at × ¬ LiesIn some at × ¬ LiesIn others at)
 left_of_both all some others left rest first second at = (
@@ -258,7 +267,8 @@ left_of_both all some others left rest first second at = (
 )
 
 -- the bytes of notes that are the same, that differ, and what is left
-pub bytes_are : (reference verified damaged : List NoteParts) (sources same altered left spans came unknown others : List Run)
+pub bytes_are : (reference verified damaged : List NoteParts)
+    (sources same altered left spans came unknown others : List Run)
     → ((at : ℕ) → LiesIn same at ↔ IsHeldBy verified at) → ((at : ℕ) → LiesIn altered at ↔ IsHeldBy damaged at)
     → ((at : ℕ) → LiesIn left at ↔ (LiesIn spans at × ¬ LiesIn same at × ¬ LiesIn altered at)) → Covers spans reference
     → SameOffsets came sources → Covers others reference
@@ -303,7 +313,8 @@ within_says ranges n =
 -- the note wasn't compared
 abbrev pub is_left_out : Uncompared → NoteParts → Bool
 is_left_out u n =
-    not (is_held n u.verified || is_held n u.damaged || is_within_one u.reach n) && (is_met u.read n || is_held n u.headed)
+    not (is_held n u.verified || is_held n u.damaged || is_within_one u.reach n)
+    && (is_met u.read n || is_held n u.headed)
 
 left_out-by_test : (u : Uncompared) (n : NoteParts) → IsTrue (is_left_out u n) ↔ IsLeftOut u n
 left_out-by_test u n =
@@ -342,7 +353,8 @@ those_left_out reference u xs rising e =
 -- ---- all of it
 
 -- what is told of a reference beside sources, by what was seen of these
-pub verification_of : (reference : List NoteParts) (sources : List Source) (seen : Seen) (is : IsSeen reference sources seen)
+pub verification_of : (reference : List NoteParts) (sources : List Source) (seen : Seen)
+    (is : IsSeen reference sources seen)
     (u : Uncompared) (b : ToldBytes) (cut : List NoteParts) (v : VerificationParts)
     → IsToldBy reference u b (parts_of seen.differing.items) cut seen.came v
     → u.verified ≡ union_of [] seen.verified → IsContent u.damaged
@@ -385,13 +397,15 @@ verification_of reference sources seen is u b cut v told verified rises damaged 
           (runs_alike _ (IsUnverifiedByte reference sources) b.unverified bytes.unverified_are
           (unverified_says verified_those damaged_those));
       unknown = subst (AreRunsOf (IsUnknownByte reference sources)) (sym told.unknown)
-          (runs_alike _ (IsUnknownByte reference sources) b.unknown bytes.unknown_are (unknown_says reference sources seen is));
+          (runs_alike _ (IsUnknownByte reference sources) b.unknown bytes.unknown_are
+          (unknown_says reference sources seen is));
       came = (λ h. is.came.0 (sym told.came_is ∙ h), λ h. told.came_is ∙ is.came.1 h);
     }
   where
     unverified_says : AreThose reference (IsVerified reference sources) u.verified
         → AreThose reference (IsDiffering reference sources) u.damaged → (at : ℕ)
-        → (IsHeldBy reference at × ¬ IsHeldBy u.verified at × ¬ IsHeldBy u.damaged at) ↔ IsUnverifiedByte reference sources at
+        → (IsHeldBy reference at × ¬ IsHeldBy u.verified at × ¬ IsHeldBy u.damaged at)
+        ↔ IsUnverifiedByte reference sources at
     unverified_says v_those d_those at =
         let v_held = held_alike reference u.verified (IsVerified reference sources) v_those.members at in
         let d_held = held_alike reference u.damaged (IsDiffering reference sources) d_those.members at in (
@@ -400,7 +414,8 @@ verification_of reference sources seen is u b cut v told verified rises damaged 
         )
 
 -- the same of the same notes and runs
-pub bytes_same : (reference a b c d : List NoteParts) (x y z w : List Run) (t : ToldBytes) → a ≡ b → c ≡ d → x ≡ z → y ≡ w
+pub bytes_same : (reference a b c d : List NoteParts) (x y z w : List Run) (t : ToldBytes) → a ≡ b → c ≡ d → x ≡ z
+    → y ≡ w
     → AreBytes reference a c (x ++ y) t → AreBytes reference b d (z ++ w) t
 bytes_same reference a b c d x y z w t p q r s h =
     subst (λ l. AreBytes reference b d (z ++ l) t) s (subst (λ l. AreBytes reference b d (l ++ y) t) r

@@ -17,7 +17,8 @@ same_part at d k a b apart (inl ahead) =
     let front = λ (l : List ℕ). sym (drop-take d k l) ∙ ap (drop d) (sym (take-take (d + k) at l ahead)) in
     front a ∙ ap (λ (l : List ℕ). drop d (take (d + k) l)) apart.ahead ∙ sym (front b)
 same_part at d k a b apart (inr behind) =
-    let back = λ (l : List ℕ). ap (λ (i : ℕ). drop i l) (let e : d ≡ at + 1 + (d - (at + 1)) = omega (arith, behind) in e)
+    let back = λ (l : List ℕ). ap (λ (i : ℕ). drop i l)
+    (let e : d ≡ at + 1 + (d - (at + 1)) = omega (arith, behind) in e)
     ∙ sym (drop-drop (d - (at + 1)) (at + 1) l) in
     ap (take k) (back a ∙ ap (drop (d - (at + 1))) apart.behind ∙ sym (back b))
 
@@ -63,19 +64,26 @@ said_once n a b s t p q =
     → (a ≡ b) ⊎ (IsTrue (is_digested n) × (sha256 (drop (front_size n) a) ≡ sha256 (drop (front_size n) b)))) [
       | false ↦ λ e.
           let size : held_size n ≡ front_size n = ap (λ w. cond w (front_size n + n.length) (front_size n)) e in
-          let all = λ (l : List ℕ) (f : length l ≡ held_size n). sym (take_all (front_size n) l (omega (arith, f, size))) in
+          let all = λ (l : List ℕ) (f : length l ≡ held_size n). sym
+          (take_all (front_size n) l (omega (arith, f, size))) in
           inl (all a p ∙ front ∙ sym (all b q))
       | true ↦ λ e. elim (keeps_value n) as (λ k. keeps_value n ≡ k
           → (a ≡ b) ⊎ (IsTrue (is_digested n) × (sha256 (drop (front_size n) a) ≡ sha256 (drop (front_size n) b)))) [
             | true ↦ λ k.
-                let whole = λ (l : List ℕ) (u : IsSaidBy n l). ap (λ w. cond w (drop (front_size n) l) (sha256 (drop (front_size n) l))) (sym k) ∙ u.value e in
+                let whole = λ (l : List ℕ) (u : IsSaidBy n l). ap
+                (λ w. cond w (drop (front_size n) l) (sha256 (drop (front_size n) l))) (sym k) ∙ u.value e in
                 inl (sym (take-append-drop (front_size n) a)
                 ∙ ap (λ l. l ++ drop (front_size n) a) front
                 ∙ ap (λ l. take (front_size n) b ++ l) (whole a s ∙ sym (whole b t))
                 ∙ take-append-drop (front_size n) b)
             | false ↦ λ k.
-                let digest = λ (l : List ℕ) (u : IsSaidBy n l). ap (λ w. cond w (drop (front_size n) l) (sha256 (drop (front_size n) l))) (sym k) ∙ u.value e in
-                inr (and_from n.whole (not (keeps_value n)) e (not_from_false (keeps_value n) k), digest a s ∙ sym (digest b t))
+                let digest = λ (l : List ℕ) (u : IsSaidBy n l). ap
+                (λ w. cond w (drop (front_size n) l) (sha256 (drop (front_size n) l))) (sym k) ∙ u.value e in
+                inr (
+                  and_from n.whole (not (keeps_value n)) e (not_from_false (keeps_value n) k),
+                  digest a s
+                      ∙ sym (digest b t),
+                )
           ] refl
     ] refl
   where

@@ -62,9 +62,11 @@ parted_heads : (p : NoteParts → Bool) (rs : List (Bor NoteParts)) → IsConten
     → ((x y : NoteParts) → note_cmp x y ≡ Less → p y ≡ true → p x ≡ true)
     → IsPartitionedBy (λ (r : Bor NoteParts). p (head_note r.now)) rs
 parted_heads p rs r before i j d l h t =
-    by_places (λ i j. j < length rs → p (head_note (get_or rs j d).now) ≡ true → p (head_note (get_or rs i d).now) ≡ true)
+    by_places (λ i j. j < length rs → p (head_note (get_or rs j d).now) ≡ true
+    → p (head_note (get_or rs i d).now) ≡ true)
     i j l (λ k m u. u) (λ less m u.
-    elim (heads_rise (get_or rs i d).now (get_or rs j d).now (rising_mapped note_total (λ (x : Bor NoteParts). x.now) rs i j d r less m)) [
+    elim (heads_rise (get_or rs i d).now (get_or rs j d).now
+    (rising_mapped note_total (λ (x : Bor NoteParts). x.now) rs i j d r less m)) [
       | inl e ↦ ap p e ∙ u
       | inr e ↦ before (head_note (get_or rs i d).now) (head_note (get_or rs j d).now) e u
     ]) h t
@@ -101,7 +103,8 @@ packets-count n (m ∷ ms) =
     let b = count_by-cons (λ m. is_lt (note_cmp (head_note m) n)) m ms in
     let c = count_by-cons (λ m. is_same_note (head_note m) n) m ms in
     let one : tally (is_le (note_cmp (head_note m) n))
-    ≡ tally (is_lt (note_cmp (head_note m) n)) + tally (is_same_note (head_note m) n) = tally_le (note_cmp (head_note m) n) in
+    ≡ tally (is_lt (note_cmp (head_note m) n)) + tally (is_same_note (head_note m) n) =
+    tally_le (note_cmp (head_note m) n) in
     let ih = packets-count n ms in
     omega (arith, a, b, c, one, ih)
 
@@ -123,7 +126,8 @@ touchers-count n notes =
     (own-touches m n ((same_note-Decides (head_note m) n).0 h)) h)) in
     omega (arith, both, alike)
 
--- one of them is another where more of them begin below its end, and don't end at or below its start, than are its packets
+-- one of them is another where more of them begin below its end, and don't end at or below its start, than are its
+-- packets
 pub touched-by_counts : (n : NoteParts) (notes : List NoteParts) (begun ended packets : ℕ)
     → begun ≡ count_by (λ m. nat_lt m.offset (covered_end n)) notes
     → ended ≡ count_by (λ m. nat_le (covered_end m) n.offset) notes
@@ -222,7 +226,8 @@ unfolding is_headed
 headed_says n notes = grind (arith, held_says, and_parts, and_from)
 
 -- the same of what is answered
-pub headed_whole : (n : NoteParts) (notes : List NoteParts) (b : Bool) → n.whole ≡ true → IsTrue b ↔ In (head_note n) notes
+pub headed_whole : (n : NoteParts) (notes : List NoteParts) (b : Bool) → n.whole ≡ true → IsTrue b
+    ↔ In (head_note n) notes
     → b ≡ is_headed n notes
 unfolding is_headed
 headed_whole n notes b whole d = grind (arith, held_says, same_bool)

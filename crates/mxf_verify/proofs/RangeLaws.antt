@@ -47,7 +47,8 @@ some_end P xs y =
 -- What lies in the first ranges and the next lies in them or in that one.
 lies_more : (runs : List Run) (i : ℕ) (d : Run) (at : ℕ) → i < length runs
     → LiesIn (take (i + 1) runs) at ↔ LiesIn (take i runs) at ⊎ IsWithin (get_or runs i d) at
-lies_more runs i d at here = rw (take_more runs i d here) (some_end (λ q. IsWithin q at) (take i runs) (get_or runs i d))
+lies_more runs i d at here = rw (take_more runs i d here)
+    (some_end (λ q. IsWithin q at) (take i runs) (get_or runs i d))
 
 -- A range was added to a cover.
 pub added-step : (runs old new : List Run) (i : ℕ) (d : Run) → i < length runs
@@ -133,7 +134,8 @@ module _ (runs : List Run) (is : IsCover runs) where
     pub outside-offsets : (at : ℕ) → LiesIn whole at ↔ ((at < greatest_end) × (LiesIn runs at → ⊥))
     outside-offsets at =
         let gaps = gaps_by_definition runs is in
-        let two = subst (λ l. LiesIn l at ↔ LiesIn (gaps_of_runs runs) at ⊎ IsWithin (run end greatest_end) at) (sym parts)
+        let two = subst (λ l. LiesIn l at ↔ LiesIn (gaps_of_runs runs) at ⊎ IsWithin (run end greatest_end) at)
+        (sym parts)
         (some_end (λ q. IsWithin q at) (gaps_of_runs runs) (run end greatest_end)) in (
           λ h. elim (two.0 h) [
             | inl k ↦ (

@@ -16,7 +16,8 @@ module _ {K : Type 0} (key : K → ℕ) where
   scanned top [] = refl
   scanned top (x ∷ xs) = ap (λ l. max top (key x) ∷ l) (scanned (max top (key x)) xs)
 
-  -- Where the greatest number up to a place reaches a bound, one before it did, or one of the elements up to there does.
+  -- Where the greatest number up to a place reaches a bound, one before it did, or one of the elements up to there
+  -- does.
   reached : (top : ℕ) (xs : List K) (k d bound : ℕ) → k < length xs → bound ≤ get_or (greatest_ends key top xs) k d
       → (bound ≤ top) ⊎ ((j : ℕ) × (j ≤ k) × ((z : K) → bound ≤ key (get_or xs j z)))
   reached top [] k d bound l h = absurd (omega arith)
@@ -41,7 +42,8 @@ module _ {K : Type 0} (key : K → ℕ) where
 
 -- One of the ranges that begin by an offset ends at or behind another, where the greatest end of those does.
 pub one_reaches : (runs : List Run) (last start end d : ℕ) → last < length runs
-    → AllWithin (λ r. r.start ≤ start) runs 0 (last + 1) → AllWithin (λ r. start < r.start) runs (last + 1) (length runs)
+    → AllWithin (λ r. r.start ≤ start) runs 0 (last + 1)
+    → AllWithin (λ r. start < r.start) runs (last + 1) (length runs)
     → (end ≤ get_or (greatest_ends (λ r. r.end) 0 runs) last d) ↔ HasOne runs start end
 one_reaches runs last start end d l below above = (
   λ h.

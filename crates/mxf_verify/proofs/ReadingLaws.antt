@@ -24,14 +24,16 @@ pub IsLike-trans : (a b c : Reading) → IsLike a b → IsLike b c → IsLike a 
 IsLike-trans a b c f s = record { notes = s.notes ∙ f.notes; digests = s.digests ∙ f.digests }
 
 -- what came up to an offset, where no digest ran
-pub taken_up_to : (before after : Option (List ℕ)) (old new : Reading) (target : ℕ) (t : TakesUpTo before after old new target)
+pub taken_up_to : (before after : Option (List ℕ)) (old new : Reading) (target : ℕ)
+    (t : TakesUpTo before after old new target)
     (offset : ℕ) (bytes : List ℕ) (k : ℕ) (notes : List (Bor NoteParts)) → Digests old.hasher []
     → HasTaken offset bytes k notes old.comparison → HasRead offset (bytes ++ t.more) k notes t.more new
 taken_up_to before after old new target t offset bytes k notes none h =
     t.reads offset bytes k notes [] (record { taken = h; digest = none })
 
 -- a note that knows no digest has nothing more to be told
-pub passed_over : (offset : ℕ) (bytes : List ℕ) (k : ℕ) (notes : List (Bor NoteParts)) (c : Comparison) (e : Bor NoteParts)
+pub passed_over : (offset : ℕ) (bytes : List ℕ) (k : ℕ) (notes : List (Bor NoteParts)) (c : Comparison)
+    (e : Bor NoteParts)
     → k < length notes → is_digested (get_or notes k e).now ≡ false → HasTaken offset bytes k notes c
     → HasTaken offset bytes (k + 1) notes c
 passed_over offset bytes k notes c e few none h = grind (arith, told_over, cases_lt, get_or_default, true≢false)

@@ -44,17 +44,20 @@ whole_end n q =
     ap (λ b. cond b (end_of n) (n.offset + 16 + n.width)) whole
 
 -- fresh candidates have the notes that they are made of, and say nothing yet
-pub fresh_notes : (rs : List (Bor NoteParts)) → map (λ (c : Candidate). c.note.now) (map fresh rs) ≡ map (λ (r : Bor NoteParts). r.now) rs
+pub fresh_notes : (rs : List (Bor NoteParts))
+    → map (λ (c : Candidate). c.note.now) (map fresh rs) ≡ map (λ (r : Bor NoteParts). r.now) rs
 fresh_notes [] = refl
 fresh_notes (r ∷ rs) = ap (λ l. r.now ∷ l) (fresh_notes rs)
 
-pub fresh_same : (rs : List (Bor NoteParts)) → AllWithin (λ c. c.is_same ≡ true) (map fresh rs) 0 (length (map fresh rs))
+pub fresh_same : (rs : List (Bor NoteParts))
+    → AllWithin (λ c. c.is_same ≡ true) (map fresh rs) 0 (length (map fresh rs))
 fresh_same [] k d l h = absurd (omega arith)
 fresh_same (r ∷ rs) zero d l h = refl
 fresh_same (r ∷ rs) (suc k) d l h = fresh_same rs k d (omega arith) (omega arith)
 
 -- what is so of each note of candidates is so of each candidate
-candidates_within : (P : NoteParts → Type 0) (cs : List Candidate) → AllByRecursion P (map (λ (c : Candidate). c.note.now) cs)
+candidates_within : (P : NoteParts → Type 0) (cs : List Candidate)
+    → AllByRecursion P (map (λ (c : Candidate). c.note.now) cs)
     → AllWithin (λ c. P c.note.now) cs 0 (length cs)
 candidates_within P [] a k d l h = absurd (omega arith)
 candidates_within P (c ∷ cs) a zero d l h = a.0

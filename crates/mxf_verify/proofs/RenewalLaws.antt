@@ -223,7 +223,8 @@ renewed-by_added old new s q =
       | inl h ↦ (has-all n).1 (inl h)
       | inr l ↦ (has-all n).1 (inr (inl ((In-added n old new).1 (k.held, l, k.free))))
     ] in
-    one_reduced all (renewed_of old new) (IsContent-reduced_union new (added_of old new) s) (IsContent-renewed old new s)
+    one_reduced all (renewed_of old new) (IsContent-reduced_union new (added_of old new) s)
+    (IsContent-renewed old new s)
     (AreReduced-reduced_union new (added_of old new) q) (AreReduced-renewed old new q) (λ n. (
       λ h. elim ((has-all n).0 h) [
         | inl k ↦ (has-renewed n old new).1 (inl k)

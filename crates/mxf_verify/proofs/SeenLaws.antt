@@ -84,7 +84,8 @@ differing_more reference first [] s told notes d those = grind (arith, append-ni
 differing_more reference first (t ∷ sources) s told notes (ns, rest, those_first, more, e) those =
     grind (arith, append_assoc, differing_more reference (first + 1) sources s rest notes more those)
 
-map_notes : (source : ℕ) (ns : List NoteParts) → map (λ (d : DifferingParts). d.note) (map (differing_in source) ns) ≡ ns
+map_notes : (source : ℕ) (ns : List NoteParts)
+    → map (λ (d : DifferingParts). d.note) (map (differing_in source) ns) ≡ ns
 map_notes source [] = refl
 map_notes source (n ∷ ns) = ap (λ l. n ∷ l) (map_notes source ns)
 
@@ -132,7 +133,8 @@ bytes_end sources s = (
 )
 
 -- what a set has with notes more
-members_of : (old new added : List NoteParts) (lent names : List (Bor NoteParts)) → lent ≡ names → added ≡ notes_at names
+members_of : (old new added : List NoteParts) (lent names : List (Bor NoteParts)) → lent ≡ names
+    → added ≡ notes_at names
     → ((n : NoteParts) → In n new ↔ (In n old ⊎ In n (notes_at lent))) → (n : NoteParts)
     → In n new ↔ (In n old ⊎ In n added)
 members_of old new added lent names e a more n =
@@ -152,7 +154,8 @@ seen_bytes reference sources old new number offset end bytes told same differing
     let s = Bytes offset bytes in
     let tells_reference : TellsOf reference s told = subst (λ r. TellsOf r s told) is.reference_is tells in
     let at_number : number ≡ 1 + length sources = omega arith in
-    let set = members_of old.verified new.verified (notes_at told.same.items) same told.same.items sames refl verified in
+    let set = members_of old.verified new.verified
+    (notes_at told.same.items) same told.same.items sames refl verified in
     record {
       catalogue = is.catalogue;
       reference_is = kept ∙ is.reference_is;
@@ -213,16 +216,20 @@ pub seen_saved : (reference : List NoteParts) (sources : List Source) (old new :
 seen_saved reference sources old new number is_empty saved told same headed differing numbered is tells empty sames heads
     others kept verified heading differs ranges beside came =
     let s = Saved saved in
-    let tells_reference : TellsSaved reference saved told = subst (λ r. TellsSaved r saved told) is.reference_is tells in
+    let tells_reference : TellsSaved reference saved told =
+    subst (λ r. TellsSaved r saved told) is.reference_is tells in
     let at_number : number ≡ 1 + length sources = omega arith in
-    let set = members_of old.verified new.verified (notes_at told.told.same.items) same told.told.same.items sames refl verified in
-    let heads_set = members_of old.headed new.headed (notes_at told.headed.items) headed told.headed.items heads refl heading in
+    let set = members_of old.verified new.verified
+    (notes_at told.told.same.items) same told.told.same.items sames refl verified in
+    let heads_set = members_of old.headed new.headed
+    (notes_at told.headed.items) headed told.headed.items heads refl heading in
     record {
       catalogue = is.catalogue;
       reference_is = kept ∙ is.reference_is;
       verified = λ n.
           let m = members_more reference old.verified (notes_at told.told.same.items) (IsVerified reference sources)
-          (λ x. IsSameIn reference x s) (IsVerified reference (sources ++ s ∷ [])) is.verified tells_reference.told_is.same
+          (λ x. IsSameIn reference x s) (IsVerified reference
+          (sources ++ s ∷ [])) is.verified tells_reference.told_is.same
           (λ x. some_end (IsSameIn reference x) sources s) n in
           (λ h. m.0 ((set n).0 h), λ h. (set n).1 (m.1 h));
       headed = λ n.
@@ -231,7 +238,8 @@ seen_saved reference sources old new number is_empty saved told same headed diff
           (λ h. m.0 ((heads_set n).0 h), λ h. (heads_set n).1 (m.1 h));
       differing = subst (AreDiffering reference 1 (sources ++ s ∷ []))
           (sym (differs ∙ ap (λ l. parts_of old.differing.items ++ map (differing_in number) (notes_at l)) others
-          ∙ ap (λ k. parts_of old.differing.items ++ map (differing_in k) (notes_at told.told.differing.items)) at_number))
+          ∙ ap (λ k. parts_of old.differing.items
+          ++ map (differing_in k) (notes_at told.told.differing.items)) at_number))
           (differing_more reference 1 sources s (parts_of old.differing.items) (notes_at told.told.differing.items)
           is.differing tells_reference.told_is.differing);
       ranges = ranges ∙ is.ranges ∙ sym (append-nil (flat_map range_in sources)) ∙ sym (ranges_more sources s);

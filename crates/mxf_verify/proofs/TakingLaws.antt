@@ -78,7 +78,8 @@ pub candidates_taken : (offset : ℕ) (bytes more : List ℕ) (digested : ℕ) (
     → AllWithin (λ r. IsTrue (is_digested r.now) → covered_end r.now ≤ offset + length bytes) notes 0 digested
     → map (compared (offset + length bytes) more)
     (map (told offset bytes) (take digested notes) ++ map (agreeing offset bytes) (drop digested notes))
-    ≡ map (told offset (bytes ++ more)) (take digested notes) ++ map (agreeing offset (bytes ++ more)) (drop digested notes)
+    ≡ map (told offset (bytes ++ more)) (take digested notes)
+    ++ map (agreeing offset (bytes ++ more)) (drop digested notes)
 candidates_taken offset bytes more zero [] behind ended = refl
 candidates_taken offset bytes more (suc k) [] behind ended = refl
 candidates_taken offset bytes more zero (r ∷ notes) behind ended = λ i.
@@ -217,7 +218,8 @@ told_over offset bytes (suc k) (r ∷ notes) e h none =
     grind (arith, told_over offset bytes k notes e (omega arith) none)
 
 -- before any digest was compared each candidate has the note at its place
-pub note_agreeing : (offset : ℕ) (bytes : List ℕ) (notes : List (Bor NoteParts)) (j : ℕ) (d : Candidate) (e : Bor NoteParts)
+pub note_agreeing : (offset : ℕ) (bytes : List ℕ) (notes : List (Bor NoteParts)) (j : ℕ) (d : Candidate)
+    (e : Bor NoteParts)
     → j < length notes
     → (get_or (map (told offset bytes) (take 0 notes) ++ map (agreeing offset bytes) (drop 0 notes)) j d).note
     ≡ get_or notes j e

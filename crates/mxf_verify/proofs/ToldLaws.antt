@@ -165,7 +165,8 @@ met_shares runs notes n covers =
 -- ---- what candidates say
 
 module _ (reference : List NoteParts) (all : List Candidate) (offset bound : ℕ) (bytes : List ℕ) (c : Compared)
-    (are : AreCandidates reference all) (h : ComparesBytes all offset bound bytes c) (fits : offset + length bytes ≤ bound)
+    (are : AreCandidates reference all) (h : ComparesBytes all offset bound bytes c)
+    (fits : offset + length bytes ≤ bound)
   where
     -- the notes of the candidates rise
     rise : IsContent (noted c.candidates.items)
@@ -278,13 +279,15 @@ module _ (reference : List NoteParts) (all : List Candidate) (offset bound : ℕ
           ↔ (In n reference × DiffersIn reference n (Bytes offset bytes))
       unfolding is_told_differing
       differing_are n =
-          let map_in = In-map (λ (x : Candidate). x.note.now) (filter (is_told_differing c.end runs) c.candidates.items) n
+          let map_in = In-map (λ (x : Candidate). x.note.now)
+          (filter (is_told_differing c.end runs) c.candidates.items) n
           in (
             λ k.
                 let s = map_in.0 k in
                 let x = s.0 in
                 let f = (In-filter (is_told_differing c.end runs) c.candidates.items x).0 s.1 in
-                let p = and_parts (not x.is_same && nat_le (covered_end x.note.now) c.end) (not (is_met runs x.note.now)) f.1
+                let p = and_parts (not x.is_same && nat_le (covered_end x.note.now) c.end)
+                (not (is_met runs x.note.now)) f.1
                 in
                 let r = and_parts (not x.is_same) (nat_le (covered_end x.note.now) c.end) p.0 in
                 let q = came x f.0 r.1 in
@@ -324,7 +327,8 @@ module _ (reference : List NoteParts) (all : List Candidate) (offset bound : ℕ
         let d = ap notes_at differing ∙ notes_noted (filter (is_told_differing c.end runs) c.candidates.items) in
         let held = subst (Covers runs) e covers in record {
           same = subst (AreThose reference (λ n. IsSameIn reference n (Bytes offset bytes))) (sym e) (record {
-            rising = rising-chosen note_cmp (λ (x : Candidate). x.note.now) (is_told_same c.end) c.candidates.items rise;
+            rising = rising-chosen note_cmp (λ (x : Candidate). x.note.now)
+                (is_told_same c.end) c.candidates.items rise;
             members = same_are;
           });
           differing = subst (AreThose reference (λ n. DiffersIn reference n (Bytes offset bytes))) (sym d) (record {

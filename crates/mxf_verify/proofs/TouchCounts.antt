@@ -93,7 +93,8 @@ others-count n notes =
     same_bool (is_held_byte_shared m n && is_same_note m (head_note n)) (is_same_note m (head_note n))
     (λ h. (and_parts (is_held_byte_shared m n) (is_same_note m (head_note n)) h).1)
     (λ h. and_from (is_held_byte_shared m n) (is_same_note m (head_note n))
-    (subst (λ x. IsTrue (is_held_byte_shared x n)) (sym ((same_note-Decides m (head_note n)).0 h)) (head-touches n)) h)) in
+    (subst (λ x. IsTrue (is_held_byte_shared x n)) (sym ((same_note-Decides m (head_note n)).0 h))
+    (head-touches n)) h)) in
     omega (arith, both, alike)
 
 pub opposed-by_counts : (n : NoteParts) (notes : List NoteParts) (begun ended heads : ℕ) → IsNote n

@@ -112,7 +112,8 @@ module _ (key : UnitPlace → ℕ) (places : List UnitPlace) (bound : ℕ) where
       let (j, there, at) = Contains-from_In x places h in
       let many = ap (λ (l : List ℕ). length l) e in
       let count = length-ends key 0 places in
-      let low = subst (λ (l : List ℕ). get_or l j 0 ≤ bound) e (f j 0 (omega arith) (omega (arith, there, many, count))) in
+      let low = subst (λ (l : List ℕ). get_or l j 0 ≤ bound) e
+      (f j 0 (omega arith) (omega (arith, there, many, count))) in
       let own = own_end key 0 places j 0 x there in
       let same = ap key at in omega (arith, low, own, same)
 

@@ -82,7 +82,8 @@ module _ {goes_before : UnitPlace → UnitPlace → Bool} {Leads : UnitPlace →
     leads = each {P = λ q. IsTouched n q → Leads b q} p places (λ k. absurd (h k)) is.leads;
   }
 
-  first_is_chosen : (n : NoteParts) (places : List UnitPlace) → IsChosen Leads n places (first_touched goes_before n places)
+  first_is_chosen : (n : NoteParts) (places : List UnitPlace)
+      → IsChosen Leads n places (first_touched goes_before n places)
   first_is_chosen n [] = λ p i _. i
   first_is_chosen n (p ∷ places) =
       grind (arith, touches_more, touched, touches_no_more, untouched, first_is_chosen n places)
@@ -123,7 +124,8 @@ leads_first = record {
 leads_last : IsLeading ends_behind (λ p q. IsNoGreater (asked_end q.extent) q.unit (asked_end p.extent) p.unit)
 leads_last = record {
   itself = λ p. inr (refl, omega arith);
-  along = λ p q r h k. along_pairs (asked_end r.extent) r.unit (asked_end q.extent) q.unit (asked_end p.extent) p.unit k h;
+  along = λ p q r h k. along_pairs (asked_end r.extent) r.unit (asked_end q.extent) q.unit
+      (asked_end p.extent) p.unit k h;
   before = λ p q t. elim (or_cases _ _ t) [
     | inl h ↦ inl (ltb-true _ _ h)
     | inr h ↦
@@ -145,7 +147,8 @@ leads_last = record {
 
 spanned : (n : NoteParts) (places : List UnitPlace) (p q : Option UnitPlace)
     → IsChosen (λ p q. IsNoGreater p.extent.start p.unit q.extent.start q.unit) n places p
-    → IsChosen (λ p q. IsNoGreater (asked_end q.extent) q.unit (asked_end p.extent) p.unit) n places q → AreUnitsOf places n (span_of p q)
+    → IsChosen (λ p q. IsNoGreater (asked_end q.extent) q.unit (asked_end p.extent) p.unit) n places q
+    → AreUnitsOf places n (span_of p q)
 spanned n places None q first last = first
 spanned n places (Some p) None first last = last
 spanned n places (Some p) (Some q) first last = (

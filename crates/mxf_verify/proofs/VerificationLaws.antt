@@ -30,7 +30,8 @@ same_those reference P a b s t =
 
 same_count : (reference : List NoteParts) (P : NoteParts → Type 0) (a b : ℕ) → IsCountOf reference P a
     → IsCountOf reference P b → a ≡ b
-same_count reference P a b s t = s.count_is ∙ ap length (same_those reference P s.notes t.notes s.those t.those) ∙ sym t.count_is
+same_count reference P a b s t =
+    s.count_is ∙ ap length (same_those reference P s.notes t.notes s.those t.those) ∙ sym t.count_is
 
 same_offsets : (P : ℕ → Type 0) (a b : List Run) → AreRunsOf P a → AreRunsOf P b → a ≡ b
 same_offsets P a b s t =

@@ -52,7 +52,8 @@ module _ {R : Type 0} (left : R → Option (List ℕ)) (reference : List NotePar
   as_many (p ∷ parts) [] a = absurd a
   as_many (p ∷ parts) (s ∷ sources) a = let ih = as_many parts sources a.1 in omega arith
 
-  sources_more : (parts : List (Part R)) (sources : List Source) (p : Part R) (s : Source) → AreSourcesOf left parts sources
+  sources_more : (parts : List (Part R)) (sources : List Source) (p : Part R) (s : Source)
+      → AreSourcesOf left parts sources
       → IsSourceOf left p s → AreSourcesOf left (parts ++ p ∷ []) (sources ++ s ∷ [])
   sources_more [] [] p s a is = (is, tt)
   sources_more [] (t ∷ sources) p s a is = absurd a
@@ -70,7 +71,8 @@ module _ {R : Type 0} (left : R → Option (List ℕ)) (reference : List NotePar
   pub seen_nothing : (all : List (Part R)) (seen : Seen) → IsSeen reference [] seen → HasSeen all 0 all seen
   seen_nothing all seen is = record { passed = passed_none all; sources = []; are = tt; good = tt; is = is }
 
-  pub seen_one : (all rest more : List (Part R)) (p : Part R) (number : ℕ) (old new : Seen) → HasSeen all number rest old
+  pub seen_one : (all rest more : List (Part R)) (p : Part R) (number : ℕ) (old new : Seen)
+      → HasSeen all number rest old
       → rest ≡ p ∷ more → ((s : Source) × IsSourceOf left p s × SeesNext (number + 1) s old new) → IsGood left p
       → HasSeen all (number + 1) more new
   seen_one all rest more p number old new h is next good =

@@ -31,7 +31,8 @@ laid_from at (n ∷ ns) apart whole held = (
     above : (low : ℕ) (ms : List NoteParts) (m : NoteParts) → AreApart low ms → In m ms → low ≤ m.offset
     above low [] m a i = absurd i
     above low (x ∷ ms) m a (inl e) =
-        let same : m.offset ≡ x.offset = ap (λ (y : NoteParts). y.offset) e in let low_x : low ≤ x.offset = a.0 in omega arith
+        let same : m.offset ≡ x.offset = ap (λ (y : NoteParts). y.offset) e in let low_x : low ≤ x.offset = a.0 in
+        omega arith
     above low (x ∷ ms) m a (inr i) =
         let high = above (end_of x) ms m a.1 i in let low_x : low ≤ x.offset = a.0 in omega arith
 
@@ -78,7 +79,8 @@ reference_laid reference is =
 -- ---- what is said where everything is the same
 
 -- of none there is none
-pub none_of : (reference : List NoteParts) (P : NoteParts → Type 0) (count : ℕ) → IsCountOf reference P count → count ≡ 0
+pub none_of : (reference : List NoteParts) (P : NoteParts → Type 0) (count : ℕ) → IsCountOf reference P count
+    → count ≡ 0
     → (n : NoteParts) → In n reference → ¬ P n
 none_of reference P count is e n i p =
     let (j, there, same) = Contains-from_In n is.notes ((is.those.members n).1 (i, p)) in
@@ -116,7 +118,8 @@ module _ (reference : List NoteParts) (bytes : List ℕ) (v : VerificationParts)
     each_same n i =
         let own = holds_first n in
         let here : IsCovered n n.offset = record { from = omega arith; before = omega arith } in
-        elim ((held_so reference (Bytes 0 bytes ∷ []) v told n.offset).0 ((told.held.offsets n.offset).1 (n, i, here))) [
+        elim ((held_so reference (Bytes 0 bytes ∷ []) v told n.offset).0
+        ((told.held.offsets n.offset).1 (n, i, here))) [
           | inl k ↦
               let b = (told.verified.offsets n.offset).0 k in
               let m = b.0 in
@@ -126,7 +129,8 @@ module _ (reference : List NoteParts) (bytes : List ℕ) (v : VerificationParts)
           | inr f ↦ elim f [
             | inl k ↦
                 let b = (told.altered.offsets n.offset).0 k in
-                absurd (none_of reference (IsDiffering reference (Bytes 0 bytes ∷ [])) v.damaged told.damaged says.differs b.0 b.1 b.2)
+                absurd (none_of reference (IsDiffering reference
+                (Bytes 0 bytes ∷ [])) v.damaged told.damaged says.differs b.0 b.1 b.2)
             | inr k ↦ let h : LiesIn [] n.offset = subst (λ l. LiesIn l n.offset) says.verified k in absurd h.1
           ]
         ]

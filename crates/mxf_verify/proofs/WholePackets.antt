@@ -113,7 +113,8 @@ read_said all at (n ∷ ns) laid each e within =
     let bytes = drop at all in
     let own = each n (inl refl) in
     let offset : n.offset ≡ at = laid.0 in
-    let sized : held_size n ≡ front_size n + n.length = ap (λ b. cond b (front_size n + n.length) (front_size n)) laid.1 in
+    let sized : held_size n ≡ front_size n + n.length =
+    ap (λ b. cond b (front_size n + n.length) (front_size n)) laid.1 in
     let reach = laid_end_above (end_of n) ns laid.2 in
     let front = take (held_size n) bytes in
     let there : held_in n 0 all ≡ front = held_front n all at offset in
@@ -126,7 +127,8 @@ read_said all at (n ∷ ns) laid each e within =
     (sym (take-append-drop (held_size n) bytes)) (omega arith) in
     let next = goes_on at bytes p (held_size n) given (sym size) in
     let note : note_of at p ≡ n = ap (λ k. note_of k p) (sym offset) ∙ said_note n front own.0 laid.1 said long in
-    let behind : drop (held_size n) bytes ≡ drop (end_of n) all = dropped all at (held_size n) (end_of n) (omega arith) in
+    let behind : drop (held_size n) bytes ≡ drop (end_of n) all =
+    dropped all at (held_size n) (end_of n) (omega arith) in
     let place : at + held_size n ≡ end_of n = omega arith in
     let ih = read_said all (end_of n) ns laid.2 (λ m i. each m (inr i)) e within in (
       next.notes ∙ ap (λ l. note_of at p ∷ l) (ap (λ l. notes_in (at + held_size n) l) behind
@@ -166,25 +168,30 @@ laid_said : (all : List ℕ) (at : ℕ) (ps : List PacketParts) → AreBytes all
 laid_said all at [] are laid n i = absurd i
 laid_said all at (p ∷ ps) are (front, after, s, is, within, laid) n (inr i) =
     let left : after ≡ drop (at + size_of p) all = sym
-    (sym (drop-drop (size_of p) at all) ∙ ap (drop (size_of p)) is ∙ drop_at front after (size_of p) (length-spelled front p s)) in
+    (sym (drop-drop (size_of p) at all) ∙ ap (drop (size_of p)) is
+    ∙ drop_at front after (size_of p) (length-spelled front p s)) in
     laid_said all (at + size_of p) ps are (subst (λ l. AreLaid (at + size_of p) l ps []) left laid) n i
 laid_said all at (p ∷ ps) are (front, after, s, is, within, laid) n (inl e) =
     let m = note_of at p in
     let size = length-spelled front p s in
     let width = spelled_len s.spelled p.width (length p.value) s.width in
     let label = s.label.0 in
-    let held : held_in m 0 all ≡ front = held_as at p all ∙ ap (take (size_of p)) is ∙ take_at front after (size_of p) size in
+    let held : held_in m 0 all ≡ front =
+    held_as at p all ∙ ap (take (size_of p)) is ∙ take_at front after (size_of p) size in
     let whole = ap length is in
     let reach = reached at (size_of p) all front after size is (omega arith) in
     let ahead : IsAmong m 0 all = record { from = omega arith; to = omega (arith, reach) } in
-    let spelling : s.spelled ≡ length_bytes p.width (length p.value) = spelled-length_bytes s.spelled p.width (length p.value)
+    let spelling : s.spelled ≡ length_bytes p.width (length p.value) =
+    spelled-length_bytes s.spelled p.width (length p.value)
     (spelled_bytes all at front after p s is are) s.width in
     let ahead_value : take (16 + p.width) front ≡ p.key ++ s.spelled =
     ap (take (16 + p.width)) (s.whole ∙ sym (append_assoc p.key s.spelled p.value))
-    ∙ take_at (p.key ++ s.spelled) p.value (16 + p.width) (omega (arith, length-append p.key s.spelled, width, label)) in
+    ∙ take_at (p.key ++ s.spelled) p.value (16 + p.width)
+    (omega (arith, length-append p.key s.spelled, width, label)) in
     let value : drop (16 + p.width) front ≡ p.value =
     ap (drop (16 + p.width)) (s.whole ∙ sym (append_assoc p.key s.spelled p.value))
-    ∙ drop_at (p.key ++ s.spelled) p.value (16 + p.width) (omega (arith, length-append p.key s.spelled, width, label)) in
+    ∙ drop_at (p.key ++ s.spelled) p.value (16 + p.width)
+    (omega (arith, length-append p.key s.spelled, width, label)) in
     let said : IsSaidBy m front = record {
       front = ahead_value ∙ ap (λ l. p.key ++ l) spelling;
       value = λ w. ap (λ v. cond (keeps p.key (length p.value)) v (sha256 v)) value;
@@ -203,7 +210,8 @@ laid_covers all at (p ∷ ps) (front, after, s, is, within, laid) x from to =
           let left : after ≡ drop (at + size_of p) all = sym
           (sym (drop-drop (size_of p) at all) ∙ ap (drop (size_of p)) is
           ∙ drop_at front after (size_of p) (length-spelled front p s)) in
-          let h = laid_covers all (at + size_of p) ps (subst (λ l. AreLaid (at + size_of p) l ps []) left laid) x past to in
+          let h = laid_covers all (at + size_of p) ps
+          (subst (λ l. AreLaid (at + size_of p) l ps []) left laid) x past to in
           (h.0, inr h.1, h.2))
     ]
 

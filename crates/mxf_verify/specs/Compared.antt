@@ -15,7 +15,8 @@ fresh r = record { note = r; is_same = true }
 -- Of each note whose bytes are all among those of the source, it is known whether these are as it says.
 abbrev pub AreSame : ℕ → List ℕ → List Candidate → Type 0
 AreSame offset bytes candidates =
-    AllWithin (λ c. IsAmong c.note.now offset bytes → IsTrue c.is_same ↔ IsSaidBy c.note.now (held_in c.note.now offset bytes))
+    AllWithin (λ c. IsAmong c.note.now offset bytes → IsTrue c.is_same
+    ↔ IsSaidBy c.note.now (held_in c.note.now offset bytes))
     candidates 0 (length candidates)
 
 -- Of all candidates, those that begin from an offset on and below the end were compared with the bytes from it on.

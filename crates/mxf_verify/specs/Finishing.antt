@@ -30,7 +30,8 @@ pub record IsLeftOut (u : Uncompared) (n : NoteParts) : Type 0 where
 pub record AreBytes (reference verified damaged : List NoteParts) (came : List Run) (b : ToldBytes) : Type 0 where
   pub verified_are : AreRunsOf (IsHeldBy verified) b.verified
   pub altered_are : AreRunsOf (IsHeldBy damaged) b.altered
-  pub unverified_are : AreRunsOf (λ at. IsHeldBy reference at × ¬ IsHeldBy verified at × ¬ IsHeldBy damaged at) b.unverified
+  pub unverified_are : AreRunsOf
+      (λ at. IsHeldBy reference at × ¬ IsHeldBy verified at × ¬ IsHeldBy damaged at) b.unverified
   pub unknown_are : AreRunsOf (λ at. LiesIn came at × ¬ IsHeldBy reference at) b.unknown
 
 -- What is reported is what these say: of the reference, of the notes that are the same or differ and of the bytes;

@@ -55,7 +55,8 @@ pub record ReadsValue (before after : Option (List ℕ)) (old new : Reading) (pl
   pub consumed : Consumes before after more
   pub at : new.comparison.at ≡ old.comparison.at + length more
   pub notes : notes_of new.comparison.candidates.items ≡ notes_of old.comparison.candidates.items
-  pub taken : (offset : ℕ) (bytes : List ℕ) (notes : List (Bor NoteParts)) → HasTaken offset bytes place notes old.comparison
+  pub taken : (offset : ℕ) (bytes : List ℕ) (notes : List (Bor NoteParts))
+      → HasTaken offset bytes place notes old.comparison
       → HasTaken offset (bytes ++ more) (if whole then place + 1 else place) notes new.comparison
   pub reached : whole ≡ true → new.comparison.at ≡ covered_end n
   pub ended : whole ≡ false → (new.comparison.at < covered_end n) × IsAtEnd after
@@ -74,7 +75,8 @@ pub record ReadsSource (before after : Option (List ℕ)) (old new : Reading) (e
   pub at : new.comparison.at ≡ old.comparison.at + length more
   pub within : new.comparison.at ≤ end
   pub ended : (new.comparison.at ≡ end) ⊎ IsAtEnd after
-  pub taken : (offset : ℕ) (bytes : List ℕ) (notes : List (Bor NoteParts)) → HasTaken offset bytes 0 notes old.comparison
+  pub taken : (offset : ℕ) (bytes : List ℕ) (notes : List (Bor NoteParts))
+      → HasTaken offset bytes 0 notes old.comparison
       → (digested : ℕ) × HasReadAll offset (bytes ++ more) digested notes new.comparison
 
 -- What is left of a source was read up to an offset, or to its end.
@@ -86,7 +88,8 @@ pub record ReadsRest (before after : Option (List ℕ)) (old new : Reading) (end
   pub ended : (new.comparison.at ≡ end) ⊎ IsAtEnd after
   pub notes : notes_of new.comparison.candidates.items ≡ notes_of old.comparison.candidates.items
   pub taken : (offset : ℕ) (bytes : List ℕ) (digested : ℕ) (notes : List (Bor NoteParts))
-      → HasTaken offset bytes digested notes old.comparison → HasTaken offset (bytes ++ more) digested notes new.comparison
+      → HasTaken offset bytes digested notes old.comparison
+      → HasTaken offset (bytes ++ more) digested notes new.comparison
 
 -- The note at a place was passed: if it knows a digest, the bytes up to its end came. Or it knows one, and the bytes
 -- came up to an offset, or all of them, and its end isn't reached.
@@ -97,7 +100,8 @@ pub record PassesNote (before after : Option (List ℕ)) (old new : Reading) (pl
   pub at : new.comparison.at ≡ old.comparison.at + length more
   pub within : new.comparison.at ≤ end
   pub notes : notes_of new.comparison.candidates.items ≡ notes_of old.comparison.candidates.items
-  pub taken : (offset : ℕ) (bytes : List ℕ) (notes : List (Bor NoteParts)) → HasTaken offset bytes place notes old.comparison
+  pub taken : (offset : ℕ) (bytes : List ℕ) (notes : List (Bor NoteParts))
+      → HasTaken offset bytes place notes old.comparison
       → HasTaken offset (bytes ++ more) (if passed then place + 1 else place) notes new.comparison
   pub reached : passed ≡ true → IsTrue (is_digested n) → new.comparison.at ≡ covered_end n
   pub stays : passed ≡ true → is_digested n ≡ false → new.comparison.at ≡ old.comparison.at

@@ -235,7 +235,8 @@ copies_follow x notes start end r new h =
     (renewed_partition after start end (can_bring_start x)) x notes start end r new h (λ n clear far.
     elim (partition_at n) as (λ o. partition_at n ≡ o
     → option_and_then (λ p. if has_metadata p then Some (copy_of (clear_notes after) p) else None) o
-    ≡ option_map renew (option_and_then (λ p. if has_metadata p then Some (copy_of (clear_notes notes) p) else None) o)) [
+    ≡ option_map renew (option_and_then
+    (λ p. if has_metadata p then Some (copy_of (clear_notes notes) p) else None) o)) [
       | None ↦ λ _. refl
       | Some p ↦ λ read. elim (has_metadata p) as (λ b. has_metadata p ≡ b
           → (if b then Some (copy_of (clear_notes after) p) else None)

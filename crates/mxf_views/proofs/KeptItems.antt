@@ -168,7 +168,8 @@ module _ {A : Type 0} (before after : NoteParts → Option A) (renew : A → A) 
   left_rises : IsRisingBy key left
   left_rises =
       rises-map key renew key old (λ z h. one_key z)
-      (rises-filter key (λ z. is_outside start end (key z)) (kept_among before notes) (kept_rise before key own notes r))
+      (rises-filter key (λ z. is_outside start end (key z)) (kept_among before notes)
+      (kept_rise before key own notes r))
 
   -- So what follows the arrival is what is kept of the notes with it.
   pub renewed_follow : with_found key (kept_at after (reduced_with x notes) x.offset)

@@ -130,7 +130,8 @@ pub partitions_rise_by : (notes : List NoteParts) → IsContent notes
 partitions_rise_by notes r =
     (rise_by _ _).1 (kept_rise kept_partition (λ p. p.offset) offset-kept_partition notes r)
 
-pub segments_rise_by : (notes : List NoteParts) → IsContent notes → RiseBy (λ s. s.offset) (kept_among kept_segment notes)
+pub segments_rise_by : (notes : List NoteParts) → IsContent notes
+    → RiseBy (λ s. s.offset) (kept_among kept_segment notes)
 segments_rise_by notes r = (rise_by _ _).1 (kept_rise kept_segment (λ s. s.offset) offset-kept_segment notes r)
 
 -- What is read of the notes that it is kept of is what is read of all clear ones.

@@ -19,7 +19,8 @@ length-kept : {A : Type 0} (take : NoteParts → Option A) (ns : List NoteParts)
 length-kept take [] = refl
 length-kept take (n ∷ ns) =
     let ih = length-kept take ns in
-    elim (take n) as (λ o. length (cons_option o (filter_map take ns)) ≡ tally (is_some o) + count_by (is_kept take) ns) [
+    elim (take n) as (λ o. length (cons_option o (filter_map take ns))
+    ≡ tally (is_some o) + count_by (is_kept take) ns) [
       | None ↦ omega (arith, ih)
       | Some x ↦ omega (arith, ih)
     ] ∙ sym (count_by-cons (is_kept take) n ns)

@@ -125,7 +125,8 @@ module _ {A : Type 0} (key : A → ℕ) where
       let h : key x ≤ low = f 0 x (omega arith) (omega arith) in
       let no : nat_lt low (key x) ≡ false = false_from_ne_true (nat_lt low (key x))
       (λ t. let u : low < key x = ltb-true low (key x) t in omega arith) in
-      rw no (none_between low high xs i (omega arith) (λ k e a b. f (suc k) e (omega arith) (omega arith)) (omega arith))
+      rw no (none_between low high xs i (omega arith) (λ k e a b. f (suc k) e (omega arith) (omega arith))
+      (omega arith))
 
   -- Else the first above it tells.
   pub first_between : (low high : ℕ) (xs : List A) (i : ℕ) (d : A) → IsRisingBy key xs → i < length xs

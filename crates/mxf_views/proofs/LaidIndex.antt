@@ -72,7 +72,8 @@ agree_later : (s : SegmentAtParts) (ss : List SegmentAtParts) → Agree (s ∷ s
 agree_later s ss a = λ t u sid unit p q h k e f. a t u sid unit p q (inr h) (inr k) e f
 
 -- Places that are all one are one.
-one_alone : (p : StreamPlace) (xs : List StreamPlace) → AllByRecursion (λ x. x ≡ p) xs → union place_cmp (p ∷ []) xs ≡ p ∷ []
+one_alone : (p : StreamPlace) (xs : List StreamPlace) → AllByRecursion (λ x. x ≡ p) xs
+    → union place_cmp (p ∷ []) xs ≡ p ∷ []
 one_alone p [] a = refl
 one_alone p (x ∷ xs) a =
     let e : with_one place_cmp x (p ∷ []) ≡ p ∷ [] =

@@ -27,7 +27,8 @@ place_cmp-IsAntisymmetric a b e =
     same_place a b (nat_cmp-IsAntisymmetric _ _ p.0) (nat_cmp-IsAntisymmetric _ _ p.1)
 
 -- A segment that gives a place adds it.
-pub places_more : (places : List StreamPlace) (index_sid unit : ℕ) (s : SegmentAtParts) (rest left : List SegmentAtParts)
+pub places_more : (places : List StreamPlace) (index_sid unit : ℕ) (s : SegmentAtParts)
+    (rest left : List SegmentAtParts)
     (p : StreamPlace) → left ≡ s ∷ rest → Some p ≡ given_by index_sid unit s
     → places_with (with_one place_cmp p places) index_sid unit rest ≡ places_with places index_sid unit left
 places_more places index_sid unit s rest left p e f =
@@ -71,7 +72,8 @@ not_both p q e f = not_itself p p (place_total.trans p q p e f) refl
 
 -- ---- the places that are given
 
-given_from : (segments : List SegmentAtParts) (index_sid unit : ℕ) (s : SegmentAtParts) (p : StreamPlace) → In s segments
+given_from : (segments : List SegmentAtParts) (index_sid unit : ℕ) (s : SegmentAtParts) (p : StreamPlace)
+    → In s segments
     → given_by index_sid unit s ≡ Some p → IsGiven segments index_sid unit p
 unfolding given_by
 given_from segments index_sid unit s p h e =
@@ -96,7 +98,8 @@ given_from segments index_sid unit s p h e =
           ] refl q
     ] refl e
 
-given_to : (segments : List SegmentAtParts) (index_sid unit : ℕ) (p : StreamPlace) → (g : IsGiven segments index_sid unit p)
+given_to : (segments : List SegmentAtParts) (index_sid unit : ℕ) (p : StreamPlace)
+    → (g : IsGiven segments index_sid unit p)
     → given_by index_sid unit g.by ≡ Some p
 unfolding given_by
 given_to segments index_sid unit p g =
@@ -127,7 +130,8 @@ places_rise segments index_sid unit =
     IsRising-union place_total place_cmp-IsAntisymmetric [] (filter_map (given_by index_sid unit) segments) tt
 
 -- The place is by any rising list of exactly these places.
-pub place_by_list : (segments : List SegmentAtParts) (index_sid unit : ℕ) (places : List StreamPlace) → IsRising place_cmp places
+pub place_by_list : (segments : List SegmentAtParts) (index_sid unit : ℕ) (places : List StreamPlace)
+    → IsRising place_cmp places
     → ((p : StreamPlace) → In p places ↔ IsGiven segments index_sid unit p)
     → place_of segments index_sid unit ≡ place_by places
 place_by_list segments index_sid unit places r h =
@@ -137,7 +141,8 @@ place_by_list segments index_sid unit places r h =
 
 -- ---- the place by them
 
-place_from : (segments : List SegmentAtParts) (index_sid unit : ℕ) (places : List StreamPlace) → IsRising place_cmp places
+place_from : (segments : List SegmentAtParts) (index_sid unit : ℕ) (places : List StreamPlace)
+    → IsRising place_cmp places
     → Holds segments index_sid unit places → IsPlace segments index_sid unit (place_by places)
 place_from segments index_sid unit [] r w = λ p g. (w p).1 g
 place_from segments index_sid unit (p ∷ []) r w = record {
@@ -173,7 +178,8 @@ module _ {segments : List SegmentAtParts} {index_sid unit : ℕ} where
         ])
       ]
 
-  one_first : (p q x y : StreamPlace) → AreTwoLeast segments index_sid unit p q → AreTwoLeast segments index_sid unit x y
+  one_first : (p q x y : StreamPlace) → AreTwoLeast segments index_sid unit p q
+      → AreTwoLeast segments index_sid unit x y
       → p ≡ x
   one_first p q x y s t =
       elim (at_or_above p q x s t.first) [
@@ -189,7 +195,8 @@ module _ {segments : List SegmentAtParts} {index_sid unit : ℕ} where
         | inr k ↦ elim k [ inl e ↦ inl (sym e) | inr b ↦ inr (less_from q r b) ]
       ]
 
-  one_second : (p q x y : StreamPlace) → AreTwoLeast segments index_sid unit p q → AreTwoLeast segments index_sid unit x y
+  one_second : (p q x y : StreamPlace) → AreTwoLeast segments index_sid unit p q
+      → AreTwoLeast segments index_sid unit x y
       → q ≡ y
   one_second p q x y s t =
       let e = one_first p q x y s t in

@@ -125,12 +125,14 @@ view_to notes rips w a (Unreadable offset) i =
       | None ↦ λ _. refl
       | Some rip ↦ λ e. absurd (i.3 rip ((reads (rip_at n.width) n rip).0 e))
     ] refl in
-    ap (rip_view_among (partitions_of notes)) (only_of notes rips w a n i.1) ∙ ap (rip_view_by (partitions_of notes) n.offset) none
+    ap (rip_view_among (partitions_of notes)) (only_of notes rips w a n i.1)
+    ∙ ap (rip_view_by (partitions_of notes) n.offset) none
     ∙ ap (λ (x : ℕ). Unreadable x) i.2
 view_to notes rips w a (One r) i =
     let n = i.0 in
     ap (rip_view_among (partitions_of notes)) (only_of notes rips w a n i.1)
-    ∙ ap (rip_view_by (partitions_of notes) n.offset) ((reads (rip_at n.width) n i.2.0).1 i.2.1) ∙ ap (λ (x : RipAtParts). One x) i.2.2
+    ∙ ap (rip_view_by (partitions_of notes) n.offset) ((reads (rip_at n.width) n i.2.0).1 i.2.1)
+    ∙ ap (λ (x : RipAtParts). One x) i.2.2
 
 -- What is known is by the number of the clear random index packs.
 pub rip_view_iff : (notes : List NoteParts) (v : RipView) → IsContent notes

@@ -35,7 +35,8 @@ pack_if by none n t =
     ] refl
 
 pub partitions_at_most : (ns : List NoteParts) → count_by (is_kept kept_partition) ns ≤ count_by has_pack ns
-partitions_at_most ns = count_le (is_kept kept_partition) has_pack ns (pack_if (λ o. is_some (option_map in_numbers o)) refl)
+partitions_at_most ns = count_le (is_kept kept_partition) has_pack ns
+    (pack_if (λ o. is_some (option_map in_numbers o)) refl)
 
 pub copies_at_most : (ns : List NoteParts) → count_by states_metadata ns ≤ count_by has_pack ns
 copies_at_most ns = count_le states_metadata has_pack ns (pack_if has_some_metadata refl)

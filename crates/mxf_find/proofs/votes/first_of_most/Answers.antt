@@ -22,7 +22,8 @@ loop-vote-preserved c =
           let is = c.count_of-others.ensures in
           subst (λ (m : ℕ). IsMostSoFar xs (i + 1) m c.if-others-count.count) (sym w.most-is)
           (subst (λ (k : ℕ). IsMostSoFar xs (i + 1) (get_or xs i 0) k) (sym (w.count-is ∙ is))
-          (next_most xs i c.loop-vote.most c.loop-vote.count so c.loop-vote-test.true c.requires (omega (arith, more, is))))
+          (next_most xs i c.loop-vote.most c.loop-vote.count so c.loop-vote-test.true c.requires
+          (omega (arith, more, is))))
       | else-others-count w ↦
           let less = w.if-others-count.false in
           let is = c.count_of-others.ensures in

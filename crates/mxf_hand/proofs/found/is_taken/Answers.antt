@@ -15,8 +15,13 @@ returns-then-ends_within c = λ read starts.
     (λ t.
     let (at, lies, low, high) = c.meets.ensures.0 t in
     let (m, i, e) = (starts at).0 lies in
-    (list_any-In test read).1
-    (m, i, and_from (nat_lt n.offset m.offset) (nat_lt m.offset (end_of n)) (lt-ltb n.offset m.offset (omega (arith, low, e, from))) (lt-ltb m.offset (end_of n) (omega (arith, high, e, to)))))
+    (list_any-In test read).1 (
+      m,
+      i,
+      and_from (nat_lt n.offset m.offset) (nat_lt m.offset (end_of n))
+          (lt-ltb n.offset m.offset (omega (arith, low, e, from)))
+          (lt-ltb m.offset (end_of n) (omega (arith, high, e, to))),
+    ))
     (λ t.
     let (m, i, e) = (list_any-In test read).0 t in
     let parts = and_parts (nat_lt n.offset m.offset) (nat_lt m.offset (end_of n)) e in

@@ -44,17 +44,20 @@ returns-clause-members c = λ n.
       first = c.args.range.first;
       count = c.args.range.count;
     } in
-    moved w c.args.is_index_sought c.if-is_index_sought.asked.items c.in_order.result.items n (c.in_order.ensures.members n)
+    moved w c.args.is_index_sought c.if-is_index_sought.asked.items c.in_order.result.items n
+    (c.in_order.ensures.members n)
     (elim c.if-is_index_sought.branch [
       | then-is_index_sought+in_ok-numbers+in_ok-add_chosen b ↦
           where_sought w c.args.is_index_sought c.if-is_index_sought.asked.items n b.if-is_index_sought.true
           (both_are w c.args.named.now c.in_ok-asked.asked.items c.if-is_index_sought.asked.items b.deref.result.now n
           c.requires (b.deref.ensures.value ∙ b.in_ok-numbers.ensures) (c.in_ok-asked.ensures n)
           (subst (λ (l : List NamedPlace). In n l ↔ (In n c.in_ok-asked.asked.items ⊎ (In n c.args.named.now
-          × IsOneOf16 (MayIndexOneOf c.args.units.now b.deref.result.now) n.place))) (ap (λ v. v.items) (sym b.asked-is))
+          × IsOneOf16 (MayIndexOneOf c.args.units.now b.deref.result.now) n.place)))
+          (ap (λ v. v.items) (sym b.asked-is))
           (b.in_ok-add_chosen.ensures n)))
       | else-is_index_sought b ↦
           where_not w c.args.is_index_sought c.if-is_index_sought.asked.items n b.if-is_index_sought.false
-          (subst (λ (l : List NamedPlace). In n l ↔ IsAskedByUnit w n.place n.source) (ap (λ v. v.items) (sym b.asked-is))
+          (subst (λ (l : List NamedPlace). In n l ↔ IsAskedByUnit w n.place n.source)
+          (ap (λ v. v.items) (sym b.asked-is))
           (c.in_ok-asked.ensures n))
     ])

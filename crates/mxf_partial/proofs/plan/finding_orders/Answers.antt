@@ -14,7 +14,8 @@ returns c =
       first = c.args.range.first;
       count = c.args.range.count;
     } in
-    let known = c.in_ok-section_orders.ensures ∙ (λ i. record { notes = c.holdings-2.ensures i; at = c.at_hand.ensures i }) in
+    let known = c.in_ok-section_orders.ensures
+    ∙ (λ i. record { notes = c.holdings-2.ensures i; at = c.at_hand.ensures i }) in
     let sections = c.in_ok-sections.ensures ∙ ap sections_of c.holdings.ensures in
     found w c.is_described-is_described.result c.is_none-is_index_sought.result c.in_ok-section_orders.section_orders c.deref.result.now
     c.deref-3.result.now c.in_ok-orders.orders.items c.add_fronts.new.orders.items c.deref-4.result.now

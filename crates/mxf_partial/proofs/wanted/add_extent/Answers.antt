@@ -10,5 +10,6 @@ returns-in_ok-add c =
     subst (λ (o : Option Extent). (x : ℕ) → LiesIn c.add.new.self x
     ↔ (LiesIn c.args.cover.now x ⊎ (HasByte o x × (x < greatest_end)))) (sym c.in-Some.is)
     (added c.in-Some.extent.start c.in-Some.extent.end c.min-end.result c.args.cover.now c.add.new.self
-    (c.min-end.ensures ∙ (λ i. min (c.unwrap_or.ensures i) (most i)) ∙ (λ i. min (unwrap_or c.in-Some.extent.end (most i)) greatest_end))
+    (c.min-end.ensures ∙ (λ i. min (c.unwrap_or.ensures i) (most i))
+    ∙ (λ i. min (unwrap_or c.in-Some.extent.end (most i)) greatest_end))
     c.in_ok-add.ensures.added)

@@ -21,7 +21,8 @@ added notes held places others parts old new (Ok x) content same alike members s
     let to = λ (h : HasWay notes held others parts n).
     subst (λ ps. HasWay notes notes others ps n) alike (subst (λ l. HasWay notes l others parts n) same h) in
     let back = λ (h : HasWay notes notes others (parts_of notes) n).
-    subst (λ l. HasWay notes l others parts n) (sym same) (subst (λ ps. HasWay notes notes others ps n) (sym alike) h) in (
+    subst (λ l. HasWay notes l others parts n) (sym same)
+    (subst (λ ps. HasWay notes notes others ps n) (sym alike) h) in (
       λ i. elim ((so n).0 i) [ inl k ↦ inl k | inr k ↦ inr (ways.0 (to k)) ],
       λ h. (so n).1 (elim h [ inl k ↦ inl k | inr k ↦ inr (back (ways.1 k)) ]),
     )

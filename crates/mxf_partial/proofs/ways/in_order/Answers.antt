@@ -10,7 +10,8 @@ returns-clause-members c = λ p.
         | inl none ↦ absurd none
         | inr k ↦ subst (In p) c.in_ok-places.ensures.items k
       ],
-      λ i. subst (In p) (sym c.sort_once.ensures.members) (all.1 (inr (subst (In p) (sym c.in_ok-places.ensures.items) i))),
+      λ i. subst (In p) (sym c.sort_once.ensures.members)
+          (all.1 (inr (subst (In p) (sym c.in_ok-places.ensures.items) i))),
     )
 
 pub returns-clause-order : goal.returns-clause-order

@@ -9,7 +9,8 @@ pub returns : goal.returns
 returns c =
     let lent = c.partitions_in_numbers.result.now in
     let same : filter_map footer_claim lent ≡ filter_map footer_claim (partitions_of c.args.views.now) =
-    ap (filter_map footer_claim) c.partitions_in_numbers.ensures.partitions ∙ footers (partitions_of c.args.views.now) in
+    ap (filter_map footer_claim) c.partitions_in_numbers.ensures.partitions
+    ∙ footers (partitions_of c.args.views.now) in
     let h = items_from_extend c.extend.result c.extend.ensures.ran (YieldsList-from_filter_map _ footer_claim
     (YieldsList-from_slice lent cc) c.filter_map-found.ensures.closure (λ x r q k. search rules)) in
     search (same, rules)

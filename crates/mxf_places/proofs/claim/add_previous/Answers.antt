@@ -9,7 +9,8 @@ pub returns : goal.returns
 returns c =
     let lent = c.partitions_in_numbers.result.now in
     let same : filter_map previous_claim lent ≡ filter_map previous_claim (partitions_of c.args.views.now) =
-    ap (filter_map previous_claim) c.partitions_in_numbers.ensures.partitions ∙ previous (partitions_of c.args.views.now) in
+    ap (filter_map previous_claim) c.partitions_in_numbers.ensures.partitions
+    ∙ previous (partitions_of c.args.views.now) in
     let h = items_from_extend c.extend.result c.extend.ensures.ran (YieldsList-from_filter_map _ previous_claim
     (YieldsList-from_slice lent cc) c.filter_map-found.ensures.closure (λ x r q k. search rules)) in
     search (same, rules)

@@ -4,14 +4,16 @@ use Rattle.mxf_readings.proofs.AloneLaws.{equal-count}
 use Rattle.mxf_readings.proofs.CountLaws.{count-front}
 use Rattle.mxf_readings.proofs.readings.count_of.Goals as goal
 
-below : (c : goal.After-partition_point-up_to) → count_by (λ k. nat_lt k c.args.number) c.args.numbers.now ≡ c.partition_point-below.result
+below : (c : goal.After-partition_point-up_to)
+    → count_by (λ k. nat_lt k c.args.number) c.args.numbers.now ≡ c.partition_point-below.result
 below c =
     let point = IsPartitionPoint-from_clause (λ (k : ℕ). nat_lt k c.args.number) _ _
     c.partition_point-below.ensures.partitioned (IsPartitionedBy-ltb (λ (k : ℕ). k) _ c.args.number c.requires)
     (λ a r q k. search rules) in
     count-front (λ k. nat_lt k c.args.number) c.args.numbers.now _ c.partition_point-below.ensures.bound point.0 point.1
 
-up_to : (c : goal.After-partition_point-up_to) → count_by (λ k. nat_le k c.args.number) c.args.numbers.now ≡ c.partition_point-up_to.result
+up_to : (c : goal.After-partition_point-up_to)
+    → count_by (λ k. nat_le k c.args.number) c.args.numbers.now ≡ c.partition_point-up_to.result
 up_to c =
     let point = IsPartitionPoint-from_clause (λ (k : ℕ). nat_le k c.args.number) _ _
     c.partition_point-up_to.ensures.partitioned (IsPartitionedBy-leb (λ (k : ℕ). k) _ c.args.number c.requires)

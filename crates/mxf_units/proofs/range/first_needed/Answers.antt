@@ -16,7 +16,8 @@ step from u us = by u.key
 
 pub loop-unit-init : goal.loop-unit-init
 loop-unit-init c = record {
-  needed = ap (needed_from c.args.range.first) (c.into_iter-unit-iterator.ensures.into_iter_gives ∙ c.of-unit-items.ensures);
+  needed = ap (needed_from c.args.range.first)
+      (c.into_iter-unit-iterator.ensures.into_iter_gives ∙ c.of-unit-items.ensures);
   bound = omega arith;
 }
 

@@ -38,5 +38,6 @@ returns-clause-compared g c =
     c.read_all.new.self done c.requires.fresh c.requires.notes c.below-first.ensures.below c.below-first.ensures.above
     (λ k d l h. c.below.ensures.above k d (omega (arith, c.max-last.ensures, l)) h) (omega (arith, c.max-last.ensures))
     (omega (arith, c.max-last.ensures, c.below.ensures.bound, c.below-first.ensures.bound))
-    (c.of-reading.ensures.candidates ∙ c.in_ok-candidates.ensures.items) c.of-reading.ensures.at c.in_ok-read_all.ensures
+    (c.of-reading.ensures.candidates
+    ∙ c.in_ok-candidates.ensures.items) c.of-reading.ensures.at c.in_ok-read_all.ensures
     refl refl refl)

@@ -8,7 +8,8 @@ bytes_and_uncompared-requires-clause-ranges c = all_from_In _ c.args.seen.ranges
 
 pub bytes_and_uncompared-requires-clause-beside : goal.bytes_and_uncompared-requires-clause-beside
 bytes_and_uncompared-requires-clause-beside c =
-    subst (AllByRecursion _) (sym c.deref-2.ensures.value) (all_from_In _ c.args.seen.beside.items c.args.seen.beside_within)
+    subst (AllByRecursion _) (sym c.deref-2.ensures.value)
+    (all_from_In _ c.args.seen.beside.items c.args.seen.beside_within)
 
 pub returns : goal.returns
 returns c = λ sources is.

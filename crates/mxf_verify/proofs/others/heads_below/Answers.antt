@@ -8,4 +8,5 @@ returns c =
     let n = c.args.note.now in
     let point = IsPartitionPoint-from_clause (λ (r : Bor NoteParts). is_lt (note_cmp (head_note r.now) n)) _ _
     c.partition_point.ensures.partitioned (parted_below n _ c.requires) (λ a r q k. search rules) in
-    parted-count (λ m. is_lt (note_cmp (head_note m) n)) c.args.notes.now _ c.partition_point.ensures.bound point.0 point.1
+    parted-count (λ m. is_lt (note_cmp
+    (head_note m) n)) c.args.notes.now _ c.partition_point.ensures.bound point.0 point.1

@@ -13,5 +13,6 @@ returns c reference all offset bound bytes are compared fits =
     let told : Told = record { same = c.in_ok-same.same; differing = c.in_ok-differing.differing } in
     tells_bytes reference all offset bound bytes c.args.compared.now are compared fits told c.in_ok-held.held
     (c.in_ok-same.ensures ∙ ap (λ l. notes_of (filter (is_told_same end) l)) c.deref.ensures.value)
-    (c.in_ok-differing.ensures ∙ ap (λ l. notes_of (filter (is_told_differing end c.in_ok-held.held) l)) c.deref-3.ensures.value)
+    (c.in_ok-differing.ensures ∙ ap
+    (λ l. notes_of (filter (is_told_differing end c.in_ok-held.held) l)) c.deref-3.ensures.value)
     (subst (λ l. Covers c.in_ok-held.held (notes_at l)) c.deref-2.ensures.value c.in_ok-held.ensures)

@@ -15,7 +15,8 @@ behind_nothing (Some bytes) = refl
 through_buffer : (capacity : ℕ) (buffer : List ℕ) (known : Option (List ℕ)) → capacity ≡ 65536 → buffer ≡ []
     → cond (capacity == 0) None (prepend_known buffer known) ≡ known
 through_buffer capacity buffer known c e =
-    ap (λ n. cond (n == 0) None (prepend_known buffer known)) c ∙ ap (λ b. prepend_known b known) e ∙ behind_nothing known
+    ap (λ n. cond (n == 0) None (prepend_known buffer known)) c ∙ ap (λ b. prepend_known b known) e
+    ∙ behind_nothing known
 
 pub returns-clause-taken : goal.returns-clause-taken
 returns-clause-taken g c =

@@ -15,7 +15,8 @@ returns-in-Piece-clause-taken g c =
     (λ t. on_ok_weaker c.take_bytes.result (λ h. (
       source_at c.in-Piece.offset (bytes_of left c.in-Piece.from),
       refl,
-      at_some (left c.in-Piece.from) (λ bytes. SeesNext c.args.number (source_at c.in-Piece.offset bytes) c.args.seen.now new)
+      at_some (left c.in-Piece.from)
+          (λ bytes. SeesNext c.args.number (source_at c.in-Piece.offset bytes) c.args.seen.now new)
           [] t h,
     )) c.take_bytes.ensures.taken)
 
@@ -28,6 +29,7 @@ returns-in-Range-clause-taken g c =
     (λ t. on_ok_weaker c.take_bytes-in-Range.result (λ h. (
       source_at c.in-Range.offset (bytes_of left c.in-Range.from),
       refl,
-      at_some (left c.in-Range.from) (λ bytes. SeesNext c.args.number (source_at c.in-Range.offset bytes) c.args.seen.now new)
+      at_some (left c.in-Range.from)
+          (λ bytes. SeesNext c.args.number (source_at c.in-Range.offset bytes) c.args.seen.now new)
           [] t h,
     )) c.take_bytes-in-Range.ensures.taken)

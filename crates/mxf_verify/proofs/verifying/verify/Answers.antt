@@ -10,7 +10,8 @@ parts-init g c =
     c.into_iter-part-iterator.ensures.into_iter_gives.0 in
     record {
       passed = subst (IsPassed all 0) (sym is) (passed_none all);
-      seen = λ t. subst (λ (l : List _). HasSeen g.R.Read.remaining c.args.reference.now all 0 l c.in_ok-seen.seen) (sym is)
+      seen = λ t. subst (λ (l : List _). HasSeen g.R.Read.remaining c.args.reference.now all 0 l c.in_ok-seen.seen)
+          (sym is)
           (seen_nothing g.R.Read.remaining c.args.reference.now all c.in_ok-seen.seen c.in_ok-seen.ensures);
     }
 
@@ -49,6 +50,7 @@ pub returns-clause-verified : goal.returns-clause-verified
 returns-clause-verified g c t =
     let none : length (into_iter_items c.parts.part-iterator) ≡ 0 =
     sym c.parts.part-iterator.rest.ok.0 ∙ c.in-None.ensures.steps.0 in
-    let all = seen_all g.R.Read.remaining c.args.reference.now c.args.parts.items (into_iter_items c.parts.part-iterator)
+    let all = seen_all g.R.Read.remaining c.args.reference.now c.args.parts.items
+    (into_iter_items c.parts.part-iterator)
     c.parts.number _ (c.parts.invariant.seen t) none in
     (all.0, all.1, c.in_ok-finish.ensures all.0 all.2)

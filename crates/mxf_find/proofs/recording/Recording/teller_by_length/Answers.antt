@@ -25,5 +25,6 @@ returns-then-is_sound-clause-some c =
 pub returns-else-is_sound-clause-none : goal.returns-else-is_sound-clause-none
 returns-else-is_sound-clause-none c =
     let is = lent _ _ c.args.self.now c.deref.result.now c.self.invariant c.self.view_is c.deref.ensures.value in
-    length_unsound c.args.self.now c.deref.result.now is c.args.note.now (Some c.in_ok-only.only.now) c.in_ok-only.ensures
+    length_unsound c.args.self.now c.deref.result.now is c.args.note.now
+    (Some c.in_ok-only.only.now) c.in_ok-only.ensures
     c.in_ok-only.only.now refl (sym c.if-is_sound.ensures)

@@ -21,7 +21,8 @@ pub returns-then-is_head-clause-none : goal.returns-then-is_head-clause-none
 returns-then-is_head-clause-none c =
     let is = lent _ _ c.args.self.now c.deref.result.now c.self.invariant c.self.view_is c.deref.ensures.value in
     let head : c.in_ok-only.only.now.whole ≡ false = grind (arith, c.if-is_head.ensures) in
-    value_unsound c.args.self.now c.deref.result.now is c.args.note.now (Some c.in_ok-only.only.now) c.in_ok-only.ensures
+    value_unsound c.args.self.now c.deref.result.now is c.args.note.now
+    (Some c.in_ok-only.only.now) c.in_ok-only.ensures
     c.in_ok-only.only.now refl (either_false _ _ head)
 
 pub returns-then-is_sound-clause-some : goal.returns-then-is_sound-clause-some
@@ -34,5 +35,6 @@ returns-then-is_sound-clause-some c =
 pub returns-else-is_sound-clause-none : goal.returns-else-is_sound-clause-none
 returns-else-is_sound-clause-none c =
     let is = lent _ _ c.args.self.now c.deref.result.now c.self.invariant c.self.view_is c.deref.ensures.value in
-    value_unsound c.args.self.now c.deref.result.now is c.args.note.now (Some c.in_ok-only.only.now) c.in_ok-only.ensures
+    value_unsound c.args.self.now c.deref.result.now is c.args.note.now
+    (Some c.in_ok-only.only.now) c.in_ok-only.ensures
     c.in_ok-only.only.now refl (or_false _ _ (sym c.if-is_sound.ensures))

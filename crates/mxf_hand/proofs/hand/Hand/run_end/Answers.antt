@@ -6,7 +6,8 @@ use Rattle.mxf_hand.proofs.hand.Hand.run_end.Goals as goal
 pub returns-in_err-run : goal.returns-in_err-run
 returns-in_err-run c =
     c.from_residual.ensures
-    ∙ sym (run_end-none c.self.inside.runs c.args.offset (sym c.runs_between.ensures.runs ∙ c.in_err-run.ensures.steps.0))
+    ∙ sym (run_end-none c.self.inside.runs c.args.offset
+    (sym c.runs_between.ensures.runs ∙ c.in_err-run.ensures.steps.0))
     ∙ ap (λ (a : HandParts). run_end a.runs c.args.offset) c.self.view_is
 
 pub returns-then-run-offset : goal.returns-then-run-offset

@@ -11,7 +11,8 @@ invariant_of-result c =
     let note = λ (h : HeadNote). h.0.now in
     let is_head = λ (n : NoteParts). not n.whole in
     let notes = c.args.catalogue.now in
-    let h = map_from_collect c.collect.result c.collect.ensures.ran (YieldsList-from_map_by _ note (λ (n : NoteParts). n)
+    let h = map_from_collect c.collect.result c.collect.ensures.ran
+    (YieldsList-from_map_by _ note (λ (n : NoteParts). n)
     (YieldsList-at c.map.ensures.source (YieldsList-from_filter _ is_head
     (YieldsList-from_first (λ n. n.now) (λ s. s) notes cc) c.filter-notes.ensures.closure (λ x r q k. search rules)))
     c.map.ensures.closure (λ x r q k. search rules)) in

@@ -28,7 +28,8 @@ returns-clause-lines g c =
     ∷ units_line last.units last.held last.hand last.from ∷ [])) ≡ unit_plan_lines w c.args.plan.now = λ i.
     flat_map (λ (o : Order). restore_line o ∷ []) (orders i)
     ++ (lines_where (λ (d : Disputes). disputes_line d ∷ []) (disputes i)
-    ++ (planned_line (length (orders i)) (sum_by ordered_bytes (orders i)) (count_by (λ (o : Order). is_none o.end) (orders i))
+    ++ (planned_line (length (orders i)) (sum_by ordered_bytes (orders i))
+    (count_by (λ (o : Order). is_none o.end) (orders i))
     (end i) ∷ units_line (many i) (told.held i) (told.hand i) (told.from i) ∷ [])) in
     subst (Prints c.args.printer.now.fields.form (Puts {X = Unit {0}} g.W.Write.contents c.args.writer.now
     c.print_with_status.new.writer c.args.printer.now.progress c.print_with_status.new.printer.progress)
@@ -44,5 +45,6 @@ returns-clause-status g c =
     let orders = c.orders-orders.ensures in
     let disputes = c.told_disputes-disputes.ensures in
     let same : c.status_of.result ≡ unit_plan_status w c.args.plan.now = c.status_of.ensures
-    ∙ (λ i. if length (orders i) == 0 && is_none (disputes i) then (if told.held i + told.hand i == many i then 0 else 1) else 1) in
+    ∙ (λ i. if length (orders i) == 0
+    && is_none (disputes i) then (if told.held i + told.hand i == many i then 0 else 1) else 1) in
     subst (λ (k : ℕ). IfOk c.print_with_status.result (λ (s : ℕ). s ≡ k)) same c.print_with_status.ensures.status

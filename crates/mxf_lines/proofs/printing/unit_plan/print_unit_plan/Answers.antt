@@ -26,8 +26,10 @@ returns-clause-lines g c = λ p is.
     let range = c.args.range in
     let w = asked_of c.args.index range c.args.at_hand.now c.args.views.now in
     let own = c.in_ok-plan.plan in
-    let plan : IsUnitPlan w own = subst (λ (u : UnitsParts). IsUnitPlan (wanted_of u range) own) c.in_ok-units.ensures c.in_ok-plan.ensures in
-    let printed = subst (λ (u : UnitsParts). Prints c.args.form (Writes {X = Unit {0}} (g.W.Write.contents c.args.writer.now)
+    let plan : IsUnitPlan w own = subst
+    (λ (u : UnitsParts). IsUnitPlan (wanted_of u range) own) c.in_ok-units.ensures c.in_ok-plan.ensures in
+    let printed = subst (λ (u : UnitsParts). Prints c.args.form
+    (Writes {X = Unit {0}} (g.W.Write.contents c.args.writer.now)
     (g.W.Write.contents c.print_planned.new.writer)) c.print_planned.result (unit_plan_lines (wanted_of u range) own))
     c.in_ok-units.ensures c.print_planned.ensures.lines in
     subst (λ (k : UnitPlanParts). Prints c.args.form (Writes {X = Unit {0}} (g.W.Write.contents c.args.writer.now)
@@ -39,8 +41,10 @@ returns-clause-status g c = λ p is.
     let range = c.args.range in
     let w = asked_of c.args.index range c.args.at_hand.now c.args.views.now in
     let own = c.in_ok-plan.plan in
-    let plan : IsUnitPlan w own = subst (λ (u : UnitsParts). IsUnitPlan (wanted_of u range) own) c.in_ok-units.ensures c.in_ok-plan.ensures in
-    let status = subst (λ (u : UnitsParts). IfOk c.print_planned.result (λ (s : ℕ). s ≡ unit_plan_status (wanted_of u range) own))
+    let plan : IsUnitPlan w own = subst
+    (λ (u : UnitsParts). IsUnitPlan (wanted_of u range) own) c.in_ok-units.ensures c.in_ok-plan.ensures in
+    let status = subst (λ (u : UnitsParts). IfOk c.print_planned.result
+    (λ (s : ℕ). s ≡ unit_plan_status (wanted_of u range) own))
     c.in_ok-units.ensures c.print_planned.ensures.status in
     subst (λ (k : UnitPlanParts). IfOk c.print_planned.result (λ (s : ℕ). s ≡ unit_plan_status w k))
     (one_plan w own p plan is) status

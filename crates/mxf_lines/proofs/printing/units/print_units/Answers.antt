@@ -21,7 +21,8 @@ loop-unit-init g c =
     let counts : held_count c.into_iter-unit-iterator.result ≡ held_count units = ap held_count items in
     let others : hand_count c.into_iter-unit-iterator.result ≡ hand_count units = ap hand_count items in
     record {
-      lines = leads_first (ap (λ (us : List EditUnit). flat_map (λ u. unit_line u ∷ []) us ++ last_line first units ∷ []) items);
+      lines = leads_first (ap (λ (us : List EditUnit). flat_map (λ u. unit_line u ∷ []) us
+          ++ last_line first units ∷ []) items);
       units = ap (λ (l : UnitsLine). l.units) c.of_none-last.ensures;
       held = omega (arith, none, counts);
       hand = omega (arith, no_hand, others);
@@ -39,7 +40,8 @@ returns-in_err-print_to-clause-lines g c =
     (g.W.Write.contents c.print_to.new.writer) c.args.printer.now.progress.written
     c.print_to.new.printer.progress.written c.in_err-print_to.field-0.0 (unit_lines first units)
     (leads_failed (g.W.Write.contents c.print_to.new.writer) c.print_to.new.printer.progress.written
-    c.in_err-print_to.field-0.0 (unit_line c.in-Some.unit ∷ []) (flat_map (λ u. unit_line u ∷ []) c.next.new.self ++ last)
+    c.in_err-print_to.field-0.0 (unit_line c.in-Some.unit ∷ [])
+    (flat_map (λ u. unit_line u ∷ []) c.next.new.self ++ last)
     (ap (λ (us : List EditUnit). flat_map (λ u. unit_line u ∷ []) us ++ last) c.in-Some.ensures.steps)
     c.loop-unit.invariant.lines c.in_err-print_to.ensures.lines))
 
@@ -86,7 +88,8 @@ returns-in_err-print_to-2-clause-lines g c =
     (g.W.Write.contents c.print_to-2.new.writer) c.args.printer.now.progress.written
     c.print_to-2.new.printer.progress.written c.in_err-print_to-2.field-0.0 (unit_lines first units)
     (answered first units _ _ _ _ _ c.in-None.ensures.steps.0 many inv.held inv.hand inv.from inv.lines
-    (g.W.Write.contents c.print_to-2.new.writer) c.print_to-2.new.printer.progress.written (Err c.in_err-print_to-2.field-0.0)
+    (g.W.Write.contents c.print_to-2.new.writer) c.print_to-2.new.printer.progress.written
+    (Err c.in_err-print_to-2.field-0.0)
     c.in_err-print_to-2.ensures.lines))
 
 pub returns-clause-lines : goal.returns-clause-lines

@@ -8,5 +8,6 @@ pub returns : goal.returns
 returns c =
     let notes = c.args.holdings.now in
     missing_members notes _ _ (c.in_ok-places.ensures
-    ∙ ap (λ (claims : List Claim). filter_map (missing_place notes) claims) (c.deref.ensures.value ∙ c.in_ok-claims.ensures))
+    ∙ ap (λ (claims : List Claim). filter_map (missing_place notes) claims)
+    (c.deref.ensures.value ∙ c.in_ok-claims.ensures))
     c.sort_unstable.ensures.permutation

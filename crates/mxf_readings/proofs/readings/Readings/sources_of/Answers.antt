@@ -7,9 +7,11 @@ use Rattle.mxf_readings.proofs.readings.Readings.sources_of.Goals as goal
 
 -- The sources of a range of holdings are the same range of the sources.
 range_sources : (hs : List HoldingParts) (a b : ℕ)
-    → drop a (take b (map (λ (h : HoldingParts). h.source) hs)) ≡ map (λ (h : HoldingParts). h.source) (drop a (take b hs))
+    → drop a (take b (map (λ (h : HoldingParts). h.source) hs))
+    ≡ map (λ (h : HoldingParts). h.source) (drop a (take b hs))
 range_sources hs a b =
-    ap (drop a) (take-map (λ (h : HoldingParts). h.source) b hs) ∙ drop-map (λ (h : HoldingParts). h.source) a (take b hs)
+    ap (drop a) (take-map (λ (h : HoldingParts). h.source) b hs)
+    ∙ drop-map (λ (h : HoldingParts). h.source) a (take b hs)
 
 pub returns : goal.returns
 returns c =

@@ -17,7 +17,8 @@ invariant_of-self c =
     let put : set cs i (also c.args.is_same (get_or cs i d)) ≡ set cs i c.also-candidate.result =
     ap (λ (x : Candidate). set cs i x) (sym made) in record {
       rising = subst (IsNonDecreasingBy offset_of) put (rises_said cs i c.args.is_same d within s.rising);
-      passed = subst (AreSettled s.settled s.at) put (settled_said s.settled s.at cs i c.args.is_same d within s.passed);
+      passed = subst (AreSettled s.settled s.at) put
+          (settled_said s.settled s.at cs i c.args.is_same d within s.passed);
       within = s.within;
     }
 

@@ -28,7 +28,8 @@ ended c =
 
 pub overflow_sub-result : goal.overflow_sub-result
 overflow_sub-result c =
-    ended-begun c.args.note.now c.self.inside.catalogue.now c.below-begun.result c.up_to-ended.result (begun c) (ended c)
+    ended-begun c.args.note.now c.self.inside.catalogue.now c.below-begun.result c.up_to-ended.result (begun c)
+    (ended c)
 
 pub returns : goal.returns
 returns c =

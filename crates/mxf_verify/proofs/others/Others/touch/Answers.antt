@@ -20,7 +20,8 @@ heads_below-requires c =
     subst (λ rs. IsContent (notes_at rs)) (sym c.deref-4.ensures.value) c.self.invariant.catalogue.content
 
 begun : (c : goal.After-heads_below)
-    → c.below-begun.result ≡ count_by (λ m. nat_lt m.offset (covered_end c.args.note.now)) (notes_at c.self.inside.notes.items)
+    → c.below-begun.result ≡ count_by (λ m. nat_lt m.offset (covered_end c.args.note.now))
+    (notes_at c.self.inside.notes.items)
 begun c =
     let b = c.below-begun.ensures in
     begun-count _ _ _ _ c.covered_end.result c.below-begun.result c.self.invariant c.deref.ensures.value b.bound b.below
@@ -28,7 +29,8 @@ begun c =
     ∙ ap (λ e. count_by (λ m. nat_lt m.offset e) (notes_at c.self.inside.notes.items)) c.covered_end.ensures.covered
 
 ended : (c : goal.After-heads_below)
-    → c.up_to-ended.result ≡ count_by (λ m. nat_le (covered_end m) c.args.note.now.offset) (notes_at c.self.inside.notes.items)
+    → c.up_to-ended.result ≡ count_by (λ m. nat_le (covered_end m) c.args.note.now.offset)
+    (notes_at c.self.inside.notes.items)
 ended c =
     let u = c.up_to-ended.ensures in
     ended-count _ _ _ _ c.offset.result c.up_to-ended.result c.self.invariant c.deref-2.ensures.value u.bound u.below

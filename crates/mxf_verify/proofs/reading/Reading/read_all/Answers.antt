@@ -134,7 +134,8 @@ returns g c =
         place,
         record {
           taken = subst (λ l. HasTaken offset l place notes c.read_rest.new.self.comparison)
-              (append_assoc bytes more t.more) (t.taken offset (bytes ++ more) place notes (taken offset bytes notes h));
+              (append_assoc bytes more t.more)
+              (t.taken offset (bytes ++ more) place notes (taken offset bytes notes h));
           left = λ j x l m q. absurd (omega (
             arith,
             l,

@@ -35,7 +35,8 @@ returns-then-has c =
       dropped = sym (ap (λ l. c.args.self.now.dropped ++ l) (not_opposed-dropped n later f)
           ∙ append-nil c.args.self.now.dropped);
       dropped_essence = let none = ap length (spared-essence n later f) in omega (arith, none);
-      had_essence = let count = ap length (had-essence n later h) in omega (arith, count, c.count_of_essence-then-has.ensures);
+      had_essence = let count = ap length (had-essence n later h) in
+          omega (arith, count, c.count_of_essence-then-has.ensures);
     }
 
 pub returns : goal.returns

@@ -4,7 +4,8 @@ use Rattle.mxf_sets.proofs.ReferenceLemmas.{sixteens-at, sixteens-past}
 use Rattle.mxf_sets.proofs.record.references.References.get.Goals as goal
 
 pub returns-then-at-self : goal.returns-then-at-self
-returns-then-at-self c = cc (sixteens-past (length c.self.inside.bytes.now / 16) c.args.at c.self.inside.bytes.now c.if-at-self.true)
+returns-then-at-self c = cc (sixteens-past
+    (length c.self.inside.bytes.now / 16) c.args.at c.self.inside.bytes.now c.if-at-self.true)
 
 pub returns : goal.returns
 returns c =
