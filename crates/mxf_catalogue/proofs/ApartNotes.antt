@@ -27,8 +27,7 @@ above_first low y n ys rest a =
     begins_above (end_of y) (ys ++ n ∷ rest) n a.1 ((In-append n ys (n ∷ rest)).1 (inr (inl refl)))
 
 pub rest_above : (low : ℕ) (before rest : List NoteParts) (n x : NoteParts) → AreApart low (before ++ n ∷ rest)
-    → In x rest
-    → n.offset ≤ x.offset
+    → In x rest → n.offset ≤ x.offset
 rest_above low [] rest n x a h =
     let g : end_of n ≤ x.offset = begins_above (end_of n) rest x a.1 h in omega (arith, g)
 rest_above low (y ∷ ys) rest n x a h = rest_above (end_of y) ys rest n x a.1 h
@@ -44,8 +43,7 @@ cut_there low (y ∷ ys) rest n x a (inr h) = cut_there (end_of y) ys rest n x a
 
 -- Of notes apart only the first stands where the fills end.
 pub first_there : (reached : ℕ) (n m : NoteParts) (left : List NoteParts) → AreApart reached (n ∷ left)
-    → In m (n ∷ left)
-    → m.offset ≡ reached → m ≡ n
+    → In m (n ∷ left) → m.offset ≡ reached → m ≡ n
 first_there reached n m left a (inl e) q = e
 first_there reached n m left a (inr h) q =
     let l : reached ≤ n.offset = a.0 in

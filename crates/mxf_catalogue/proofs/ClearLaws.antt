@@ -71,8 +71,7 @@ clear_after x notes new n =
                     x,
                     added,
                     other,
-                    with_whole x n (subst (λ
-                        (y : NoteParts). SharesByte y n) e d.3),
+                    with_whole x n (subst (λ (y : NoteParts). SharesByte y n) e d.3),
                   )
                   | inr ne ↦ c.undisputed (d.0, (all d.0).1 (inr (d.1, ne)), d.2, d.3)
                 ];

@@ -20,8 +20,7 @@ AreMaximal-with_run low r [] l b m = (l, b, tt)
 AreMaximal-with_run low r (s ∷ runs) l b m =
     let c : low ≤ s.start = m.0 in
     let d : s.start < s.end = m.1 in
-    with_run_cases r s runs (AreMaximal low)
-    (λ e. (l, b, (omega arith, m.1, m.2)))
+    with_run_cases r s runs (AreMaximal low) (λ e. (l, b, (omega arith, m.1, m.2)))
     (λ e. (m.0, m.1, AreMaximal-with_run (s.end + 1) r runs (omega arith) b m.2))
     (λ e f. AreMaximal-with_run low (both r s) runs (omega arith) (omega arith)
     (AreMaximal-lower low (s.end + 1) runs (omega arith) m.2))
@@ -88,8 +87,7 @@ with_run_at low r (s ∷ ss) zero (suc b) m la lb f g h k n =
     (λ j d _ l. let t : (get_or ss j d).start ≤ r.end = h (suc j) d (omega arith) (omega arith) in omega arith)
     (λ j d l o.
     let t : r.end < (get_or ss j d).start = k (suc j) d (omega arith) (omega arith) in
-    let u = above (s.end + 1) ss j d m.2 o in omega (arith, u))
-    (omega arith) in
+    let u = above (s.end + 1) ss j d m.2 o in omega (arith, u)) (omega arith) in
     with_run_cases r s ss (λ l. l ≡ spanned (both r s) (take b ss) ∷ drop b ss)
     (λ e. absurd (omega arith)) (λ e. absurd (omega arith)) (λ e t. ih)
 

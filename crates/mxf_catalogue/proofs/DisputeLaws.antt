@@ -190,8 +190,7 @@ undisputed-alone m n notes h k e =
 -- an undisputed note with an offset is the first with it among the undisputed notes
 pub undisputed_at-found : (offset : ℕ) (notes : List NoteParts) (n : NoteParts) → In n (undisputed_notes notes)
     → n.offset ≡ offset → find (λ n. n.offset == offset) (undisputed_notes notes) ≡ Some n
-undisputed_at-found offset notes n h at =
-    find-only (λ (m : NoteParts). m.offset == offset) (undisputed_notes notes) n h
+undisputed_at-found offset notes n h at = find-only (λ (m : NoteParts). m.offset == offset) (undisputed_notes notes) n h
     (eq-eqb _ _ at) (λ m k t.
     undisputed-alone m n notes k ((In-undisputed_notes n notes).0 h).0 (eqb-true _ _ t ∙ sym at))
 
@@ -205,9 +204,7 @@ pub clear_at-found : (offset : ℕ) (notes : List NoteParts) (n : NoteParts) →
     → find (λ n. n.offset == offset) (clear_notes notes) ≡ Some n
 clear_at-found offset notes n clear at = grind (arith, In-clear_notes, clear-alone, eq-eqb, eqb-true, find-only)
 
-pub clear_at-lacked : (offset : ℕ) (notes : List NoteParts)
-    → ((n : NoteParts) → IsClear n notes → n.offset ≢ offset)
+pub clear_at-lacked : (offset : ℕ) (notes : List NoteParts) → ((n : NoteParts) → IsClear n notes → n.offset ≢ offset)
     → find (λ n. n.offset == offset) (clear_notes notes) ≡ None
-clear_at-lacked offset notes none =
-    find-none (λ (m : NoteParts). m.offset == offset) (clear_notes notes)
+clear_at-lacked offset notes none = find-none (λ (m : NoteParts). m.offset == offset) (clear_notes notes)
     (λ n h t. none n ((In-clear_notes n notes).0 h) (eqb-true _ _ t))

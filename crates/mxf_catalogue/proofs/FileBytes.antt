@@ -61,8 +61,7 @@ fixed_parts_from : (g h : FixedPart) → g.offset ≡ h.offset → g.key ≡ h.k
 fixed_parts_from g h a b c d i = record { offset = a i; key = b i; width = c i; length = d i }
 
 pub same_fixed_part : (g h : FixedPart) (xs ys : List ℕ) → IsFixedPart g → IsFixedPart h
-    → fixed_bytes g ++ xs ≡ fixed_bytes h ++ ys
-    → (g ≡ h) × (xs ≡ ys)
+    → fixed_bytes g ++ xs ≡ fixed_bytes h ++ ys → (g ≡ h) × (xs ≡ ys)
 same_fixed_part g h xs ys p q e = grind (arith, fixed_parts_from, regrouped, same_front, same_number)
 
 -- ---- notes
@@ -87,8 +86,7 @@ notes_from : (m n : NoteParts) → fixed_part_of m ≡ fixed_part_of n → m.who
 notes_from m n e w f i = record
     { offset = (e i).offset; key = (e i).key; width = (e i).width; length = (e i).length; whole = w i; held = f i }
 
-laid : (v : Version) (n : NoteParts) (xs : List ℕ)
-    → note_bytes v n ++ xs
+laid : (v : Version) (n : NoteParts) (xs : List ℕ) → note_bytes v n ++ xs
     ≡ fixed_bytes (fixed_part_of n) ++ (mark_bytes v (mark_of n.whole) ++ (n.held ++ xs))
 laid v n xs = grind (arith, append_assoc)
 
@@ -103,8 +101,7 @@ same_mark v a b xs ys h k e = grind arith
 
 -- two fixed parts with their marks at the front of one text are one
 pub same_parts : (v : Version) (g h : FixedPart) (a b : ℕ) (xs ys : List ℕ) → IsFixedPart g → IsFixedPart h
-    → IsMarkIn v a → IsMarkIn v b
-    → fixed_bytes g ++ (mark_bytes v a ++ xs) ≡ fixed_bytes h ++ (mark_bytes v b ++ ys)
+    → IsMarkIn v a → IsMarkIn v b → fixed_bytes g ++ (mark_bytes v a ++ xs) ≡ fixed_bytes h ++ (mark_bytes v b ++ ys)
     → (g ≡ h) × (a ≡ b) × (xs ≡ ys)
 same_parts v g h a b xs ys p q i j e = grind (arith, same_fixed_part, same_mark)
 
@@ -205,8 +202,7 @@ pub length-start_bytes : (v : Version) (count : ℕ) → length (start_bytes v c
 length-start_bytes v count = omega (arith, length-number_bytes count)
 
 pub front_begins : (v : Version) (bytes rest : List ℕ) (count : ℕ) → count < 2 ^ 64
-    → bytes ≡ start_bytes v count ++ rest
-    → IsFront v bytes count [] rest
+    → bytes ≡ start_bytes v count ++ rest → IsFront v bytes count [] rest
 front_begins v bytes rest count h e = grind arith
 
 pub front_next : (v : Version) (bytes rest more : List ℕ) (count : ℕ) (notes : List NoteParts) (n : NoteParts)

@@ -188,8 +188,7 @@ parts_at v bytes long h =
 
 -- what bytes are
 abbrev pub IsFileOrRefused : List ℕ → Type 0
-IsFileOrRefused bytes =
-    ((notes : List NoteParts) × IsFileOf bytes notes)
+IsFileOrRefused bytes = ((notes : List NoteParts) × IsFileOf bytes notes)
     ⊎ ((fault : FileFault) × (fault ≢ OutOfMemory) × IsRefused bytes fault)
 
 -- what longer fronts come to
@@ -292,8 +291,7 @@ note_there v f mark rest more b good long =
         held = omega (arith, length-take k more);
       };
       can_have = marked_in v mark n b.marked refl;
-      whole = b.whole
-          ∙ ap behind (λ i. mark_bytes v (sym (mark_back mark good.1) i) ++ sym (take-append-drop k more) i)
+      whole = b.whole ∙ ap behind (λ i. mark_bytes v (sym (mark_back mark good.1) i) ++ sym (take-append-drop k more) i)
           ∙ ap behind (sym (append_assoc marks held (drop k more)))
           ∙ sym (append_assoc (fixed_bytes f) (marks ++ held) (drop k more));
     }
@@ -324,8 +322,7 @@ behind_mark v bytes rest more count notes f mark front lt b are next =
             let len = ap length b.whole in
             let parts = length-parts v f mark more b.fixed.key in
             behind_note v bytes rest (drop k more) count notes (marked_note f mark (take k more)) front lt
-            (note_there v f mark rest more b good long)
-            (AreBytes-drop k more (bytes_after (mark_bytes v mark) more
+            (note_there v f mark rest more b good long) (AreBytes-drop k more (bytes_after (mark_bytes v mark) more
             (bytes_after (fixed_bytes f) (mark_bytes v mark ++ more) (subst AreBytes b.whole are))))
             (omega (arith, len, parts, ahead_from v, length-drop k more)) next
       ]
@@ -349,8 +346,7 @@ all_steps : (v : Version) (most : ℕ) (bytes rest : List ℕ) (count : ℕ) (no
     → IsFront v bytes count notes rest → AreBytes rest → length rest ≤ most → IsFileOrRefused bytes
 all_steps v zero bytes rest count notes f are l =
     one_step v bytes rest count notes f are (λ n more g k lt. absurd (omega arith))
-all_steps v (suc most) bytes rest count notes f are l =
-    one_step v bytes rest count notes f are
+all_steps v (suc most) bytes rest count notes f are l = one_step v bytes rest count notes f are
     (λ n more g k lt. all_steps v most bytes more count (notes ++ n ∷ []) g k (omega arith))
 
 -- each byte is that of a version or of none
@@ -392,8 +388,7 @@ behind_start bytes are begins known long =
     (bytes_after (start_bytes is.0 count.number) left (subst AreBytes whole are)) (omega arith)
 
 pub file_or_refused : (bytes : List ℕ) → AreBytes bytes → IsFileOrRefused bytes
-file_or_refused bytes are =
-    elim (by_test (bytes_eq (take 7 bytes) (take (length bytes) magic)) (BeginsAsFile bytes)
+file_or_refused bytes are = elim (by_test (bytes_eq (take 7 bytes) (take (length bytes) magic)) (BeginsAsFile bytes)
     (bytes_eq-Decides (take 7 bytes) (take (length bytes) magic))) [
       | inr never ↦ inr (BadMagic, λ e. cc, never)
       | inl begins ↦ elim (known_version (slice_get bytes 7)) [

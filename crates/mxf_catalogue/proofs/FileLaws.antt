@@ -139,8 +139,7 @@ same_walk v count before [] (k ∷ ks) x y r s a b g h c d i j l m t e f =
     (record {
       note = b.0;
       can_have = h.0;
-      whole = t
-          ∙ append_assoc (note_bytes v k) (flat_map (note_bytes v) ks) y;
+      whole = t ∙ append_assoc (note_bytes v k) (flat_map (note_bytes v) ks) y;
     }) next (AreReduced-front before ks k j))
 same_walk v count before (k ∷ ks) [] x y r s a b g h c d i j l m t e f =
     let at : before ++ [] ≡ before = append-nil before in
@@ -151,8 +150,7 @@ same_walk v count before (k ∷ ks) [] x y r s a b g h c d i j l m t e f =
     (record {
       note = a.0;
       can_have = g.0;
-      whole = sym t
-          ∙ append_assoc (note_bytes v k) (flat_map (note_bytes v) ks) x;
+      whole = sym t ∙ append_assoc (note_bytes v k) (flat_map (note_bytes v) ks) x;
     }) next (AreReduced-front before ks k i))
 same_walk v count before (n ∷ ns) (k ∷ ks) x y r s a b g h c d i j l m t e f =
     let same = same_note v n k (flat_map (note_bytes v) ns ++ x) (flat_map (note_bytes v) ks ++ y) a.0 b.0 g.0 h.0
@@ -182,8 +180,7 @@ record Late (bytes : List ℕ) (r : Result (List NoteParts) FileFault) : Type 0 
   pub ends : EndsWith version count notes rest r
 
 abbrev Early : List ℕ → Result (List NoteParts) FileFault → Type 0
-Early bytes r =
-    ((r ≡ Err BadMagic) × ¬ BeginsAsFile bytes)
+Early bytes r = ((r ≡ Err BadMagic) × ¬ BeginsAsFile bytes)
     ⊎ ((r ≡ Err BadVersion) × BeginsAsFile bytes × (v : ℕ) × (slice_get bytes 7 ≡ Some v) × IsUnknownVersion v)
     ⊎ ((r ≡ Err (Truncated 0)) × BeginsAsFile bytes × ((v : ℕ) → slice_get bytes 7 ≡ Some v → IsKnownVersion v)
     × (length bytes < 16))

@@ -54,8 +54,7 @@ fixed_part_split bytes a key b c d offset width len e o k r long w l p h =
     record {
       fixed = record {
         offset = o;
-        key = ap length k
-            ∙ omega (arith, length-take 16 a);
+        key = ap length k ∙ omega (arith, length-take 16 a);
         width = rw (sym at) at fits;
         length = p;
       };
@@ -96,8 +95,7 @@ above_last notes last n b at r e =
 
 -- the note that holds the first of the bytes behind the mark of a whole packet
 pub noted : (h : FixedPart) (n : NoteParts) (bytes held more key : List ℕ) (count : ℕ) → CanBeNoted h
-    → count ≡ cond (keeps h.key h.length) h.length 32 → key ≡ h.key
-    → n ≡ note_parts h.offset key h.width h.length held
+    → count ≡ cond (keeps h.key h.length) h.length 32 → key ≡ h.key → n ≡ note_parts h.offset key h.width h.length held
     → held ≡ take count bytes → more ≡ drop count bytes → count ≤ length bytes → NoteBehindMark h 0 bytes n more
 noted h n bytes held more key count g many k is d m long =
     grind (

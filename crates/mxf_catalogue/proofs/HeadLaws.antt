@@ -71,13 +71,10 @@ AreReduced-reduced_union a (n ∷ b) p =
     AreReduced-reduced_union (reduced_with n a) b (AreReduced-reduced (with_note n a))
 
 -- note after note, or all at once
-pub reduced_union-is : (a b : List NoteParts) → IsContent a → AreReduced a
-    → reduced_union a b ≡ reduced (union_of a b)
-reduced_union-is a b r p =
-    one_reduced (reduced_union a b) (reduced (union_of a b)) (IsContent-reduced_union a b r)
+pub reduced_union-is : (a b : List NoteParts) → IsContent a → AreReduced a → reduced_union a b ≡ reduced (union_of a b)
+reduced_union-is a b r p = one_reduced (reduced_union a b) (reduced (union_of a b)) (IsContent-reduced_union a b r)
     (IsContent-reduced (union_of a b) (IsContent-union_of a b r)) (AreReduced-reduced_union a b p)
-    (AreReduced-reduced (union_of a b))
-    (λ n.
+    (AreReduced-reduced (union_of a b)) (λ n.
     let u = has-reduced_union n a b in
     let v = has-reduced n (union_of a b) in
     let w = has-union_of n a b in (λ h. v.1 (w.1 (u.0 h)), λ h. u.1 (w.0 (v.0 h))))
@@ -88,8 +85,7 @@ pub reduced_union-all : (a b : List NoteParts) → IsContent a → AreReduced a 
 reduced_union-all a b r p s =
     one_reduced (reduced_union [] (union_of a b)) (reduced_union a b) (IsContent-reduced_union [] (union_of a b) tt)
     (IsContent-reduced_union a b r) (AreReduced-reduced_union [] (union_of a b) (λ x i k. i))
-    (AreReduced-reduced_union a b p)
-    (λ n.
+    (AreReduced-reduced_union a b p) (λ n.
     let u = has-reduced_union n [] (union_of a b) in
     let v = has-reduced_union n a b in
     let w = has-union_of n a b in (
@@ -117,8 +113,7 @@ reduced_union-none b r p =
 -- a note that the content has changes nothing
 pub reduced_with-present : (n : NoteParts) (notes : List NoteParts) → IsContent notes → AreReduced notes
     → has_note notes n → reduced_with n notes ≡ notes
-reduced_with-present n notes r p h =
-    one_reduced (reduced_with n notes) notes (IsContent-reduced_with n notes r) r
+reduced_with-present n notes r p h = one_reduced (reduced_with n notes) notes (IsContent-reduced_with n notes r) r
     (AreReduced-reduced (with_note n notes)) p
     (λ m. let w = has-reduced_with m n notes in (
       λ k. elim (w.0 k) [

@@ -43,8 +43,7 @@ kept_with_clear x c d few is k new alone far = record {
 -- the run of a note with the clear notes that it touches
 pub hull-IsRun : (x : NoteParts) (c d : List NoteParts) → IsNote x → AreNoteLists c d
     → IsRun (spanned (run_of x) (map run_of (touching x c)))
-hull-IsRun x c d is p =
-    spanned-IsRun (run_of x) (touching x c) (run_of-IsRun x is)
+hull-IsRun x c d is p = spanned-IsRun (run_of x) (touching x c) (run_of-IsRun x is)
     (λ n h. (all-In IsNote c n p.undisputed_is.members ((In-touching x n c).0 h).0).within)
 
 -- a disputed note is put, and moves the clear notes that it touches
@@ -119,8 +118,7 @@ kept_swap_disputed x c d few is k new h =
 
 -- a note that touches no clear note, and meets no disputed span, shares no byte with any
 pub far_from_all : (x : NoteParts) (c d : List NoteParts) (few : List Run) → AreNoteLists c d → Spans few d
-    → touching x c ≡ []
-    → (((at : ℕ) × LiesIn few at × (x.offset ≤ at) × (at + 1 ≤ end_of x)) → ⊥)
+    → touching x c ≡ [] → (((at : ℕ) × LiesIn few at × (x.offset ≤ at) × (at + 1 ≤ end_of x)) → ⊥)
     → (n : NoteParts) → In n (union_of c d) → SharesByte x n → ⊥
 far_from_all x c d few p k none apart n h s =
     elim ((In-union_of n c d).0 h) [

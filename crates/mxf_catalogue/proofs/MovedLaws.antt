@@ -31,6 +31,5 @@ rising_apart low (n ∷ notes) a = (above (end_of n) notes n.offset (omega arith
 
 pub rising-moved_by : (n : NoteParts) (notes : List NoteParts) → IsContent notes → IsRising nat_cmp (moved_by n notes)
 unfolding moved_notes
-rising-moved_by n notes r =
-    rising_apart 0 (moved_notes n notes)
+rising-moved_by n notes r = rising_apart 0 (moved_notes n notes)
     (AreApart-filter (λ m. is_disputed m (reduced_with n notes)) 0 (clear_notes notes) (AreApart-clear_notes notes r))

@@ -58,8 +58,7 @@ undisputed_part c d p =
       (λ h. let k = (In-undisputed_notes n u).0 h in
           elim ((In-union_of n c d).0 k.0) [
             | inl i ↦ i
-            | inr j ↦ absurd
-                (k.1 (let s = p.shared n j in (s.0, (In-union_of s.0 c d).1 (inr s.1), s.2, s.3)))
+            | inr j ↦ absurd (k.1 (let s = p.shared n j in (s.0, (In-union_of s.0 c d).1 (inr s.1), s.2, s.3)))
           ]),
     ))
 
@@ -127,8 +126,7 @@ parts_with_disputed x c d is p new hit =
     let other : (n : NoteParts) → In n c ⊎ In n d → x ≢ n = λ n h e. new (subst (λ y. In y c ⊎ In y d) (sym e) h) in
     record {
       undisputed_is = IsCatalogue-filter (λ n. not (is_byte_shared x n)) c p.undisputed_is;
-      disputed_is = IsCatalogue-with_note x _ is
-          (IsCatalogue-union_of d (touching x c) p.disputed_is
+      disputed_is = IsCatalogue-with_note x _ is (IsCatalogue-union_of d (touching x c) p.disputed_is
           (IsCatalogue-filter (λ n. is_byte_shared x n) c p.undisputed_is));
       apart = λ m n h k ne s.
           let a = (In-away_from x m c).0 h in
@@ -147,8 +145,7 @@ parts_with_disputed x c d is p new hit =
               m,
               in_it,
               (λ f. other m hit.1 (sym (f ∙ e))),
-              subst (SharesByte m) (sym e)
-                  (SharesByte-symmetric x m hit.2),
+              subst (SharesByte m) (sym e) (SharesByte-symmetric x m hit.2),
             )
         | inr k ↦ elim k [
           | inl i ↦ let s = p.shared n i in (s.0, (there s.0).1 (inr (inl s.1)), s.2, s.3)
@@ -159,8 +156,7 @@ parts_with_disputed x c d is p new hit =
 
 pub view_with_disputed : (x : NoteParts) (c d : List NoteParts) → AreNoteLists c d
     → union_of (away_from x c) (disputed_with x c d) ≡ with_note x (union_of c d)
-view_with_disputed x c d p =
-    view_with x c d (away_from x c) (disputed_with x c d) p.undisputed_is.content
+view_with_disputed x c d p = view_with x c d (away_from x c) (disputed_with x c d) p.undisputed_is.content
     (IsContent-filter (λ n. not (is_byte_shared x n)) c p.undisputed_is.content)
     (λ n. let t = In-disputed_with x n c d in let a = In-away_from x n c in (
       λ h. elim h [
@@ -206,16 +202,14 @@ moved_part x c d p red new =
       (there x).1 (inl refl),
       (λ e. new (inl ((In-union_of x c d).1 (inl (subst (λ y. In y c) (sym e) h))))),
       s.0 k,
-    ))
-    (λ k.
+    )) (λ k.
     let w = t.0 k in
     s.1 (elim ((there w.0).0 w.1) [
       | inl e ↦ subst (λ y. SharesByte y n) e w.3
       | inr i ↦ absurd
           (p.apart n w.0 h ((In-union_of w.0 c d).0 i.0) (λ e. w.2 (sym e)) (SharesByte-symmetric w.0 n w.3))
     ])) in
-    ap (λ l. map (λ (n : NoteParts). n.offset) l)
-    (filter-both (λ n. n.whole) (λ n. is_byte_shared x n) c
+    ap (λ l. map (λ (n : NoteParts). n.offset) l) (filter-both (λ n. n.whole) (λ n. is_byte_shared x n) c
     ∙ filter_same _ _ (whole_notes c) (λ n h. test n ((In-filter (λ m. m.whole) c n).0 h).0)
     ∙ ap (filter (λ n. is_disputed n (reduced_with x u))) (clear_part c d p))
 
@@ -275,8 +269,7 @@ is_not_nil notes e q = let t = eq-eqb (length notes) 0 (ap length q) in cc (t, e
 disputed_is : (c d : List NoteParts) → AreNoteLists c d → (n : NoteParts) → IsDisputed n (union_of c d)
     → In n (union_of c d) → In n d
 disputed_is c d p n k h = elim ((In-union_of n c d).0 h) [
-  | inl i ↦ absurd
-      (p.apart n k.0 i ((In-union_of k.0 c d).0 k.1) (λ e. k.2 (sym e)) (SharesByte-symmetric k.0 n k.3))
+  | inl i ↦ absurd (p.apart n k.0 i ((In-union_of k.0 c d).0 k.1) (λ e. k.2 (sym e)) (SharesByte-symmetric k.0 n k.3))
   | inr i ↦ i
 ]
 
@@ -285,8 +278,7 @@ pub disputed_part : (c d : List NoteParts) → AreNoteLists c d
 disputed_part c d p =
     let u = union_of c d in
     same_content d (filter (λ n. is_disputed n u) u) p.disputed_is.content
-    (IsContent-filter (λ n. is_disputed n u) u (IsContent-union_of c d p.undisputed_is.content))
-    (λ n.
+    (IsContent-filter (λ n. is_disputed n u) u (IsContent-union_of c d p.undisputed_is.content)) (λ n.
     let f = In-filter (λ m. is_disputed m u) u n in let t = is_disputed-IsDisputed n u in (
       (λ h. f.1 (
         (In-union_of n c d).1 (inr h),
@@ -348,20 +340,17 @@ same_parts c d c' d' p p' s =
     let u = same_content (union_of c d) (union_of c' d') (IsContent-union_of c d p.undisputed_is.content)
     (IsContent-union_of c' d' p'.undisputed_is.content) s in (
       undisputed_part c d p ∙ ap undisputed_notes u ∙ sym (undisputed_part c' d' p'),
-      disputed_part c d p
-          ∙ ap (λ l. filter (λ n. is_disputed n l) l) u ∙ sym (disputed_part c' d' p'),
+      disputed_part c d p ∙ ap (λ l. filter (λ n. is_disputed n l) l) u ∙ sym (disputed_part c' d' p'),
     )
 
 -- A note takes the place of its head in one of the parts.
 
 -- what shares a byte with a head shares it with the note of its packet
 pub with_head : (x n : NoteParts) → SharesByte x n → SharesByte (head_note x) n
-with_head x n s =
-    (s.0, record { from = s.1.from; before = s.1.before }, s.2)
+with_head x n s = (s.0, record { from = s.1.from; before = s.1.before }, s.2)
 
 pub with_whole : (x n : NoteParts) → SharesByte (head_note x) n → SharesByte x n
-with_whole x n s =
-    (s.0, record { from = s.1.from; before = s.1.before }, s.2)
+with_whole x n s = (s.0, record { from = s.1.from; before = s.1.before }, s.2)
 
 module _ (x : NoteParts) (c d : List NoteParts) (is : IsNote x) (p : AreNoteLists c d) (red : AreReduced (union_of c d))
     (new : has_note (union_of c d) x → ⊥) where
@@ -419,8 +408,7 @@ module _ (x : NoteParts) (c d : List NoteParts) (is : IsNote x) (p : AreNoteList
               | inl f ↦ ne (e ∙ sym f)
               | inr q ↦ p.apart (head_note x) n h (inl q.0) (λ r. q.1 (sym r)) s'
             ]
-            | inr j ↦ p.apart (head_note x) n h (inr j)
-                (λ r. not_in_both c d p n (subst (λ y. In y c) r h) j) s'
+            | inr j ↦ p.apart (head_note x) n h (inr j) (λ r. not_in_both c d p n (subst (λ y. In y c) r h) j) s'
           ]
       | inr a ↦ elim k [
         | inl j ↦ elim ((there_c n).0 j) [
@@ -436,10 +424,8 @@ module _ (x : NoteParts) (c d : List NoteParts) (is : IsNote x) (p : AreNoteList
   }
 
   pub view_swap_clear : In (head_note x) c → union_of (reduced_with x c) d ≡ reduced_with x (union_of c d)
-  view_swap_clear h =
-      same_content _ _ (IsContent-union_of (reduced_with x c) d is_c.content)
-      (IsContent-reduced_with x u (IsContent-union_of c d p.undisputed_is.content))
-      (λ n.
+  view_swap_clear h = same_content _ _ (IsContent-union_of (reduced_with x c) d is_c.content)
+      (IsContent-reduced_with x u (IsContent-union_of c d p.undisputed_is.content)) (λ n.
       let v = In-union_of n (reduced_with x c) d in
       let w = In-union_of n c d in (
         λ i. (there_u n).1 (elim (v.0 i) [
@@ -490,10 +476,8 @@ module _ (x : NoteParts) (c d : List NoteParts) (is : IsNote x) (p : AreNoteList
   }
 
   pub view_swap_disputed : In (head_note x) d → union_of c (reduced_with x d) ≡ reduced_with x (union_of c d)
-  view_swap_disputed h =
-      same_content _ _ (IsContent-union_of c (reduced_with x d) p.undisputed_is.content)
-      (IsContent-reduced_with x u (IsContent-union_of c d p.undisputed_is.content))
-      (λ n.
+  view_swap_disputed h = same_content _ _ (IsContent-union_of c (reduced_with x d) p.undisputed_is.content)
+      (IsContent-reduced_with x u (IsContent-union_of c d p.undisputed_is.content)) (λ n.
       let v = In-union_of n c (reduced_with x d) in
       let w = In-union_of n c d in (
         λ i. (there_u n).1 (elim (v.0 i) [

@@ -12,8 +12,7 @@ module _ {K : Type 0} {R : K → K → Ordering} (o : IsTotalOrder R) (same : Is
   -- what stands before and behind a place of a rising list
   pub before : (xs ys : List K) (n z : K) → IsRising R (xs ++ n ∷ ys) → In z xs → R z n ≡ Less
   before [] ys n z r h = absurd h
-  before (x ∷ xs) ys n z r (inl e) =
-      ap (λ w. R w n) e ∙ (all_parts (λ y. R x y ≡ Less) xs (n ∷ ys) r.0).1.0
+  before (x ∷ xs) ys n z r (inl e) = ap (λ w. R w n) e ∙ (all_parts (λ y. R x y ≡ Less) xs (n ∷ ys) r.0).1.0
   before (x ∷ xs) ys n z r (inr h) = before xs ys n z r.1 h
 
   pub behind : (xs ys : List K) (n z : K) → IsRising R (xs ++ n ∷ ys) → In z ys → R n z ≡ Less
@@ -68,9 +67,7 @@ module _ {K : Type 0} {R : K → K → Ordering} (o : IsTotalOrder R) (same : Is
     module _ (xs ys : List K) (h w : K) (r : IsRising R (xs ++ h ∷ ys)) (red : IsReduced tells (xs ++ h ∷ ys))
         (t : tells w ≡ h) (ne : w ≢ h) where
       pub swap_rises : IsRising R (xs ++ w ∷ ys)
-      swap_rises = rises_at xs ys h w r
-          (λ z i. o.trans z h w (before xs ys h z r i) (teller_above h w ne t))
-          (λ z i.
+      swap_rises = rises_at xs ys h w r (λ z i. o.trans z h w (before xs ys h z r i) (teller_above h w ne t)) (λ z i.
           let there : In z (xs ++ h ∷ ys) = (In-append z xs (h ∷ ys)).1 (inr (inr i)) in
           let mid : In h (xs ++ h ∷ ys) = (In-append h xs (h ∷ ys)).1 (inr (inl refl)) in
           elim (R w z) as (λ c. R w z ≡ c → c ≡ Less) [
@@ -89,15 +86,13 @@ module _ {K : Type 0} {R : K → K → Ordering} (o : IsTotalOrder R) (same : Is
             λ k. elim (new.0 k) [
               | inl i ↦ inr (
                 old.1 (inl i),
-                λ e. not_less_itself o h
-                    (subst (λ v. R v h ≡ Less) e (before xs ys h x r i)),
+                λ e. not_less_itself o h (subst (λ v. R v h ≡ Less) e (before xs ys h x r i)),
               )
               | inr i ↦ elim i [
                 | inl e ↦ inl e
                 | inr j ↦ inr (
                   old.1 (inr (inr j)),
-                  λ e. not_less_itself o h (subst (λ v. R h v
-                      ≡ Less) e (behind xs ys h x r j)),
+                  λ e. not_less_itself o h (subst (λ v. R h v ≡ Less) e (behind xs ys h x r j)),
                 )
               ]
             ],
@@ -134,8 +129,7 @@ module _ {K : Type 0} {R : K → K → Ordering} (o : IsTotalOrder R) (same : Is
           let mid : In w new = (In-swap w).1 (inl refl) in
           one_from_has o same tells once new (reduce R tells one) swap_rises
           (IsRising-reduce o same tells once one (IsRising-with_one o same w old r)) swap_reduced
-          (IsReduced-reduce o same tells once one)
-          (λ x.
+          (IsReduced-reduce o same tells once one) (λ x.
           let left = Has-reduce o same tells once x one in
           let add = Has-with_one o same tells once x w old in (
             λ k. left.1 (add.1 (elim k [

@@ -60,8 +60,7 @@ naming_turn old new rest line behind all (a, b, h) pushed so_far =
     let turn : naming_lines rest ≡ filter names (line ∷ []) ++ naming_lines behind = rw (a, b) (split ∙ first) in
     ap (λ (t : List (List ℕ)). t ++ naming_lines behind) pushed
     ∙ append_assoc old (filter names (line ∷ [])) (naming_lines behind)
-    ∙ ap (λ (t : List (List ℕ)). old ++ t) (sym turn)
-    ∙ so_far
+    ∙ ap (λ (t : List (List ℕ)). old ++ t) (sym turn) ∙ so_far
 
 -- what is added at the end
 pub naming_end : (old new : List (List ℕ)) (rest : List ℕ) (all : List (List ℕ))

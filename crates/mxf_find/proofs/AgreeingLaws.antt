@@ -142,8 +142,7 @@ module _ (notes : List NoteParts) (offset : ℕ) (p : NoteParts) where
           says.0 t,
           all_true _ _ (head_is_there (moved_to offset p) refl)
               (loose_third p.whole (not p.whole) _ (says_same packet_of p (moved_to offset p) refl)),
-        ))
-        (λ t.
+        )) (λ t.
         let s = any.0 t in
         let (there, rest) = both_true (is_there offset p s.0) _ s.2 in
         let same = tight p.whole s.0.whole (is_same_packet p s.0) whole (there_whole s.0 s.1 there) rest in

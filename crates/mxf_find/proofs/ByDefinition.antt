@@ -26,8 +26,7 @@ sound n notes i t = grind (arith, both_true, not-true-false, is_disputed-IsDispu
 
 so_sound : (n : NoteParts) (notes : List NoteParts) → IsSound n notes → is_sound notes n ≡ true
 unfolding is_sound
-so_sound n notes s = all_true _ _
-    (not_true _ (λ t. s.undisputed ((is_disputed-IsDisputed n notes).0 t)))
+so_sound n notes s = all_true _ _ (not_true _ (λ t. s.undisputed ((is_disputed-IsDisputed n notes).0 t)))
     (not_true _ (λ t. s.no_fill (fill_is (kind_of n.key) t)))
 
 one_there : (key : NoteParts → NoteParts) (n : NoteParts) (notes : List NoteParts) → IsContent notes → In n notes
@@ -66,8 +65,7 @@ by_value n notes is i = (
   λ t. let told = value_told notes n t in record {
     sound = sound n notes i told.1;
     whole = told.0;
-    only = λ m j e k w l h. alone packet_of notes m n told.2 j i
-        (same_packets m n (e ∙ sym told.0) k w l h);
+    only = λ m j e k w l h. alone packet_of notes m n told.2 j i (same_packets m n (e ∙ sym told.0) k w l h);
   },
   λ t. value_teller notes n t.whole (so_sound n notes t.sound) (one_there packet_of n notes is.content i (λ m j s.
       let e = sym (same_says packet_of n m s) in

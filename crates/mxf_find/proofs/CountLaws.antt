@@ -81,8 +81,7 @@ placed (x ∷ xs) o l = elim (cases_Bool (x == o)) [
 -- One of a list stands there most often, of several that do the least, if so it is for each place.
 pub most_of : (xs : List ℕ) (most count : ℕ) → 0 < count → count ≡ count_of most xs
     → ((k : ℕ) → k < length xs → count_of (get_or xs k 0) xs ≤ count)
-    → ((k : ℕ) → k < length xs → count_of (get_or xs k 0) xs ≡ count → most ≤ get_or xs k 0)
-    → IsMostVoted xs most
+    → ((k : ℕ) → k < length xs → count_of (get_or xs k 0) xs ≡ count → most ≤ get_or xs k 0) → IsMostVoted xs most
 most_of xs most count some is each least = record {
   some = omega (arith, some, is);
   most = λ o. elim (cases_lt 0 (count_of o xs)) [
@@ -107,8 +106,7 @@ flat_map-map g h (x ∷ xs) = ap (λ l. g (h x) ++ l) (flat_map-map g h xs)
 
 -- One more is mapped.
 pub next_mapped : {A B : Type 0} (f : A → B) (done new : List B) (all left rest : List A) (x : A) (y : B)
-    → left ≡ x ∷ rest → y ≡ f x → new ≡ done ++ y ∷ [] → done ++ map f left ≡ map f all
-    → new ++ map f rest ≡ map f all
+    → left ≡ x ∷ rest → y ≡ f x → new ≡ done ++ y ∷ [] → done ++ map f left ≡ map f all → new ++ map f rest ≡ map f all
 next_mapped f done new all left rest x y e is n inv =
     ap (λ l. l ++ map f rest) n ∙ append_assoc done (y ∷ []) (map f rest) ∙ ap (λ z. done ++ z ∷ map f rest) is
     ∙ sym (ap (λ l. done ++ map f l) e) ∙ inv

@@ -72,8 +72,7 @@ module _ (key : NoteParts → NoteParts) (k : IsCoarse key) (n : NoteParts) (xs 
       let x = get_or xs i d in
       let y = get_or xs (i + 1) d in
       not_back (note_cmp (key y) (key x)) (λ g. k.coarse x y
-      (rising_places packet_total xs i (i + 1) d rising (omega arith) h)
-      (note_total.antisymm (key x) (key y) ∙ g))
+      (rising_places packet_total xs i (i + 1) d rising (omega arith) h) (note_total.antisymm (key x) (key y) ∙ g))
 
   sides_rise : IsNonDecreasingBy (side key n) xs
   sides_rise = searchable_from_sorted note_total key xs (key n) by_key
@@ -85,8 +84,7 @@ module _ (key : NoteParts → NoteParts) (k : IsCoarse key) (n : NoteParts) (xs 
   same_index o e = grind arith
 
   here : (x : NoteParts) → side key n x ≡ 1 → IsTrue (is_same_note (key n) (key x))
-  here x e =
-      (is_same-Decides note_total note_cmp-IsAntisymmetric (key n) (key x)).1
+  here x e = (is_same-Decides note_total note_cmp-IsAntisymmetric (key n) (key x)).1
       (sym (note_cmp-IsAntisymmetric (key x) (key n) (same_index (note_cmp (key x) (key n)) e)))
 
   there : (x : NoteParts) → IsTrue (is_same_note (key n) (key x)) → side key n x ≡ 1

@@ -39,8 +39,7 @@ module _ {K : Type 0} {R : K → K → Ordering} (o : IsTotalOrder R) (same : Is
   -- The last is put in its place.
   union-last : (xs : List K) (x : K) → union R [] (xs ++ x ∷ []) ≡ with_one R x (union R [] xs)
   union-last xs x = same_from_members o same (union R [] (xs ++ x ∷ [])) (with_one R x (union R [] xs))
-      (rising_union (xs ++ x ∷ [])) (IsRising-with_one o same x (union R [] xs) (rising_union xs))
-      (λ z.
+      (rising_union (xs ++ x ∷ [])) (IsRising-with_one o same x (union R [] xs) (rising_union xs)) (λ z.
       let all = In-union o same z [] (xs ++ x ∷ []) in
       let part = In-append z xs (x ∷ []) in
       let some = In-union o same z [] xs in
@@ -95,8 +94,7 @@ module _ {K : Type 0} {R : K → K → Ordering} (o : IsTotalOrder R) (same : Is
 
 all_from : (before all : List Ranked) → with_all all (ranked before) ≡ ranked (before ++ all)
 all_from before [] = ap ranked (sym (append-nil before))
-all_from before (r ∷ all) =
-    ap (with_all all) (kept_more rank_total rank_cmp-IsAntisymmetric 16 before r)
+all_from before (r ∷ all) = ap (with_all all) (kept_more rank_total rank_cmp-IsAntisymmetric 16 before r)
     ∙ all_from (before ++ r ∷ []) all ∙ ap ranked (append_assoc before (r ∷ []) all)
 
 pub all_ranked : (all : List Ranked) → with_all all [] ≡ ranked all

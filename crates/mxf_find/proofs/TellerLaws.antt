@@ -19,8 +19,7 @@ disputed_is notes n r f i =
 
 pub seen_disputed : (notes seen : List NoteParts) (n : NoteParts) (r : Bool) → notes ≡ seen
     → (IsTrue r ↔ (In n notes × IsDisputed n notes)) → In n seen → r ≡ is_disputed n seen
-seen_disputed notes seen n r e f i =
-    disputed_is notes n r f (subst (In n) (sym e) i) ∙ ap (is_disputed n) e
+seen_disputed notes seen n r e f i = disputed_is notes n r f (subst (In n) (sym e) i) ∙ ap (is_disputed n) e
 
 -- The parts of the tests.
 pub both_true : (a b : Bool) → (a && b) ≡ true → (a ≡ true) × (b ≡ true)
@@ -58,8 +57,7 @@ value_told notes n t = grind arith
 -- The packets that are lent are those of the content that is seen.
 pub lent : (notes packets seen slice : List NoteParts) → IsByPacket notes packets → notes ≡ seen → slice ≡ packets
     → IsByPacket seen slice
-lent notes packets seen slice is e f =
-    subst (λ (l : List NoteParts). IsByPacket seen l) (sym f)
+lent notes packets seen slice is e f = subst (λ (l : List NoteParts). IsByPacket seen l) (sym f)
     (subst (λ (l : List NoteParts). IsByPacket l packets) e is)
 
 module _ (notes packets : List NoteParts) (is : IsByPacket notes packets) (p : NoteParts)

@@ -43,8 +43,7 @@ same_sole : {K : Type 0} {R S : K → K → Ordering} (o : IsTotalOrder R) (p : 
 same_sole o p [] [] r s m = refl
 same_sole o p [] (y ∷ ys) r s m = absurd ((m y).1 (inl refl))
 same_sole o p (x ∷ xs) [] r s m = absurd ((m x).0 (inl refl))
-same_sole o p (x ∷ []) (y ∷ []) r s m =
-    elim ((m x).0 (inl refl)) [ inl e ↦ ap Some e | inr i ↦ absurd i ]
+same_sole o p (x ∷ []) (y ∷ []) r s m = elim ((m x).0 (inl refl)) [ inl e ↦ ap Some e | inr i ↦ absurd i ]
 same_sole o p (x ∷ []) (y ∷ z ∷ ys) r s m =
     absurd (two_apart p x y z ys s (in_one y ((m y).1 (inl refl))) (in_one z ((m z).1 (inr (inl refl)))))
   where
@@ -76,22 +75,19 @@ module _ (key : NoteParts → NoteParts) (notes : List NoteParts) where
 
   -- Notes that are the same have the same ones beside them.
   pub same_alike : (m n : NoteParts) → key m ≡ key n → alike m ≡ alike n
-  same_alike m n e = filter_alike (same key m) (same key n) notes
-      (λ x i. same_bool (same key m x) (same key n x)
+  same_alike m n e = filter_alike (same key m) (same key n) notes (λ x i. same_bool (same key m x) (same key n x)
       (λ t. says_same key n x (sym e ∙ same_says key m x t)) (λ t. says_same key m x (e ∙ same_says key n x t)))
 
   -- Where one is alone, another that is the same is it.
   pub alone : (m n : NoteParts) → (length (alike n) == 1) ≡ true → In m notes → In n notes → key m ≡ key n → m ≡ n
-  alone m n e i j k =
-      lone (alike n) m n (eqb-true (length (alike n)) 1 e)
+  alone m n e i j k = lone (alike n) m n (eqb-true (length (alike n)) 1 e)
       ((In-filter (same key n) notes m).1 (i, says_same key n m (sym k)))
       ((In-filter (same key n) notes n).1 (j, says_same key n n refl))
 
   module _ (packets : List NoteParts) (are : AreByPacket notes packets) (content : IsContent notes) (p : NoteParts)
       (only : Option NoteParts) (found : only ≡ sole (filter (same key p) packets)) where
     there : only ≡ sole (alike p)
-    there =
-        found ∙ same_sole packet_total note_total (filter (same key p) packets) (alike p)
+    there = found ∙ same_sole packet_total note_total (filter (same key p) packets) (alike p)
         (rising-filter packet_cmp (same key p) packets are.rising) (rising-filter note_cmp (same key p) notes content)
         (λ x. (
           λ i. let s = (In-filter (same key p) packets x).0 i in
@@ -110,8 +106,7 @@ module _ (key : NoteParts → NoteParts) (notes : List NoteParts) where
         ((In-filter (same key p) notes n).0 (subst (In n) (sym (sole-some (alike p) n (sym there ∙ e))) (inl refl))).1
 
     pub one_alone : (n : NoteParts) → only ≡ Some n → (length (alike n) == 1) ≡ true
-    one_alone n e =
-        eq-eqb (length (alike n)) 1 (ap length
+    one_alone n e = eq-eqb (length (alike n)) 1 (ap length
         (same_alike n p (sym (same_says key p n (one_same n e))) ∙ sole-some (alike p) n (sym there ∙ e)))
 
     -- One that is alone and the same is the only one; so if there is none, there is none.
@@ -123,6 +118,5 @@ module _ (key : NoteParts → NoteParts) (notes : List NoteParts) where
         ]
 
     pub none_alone : (m : NoteParts) → only ≡ None → IsTrue (same key p m) → (length (alike m) == 1) ≡ true → ⊥
-    none_alone m e t l =
-        sole-none (alike p) (sym there ∙ e)
+    none_alone m e t l = sole-none (alike p) (sym there ∙ e)
         (ap length (same_alike p m (same_says key p m t)) ∙ eqb-true (length (alike m)) 1 l)

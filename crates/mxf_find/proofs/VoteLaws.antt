@@ -181,8 +181,7 @@ module _ (notes : List NoteParts) (n : NoteParts) (held : In n notes) where
   pub told_by_value : (found : Option (Bor NoteParts))
       → IfSome found (λ m. IsOneOf (is_teller_by_value notes n) notes m.now)
       → IfNone found (IsNoneOf (is_teller_by_value notes n) notes) → is_some found ≡ tells_by_value notes n
-  told_by_value None some none =
-      sym (false_from_ne_true (tells_by_value notes n)
+  told_by_value None some none = sym (false_from_ne_true (tells_by_value notes n)
       (λ t. none n held (all_true _ _ t (says_same packet_of n n refl))))
   told_by_value (Some m) some none =
       let parts = both_true (tells_by_value notes m.now) (is_same_packet n m.now) some.passes in
@@ -192,8 +191,7 @@ module _ (notes : List NoteParts) (n : NoteParts) (held : In n notes) where
   pub told_by_length : (found : Option (Bor NoteParts))
       → IfSome found (λ m. IsOneOf (is_teller_by_length notes n) notes m.now)
       → IfNone found (IsNoneOf (is_teller_by_length notes n) notes) → is_some found ≡ tells_by_length notes n
-  told_by_length None some none =
-      sym (false_from_ne_true (tells_by_length notes n)
+  told_by_length None some none = sym (false_from_ne_true (tells_by_length notes n)
       (λ t. none n held (all_true _ _ t (says_same front_of n n refl))))
   told_by_length (Some m) some none =
       let parts = both_true (tells_by_length notes m.now) (is_same_length n m.now) some.passes in

@@ -215,8 +215,7 @@ module _ (f : FragmentParts) (r : List NoteParts) (at : ℕ) (own : IsCatalogue 
       (list_any-In (λ m. is_there (moved_place f at p) p m && (not p.whole || not m.whole || is_same_packet p m)) r).1 (
         n,
         s.held,
-        all_true _ _ (all_true _ _ (eq-eqb _ _ o) (says_same front_of p n (front_stands p n s)))
-            (loosened p n s),
+        all_true _ _ (all_true _ _ (eq-eqb _ _ o) (says_same front_of p n (front_stands p n s))) (loosened p n s),
       )
 
   each_agrees : (p : NoteParts) → In p f.notes → agrees f r at p ≡ true

@@ -8,8 +8,7 @@ use Rattle.mxf_klv.proofs.Lists.{In-flat_map, at_place}
 
 -- Each code stands at the place of its number.
 held : (code : Code) → In code all_codes
-held code =
-    subst (λ c. In c all_codes) (numbered_back code)
+held code = subst (λ c. In c all_codes) (numbered_back code)
     (elim (at_place all_codes (code_number code - 1) F01) [ inl e ↦ inl e | inr h ↦ h ])
 
 -- The findings are those offsets that are found of their code.

@@ -28,8 +28,7 @@ has_uid_iff uid n = (
   λ h. let p = and_parts (keeps_value n)
       (reads_uid uid (instance_uid_at n.held)) h in record {
         kept = p.0;
-        own = reads_says uid
-            (instance_uid_at n.held) p.1;
+        own = reads_says uid (instance_uid_at n.held) p.1;
       },
   λ h. and_from (keeps_value n) (reads_uid uid (instance_uid_at n.held)) h.kept
       (reads_it uid (instance_uid_at n.held) h.own),
@@ -56,8 +55,7 @@ only_of sets uid ws w a n o =
 
 several_of : (sets : List NoteParts) (uid : List ℕ) (ws : List NoteParts) → Picks sets uid ws → IsSeveral sets uid
     → (x : NoteParts) × (y : NoteParts) × (rest : List NoteParts) × (ws ≡ x ∷ y ∷ rest)
-several_of sets uid ws w s =
-    picked_several (λ n. In n sets × HasUid uid n) ws w s.one s.other (s.one_held, s.one_has)
+several_of sets uid ws w s = picked_several (λ n. In n sets × HasUid uid n) ws w s.one s.other (s.one_held, s.one_has)
     (s.other_held, s.other_has) s.differ
 
 pub only_from : (sets : List NoteParts) (uid : List ℕ) (n : NoteParts) → Picks sets uid (n ∷ []) → IsOnlyWith sets uid n
@@ -77,8 +75,7 @@ several_from sets uid m n ws w a =
       one_has = s.1;
       other_held = t.0;
       other_has = t.1;
-      differ =
-          later_differs m n ws a;
+      differ = later_differs m n ws a;
     }
 
 found_from : (sets : List NoteParts) (uid : List ℕ) (ws : List NoteParts) → Picks sets uid ws → AreApart 0 ws
@@ -122,15 +119,13 @@ fits_tells Package k (inr e) = ap (fits Package) e
 pub wanted_kind : (w : Wanted) (k : Kind) → (fits w k ≡ true) ↔ IsWanted w k
 wanted_kind w k = (fits_says w k, fits_tells w k)
 
-readable_as : (w : Wanted) (n : NoteParts)
-    → ((keeps_value n && is_readable w n.held) ≡ true) ↔ IsReadableAs w n
+readable_as : (w : Wanted) (n : NoteParts) → ((keeps_value n && is_readable w n.held) ≡ true) ↔ IsReadableAs w n
 readable_as Storage n = ok_readable storage_at n
 readable_as Identification n = ok_readable identification_at n
 readable_as Package n = ok_readable package_at n
 
 abbrev pub target_by : Bool → Bool → ℕ → Target
-target_by fit read o = if not fit then targets.WrongKind o else
-    (if read then targets.Found o else targets.Unreadable o)
+target_by fit read o = if not fit then targets.WrongKind o else (if read then targets.Found o else targets.Unreadable o)
 
 at_only : (sets : List NoteParts) (w : Wanted) (uid : List ℕ) (n : NoteParts) → IsOnlyWith sets uid n
     → IsTarget sets w uid (target_at w n)
@@ -180,8 +175,7 @@ target_to sets w uid ws p a (targets.WrongKind o) i =
 target_to sets w uid ws p a (targets.Unreadable o) i =
     ap (target_among w) (only_of sets uid ws p a i.0 i.1) ∙ unreadable w i.0 i.3 i.4
     ∙ ap (λ (x : ℕ). targets.Unreadable x) i.2
-target_to sets w uid ws p a (targets.Found o) i =
-    ap (target_among w) (only_of sets uid ws p a i.0 i.1)
+target_to sets w uid ws p a (targets.Found o) i = ap (target_among w) (only_of sets uid ws p a i.0 i.1)
     ∙ only_at w i.0 true true ((wanted_kind w (kind_of i.0.key)).1 i.3) ((readable_as w i.0).1 i.4)
     ∙ ap (λ (x : ℕ). targets.Found x) i.2
 

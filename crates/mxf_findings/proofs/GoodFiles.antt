@@ -54,8 +54,7 @@ filled_well_formed = record {
         (
           tt,
           (
-            λ h. absurd
-                (omega arith),
+            λ h. absurd (omega arith),
             tt,
           ),
         ),
@@ -112,8 +111,7 @@ open_well_formed = record {
 
 -- The segment gives units of so many bytes each in the stream of a BodySID.
 abbrev IsSteady : ℕ → ℕ → SegmentParts → Type 0
-IsSteady body bytes s =
-    (is_constant s.numbers ≡ true) × (s.numbers.body_sid ≡ body) × (s.numbers.unit_bytes ≡ bytes)
+IsSteady body bytes s = (is_constant s.numbers ≡ true) × (s.numbers.body_sid ≡ body) × (s.numbers.unit_bytes ≡ bytes)
 
 steady_place : (body bytes sid unit : ℕ) (s : SegmentParts) (p : Place) → IsSteady body bytes s
     → place_by_segment sid unit s ≡ Some p → p ≡ At body (bytes * unit)

@@ -58,8 +58,7 @@ whole_says bytes = (
       (eq-eqb (length (left_of bytes)) 0 (ap length e)),
 )
 
-raw_readable : (n : NoteParts) → ((keeps_value n && is_some (whole_items n.held)) ≡ true)
-    ↔ IsReadableSet kinds.RawSet n
+raw_readable : (n : NoteParts) → ((keeps_value n && is_some (whole_items n.held)) ≡ true) ↔ IsReadableSet kinds.RawSet n
 raw_readable n = (
   λ h. let s = and_parts (keeps_value n) (is_some (whole_items n.held)) h in (s.0, (whole_says n.held).0 s.1),
   λ s. and_from (keeps_value n) (is_some (whole_items n.held)) s.0 ((whole_says n.held).1 s.1),
@@ -147,8 +146,7 @@ In-lost_at offset refs o =
     )
 
 -- by what the reference to the storage leads to
-In-lost_behind : (preface : ℕ) (t : Target) (packages : List Ref) (o : ℕ)
-    → In o (lost_behind preface t packages)
+In-lost_behind : (preface : ℕ) (t : Target) (packages : List Ref) (o : ℕ) → In o (lost_behind preface t packages)
     ↔ (((o ≡ preface) × ((found : ℕ) → t ≢ Found found)) ⊎ ((t ≡ Found o) × LosesOne packages))
 In-lost_behind preface (Found w) packages o =
     let m = In-lost_at w packages o in (
@@ -185,13 +183,11 @@ In-lost_by r o =
       ],
       λ s. elim s.1 [
         | inl k ↦ elim k.1 [
-          | inl e ↦
-              a.1 (inr (subst (λ (q : Option Ref). In o (lost_beside r.preface q r.packages)) (sym e)
+          | inl e ↦ a.1 (inr (subst (λ (q : Option Ref). In o (lost_beside r.preface q r.packages)) (sym e)
               ((In-lost_behind r.preface s.0.target r.packages o).1 (inl (k.0, s.2)))))
           | inr i ↦ a.1 (inl (m.1 (sym k.0, (s.0, i, s.2))))
         ]
-        | inr k ↦
-            a.1 (inr (subst (λ (q : Option Ref). In o (lost_beside r.preface q r.packages)) (sym k.1)
+        | inr k ↦ a.1 (inr (subst (λ (q : Option Ref). In o (lost_beside r.preface q r.packages)) (sym k.1)
             ((In-lost_behind r.preface k.0.target r.packages o).1 (inr (k.2, (s.0, k.3, s.2))))))
       ],
     )

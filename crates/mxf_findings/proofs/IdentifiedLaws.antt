@@ -56,8 +56,7 @@ module _ (uid : List ℕ) where
   pub none_behind : (es : List Identified) (i k : ℕ) (d : Identified) → AreSorted es
       → is_below uid (get_or es i d) ≡ false → is_of uid (get_or es i d) ≡ false → i ≤ k → k < length es
       → is_of uid (get_or es k d) ≡ false
-  none_behind es i k d s b n l h =
-      false_from_ne_true (is_of uid (get_or es k d)) (λ t.
+  none_behind es i k d s b n l h = false_from_ne_true (is_of uid (get_or es k d)) (λ t.
       let m = comparisons es s i k d l h in
       let high : ordering_index (slice_cmp nat_cmp (get_or es i d).uid uid)
       ≡ 2 = ap ordering_index (above (get_or es i d) b n) in
@@ -74,8 +73,7 @@ module _ (uid : List ℕ) where
 
   filter_one : (es : List Identified) (i : ℕ) (d : Identified) → i < length es
       → AllWithin (λ e. is_of uid e ≡ false) es 0 i → is_of uid (get_or es i d) ≡ true
-      → AllWithin (λ e. is_of uid e ≡ false) es (suc i) (length es)
-      → filter (is_of uid) es ≡ get_or es i d ∷ []
+      → AllWithin (λ e. is_of uid e ≡ false) es (suc i) (length es) → filter (is_of uid) es ≡ get_or es i d ∷ []
   filter_one [] i d h a t b = absurd (omega arith)
   filter_one (e ∷ es) zero d h a t b =
       rw t (ap (λ l. e ∷ l) (filter_none es (λ k d l h. b (suc k) d (omega arith) (omega arith))))
@@ -173,23 +171,19 @@ same_offsets uid (n ∷ sets) =
     let ih = same_offsets uid sets in
     let offsets = map (λ (e : Identified). e.offset) in
     elim (keeps_value n) as (λ k.
-    offsets (filter (is_of uid)
-    (cons_option (option_map (λ uid. record { uid = uid; offset = n.offset })
+    offsets (filter (is_of uid) (cons_option (option_map (λ uid. record { uid = uid; offset = n.offset })
     (if k then result_ok (instance_uid_at n.held) else None)) (filter_map with_uid sets)))
     ≡ map (λ (n : NoteParts). n.offset)
     (cond (k && reads_uid uid (instance_uid_at n.held)) (n ∷ filter (has_uid uid) sets) (filter (has_uid uid) sets))) [
       | false ↦ ih
-      | true ↦ elim (instance_uid_at n.held) as (λ r.
-          offsets (filter (is_of uid)
+      | true ↦ elim (instance_uid_at n.held) as (λ r. offsets (filter (is_of uid)
           (cons_option (option_map (λ uid. record { uid = uid; offset = n.offset }) (result_ok r))
-          (filter_map with_uid sets)))
-          ≡ map (λ (n : NoteParts). n.offset)
+          (filter_map with_uid sets))) ≡ map (λ (n : NoteParts). n.offset)
           (cond (reads_uid uid r) (n ∷ filter (has_uid uid) sets) (filter (has_uid uid) sets))) [
             | Err f ↦ ih
             | Ok own ↦ elim (bytes_eq own uid) as (λ b.
                 offsets (cond b (record { uid = own; offset = n.offset } ∷ filter (is_of uid)
-                (filter_map with_uid sets))
-                (filter (is_of uid) (filter_map with_uid sets)))
+                (filter_map with_uid sets)) (filter (is_of uid) (filter_map with_uid sets)))
                 ≡ map (λ (n : NoteParts). n.offset)
                 (cond b (n ∷ filter (has_uid uid) sets) (filter (has_uid uid) sets))) [
                   | true ↦ ap (λ l. n.offset ∷ l) ih

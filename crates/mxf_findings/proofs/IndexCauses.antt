@@ -71,8 +71,7 @@ other_says notes n clear =
           l.1 (
             s.0,
             (In-clear_notes s.0 notes).1 s.1,
-            and_from (is_rip_note s.0) (not (s.0.offset == n.offset))
-                ((rip_note_says s.0).1 s.3) apart,
+            and_from (is_rip_note s.0) (not (s.0.offset == n.offset)) ((rip_note_says s.0).1 s.3) apart,
           ),
     )
 
@@ -88,8 +87,7 @@ not_last_says notes n =
 
 -- why a random index pack doesn't fit
 abbrev IsUnfit : List NoteParts → NoteParts → Type 0
-IsUnfit notes n =
-    ¬ IsReadable (rip_at n.width) n ⊎ (HasOther notes n ⊎ (IsNotLast notes n ⊎ ListsOthers notes n))
+IsUnfit notes n = ¬ IsReadable (rip_at n.width) n ⊎ (HasOther notes n ⊎ (IsNotLast notes n ⊎ ListsOthers notes n))
 
 lists_not : (notes : List NoteParts) (n : NoteParts) → not (is_index_of (partitions_of notes) (rip_in n)) ≡ true
     → IsUnfit notes n

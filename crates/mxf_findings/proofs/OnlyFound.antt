@@ -8,8 +8,7 @@ use Rattle.mxf_findings.specs.References.{found_in}
 
 -- The sets of a copy are clear notes.
 clear_from : (clear : List NoteParts) (bytes : ℕ) (start : Option ℕ) (n : NoteParts)
-    → In n (sets_from clear bytes start)
-    → In n clear
+    → In n (sets_from clear bytes start) → In n clear
 clear_from clear bytes None n h = absurd h
 clear_from clear bytes (Some start) n h =
     ((In-filter (lies_in start bytes) clear n).0 ((In-filter is_set_note (zone_of start bytes clear) n).0 h).0).0

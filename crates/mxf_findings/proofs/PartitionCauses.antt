@@ -16,8 +16,7 @@ footer_found notes o p e =
     let ps = partitions_of notes in
     let f = found-In (λ (p : PartitionParts). p.offset == o) ps p e in
     let test = λ (q : PartitionParts). is_footer q.pack.part && q.offset == o in
-    same_bool (footer_stands_at o ps) (is_footer p.pack.part)
-    (λ t.
+    same_bool (footer_stands_at o ps) (is_footer p.pack.part) (λ t.
     let s = (list_any-In test ps).0 t in
     let b = and_parts (is_footer s.0.pack.part) (s.0.offset == o) s.2 in
     let same : s.0 ≡ p = one_partition notes s.0 p s.1 f.0 (eqb-true s.0.offset o b.1

@@ -50,8 +50,7 @@ long_well_formed bytes h =
     )
 
 pub long_iff : (bytes : ℕ) → IsWellFormed (refused.long_file bytes) ↔ (241 + bytes ≤ greatest_end)
-long_iff bytes =
-    (λ w. subst (λ (k : ℕ). k ≤ greatest_end) (long_end bytes) w.within, λ h. long_well_formed bytes h)
+long_iff bytes = (λ w. subst (λ (k : ℕ). k ≤ greatest_end) (long_end bytes) w.within, λ h. long_well_formed bytes h)
 
 -- ---- headers and footers
 
@@ -92,8 +91,7 @@ early_footer_refused w =
     let f = w.footer in
     let body = pack Body (numbers 216 108 108 0 0 0 0) in
     third_is_pack (pack Header (numbers 0 0 108 0 0 0 0)) (pack Footer (numbers 108 0 108 0 0 0 0)) body
-    f.before f.footer f.after
-    (no_footer (pack Header (numbers 0 0 108 0 0 0 0)) refl)
+    f.before f.footer f.after (no_footer (pack Header (numbers 0 0 108 0 0 0 0)) refl)
     (no_footer body refl) (Body, ClosedComplete, refl) f.order f.is_footer f.last
 
 -- ---- what packs say

@@ -94,19 +94,16 @@ packages_are notes partition uid a =
     elim (found_storage notes partition uid) as (λ o. found_storage notes partition uid ≡ o
     → ArePackages notes partition uid (refs_of notes partition Package (packages_of o))) [
       | None ↦ λ e. inr (
-        λ s i. none_some (found_storage notes partition uid) s e
-            ((storage_iff notes partition uid s a).1 i),
+        λ s i. none_some (found_storage notes partition uid) s e ((storage_iff notes partition uid s a).1 i),
         refl,
       )
-      | Some s ↦ λ e. inl
-          (s, (storage_iff notes partition uid s a).0 e, refs_are notes partition Package s.packages a)
+      | Some s ↦ λ e. inl (s, (storage_iff notes partition uid s a).0 e, refs_are notes partition Package s.packages a)
     ] refl
 
 packages_only : (notes : List NoteParts) (partition : ℕ) (uid : List ℕ) (refs : List Ref)
     → AreApart 0 (sets_of notes partition) → ArePackages notes partition uid refs
     → refs ≡ refs_of notes partition Package (packages_of (found_storage notes partition uid))
-packages_only notes partition uid refs a (inl i) =
-    refs_only notes partition Package i.0.packages refs a i.2
+packages_only notes partition uid refs a (inl i) = refs_only notes partition Package i.0.packages refs a i.2
     ∙ ap (λ (o : Option StorageParts). refs_of notes partition Package (packages_of o))
     (sym ((storage_iff notes partition uid i.0 a).1 i.1))
 packages_only notes partition uid refs a (inr i) =
@@ -207,8 +204,7 @@ only_preface notes c s r i e many one =
           start = s;
           begins = e;
           clear = is.clear;
-          kind = preface
-              is.kind;
+          kind = preface is.kind;
           from = is.from;
           before = is.before;
         };
@@ -241,16 +237,14 @@ found_preface : (notes : List NoteParts) (partition : ℕ) (n : NoteParts) → I
     → IsOnlyPreface notes partition n → find is_preface_note (sets_of notes partition) ≡ Some n
 found_preface notes partition n r o =
     find-only is_preface_note (sets_of notes partition) n ((sets_are notes partition n r).1 o.set)
-    ((preface_note n).1 o.kind)
-    (λ m h t. o.only m ((sets_are notes partition m r).0 h) ((preface_note m).0 t))
+    ((preface_note n).1 o.kind) (λ m h t. o.only m ((sets_are notes partition m r).0 h) ((preface_note m).0 t))
 
 -- ---- what is resolved
 
 resolved_there : (notes : List NoteParts) (c : CopyInfo) (n : NoteParts) → IsContent notes
     → IsOnlyPreface notes c.partition n
     → resolved_in notes c ≡ Some (resolved_by notes c.partition n.offset (preface_in n))
-resolved_there notes c n r o =
-    ap (option_map (λ m. resolved_by notes c.partition m.offset (preface_in m)))
+resolved_there notes c n r o = ap (option_map (λ m. resolved_by notes c.partition m.offset (preface_in m)))
     (found_preface notes c.partition n r o)
 
 resolved_by_parts : (notes : List NoteParts) (partition offset : ℕ) (o : Option PrefaceParts)

@@ -49,8 +49,7 @@ if_unreadable false r e = sym (ap not e)
 
 wanted_by_kind : (wanted : Wanted) (n : NoteParts) → fits wanted (kind_of n.key) ≡ true
     → (keeps_value n && is_readable wanted n.held) ≡ not (is_unreadable n)
-wanted_by_kind wanted n e =
-    ap (λ b. keeps_value n && b) (sym (reads_as_wanted wanted (kind_of n.key) n.held e))
+wanted_by_kind wanted n e = ap (λ b. keeps_value n && b) (sym (reads_as_wanted wanted (kind_of n.key) n.held e))
     ∙ if_unreadable (keeps_value n && reads_value (kind_of n.key) n.held) (is_unreadable n) refl
 
 -- So that tells what the set is to a reference that names its kind.

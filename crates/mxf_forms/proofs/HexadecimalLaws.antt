@@ -11,8 +11,7 @@ use Rattle.mxf_forms.specs.Hexadecimal.{hex_digit, hex_of}
 pub encode_lower-is : (bytes : List ℕ) → encode_lower bytes ≡ hex_of bytes
 unfolding encode_with
 encode_lower-is [] = refl
-encode_lower-is (b ∷ bytes) =
-    ap (λ (t : List ℕ). hex_digit (b / 16) ∷ hex_digit (b % 16) ∷ t) (encode_lower-is bytes)
+encode_lower-is (b ∷ bytes) = ap (λ (t : List ℕ). hex_digit (b / 16) ∷ hex_digit (b % 16) ∷ t) (encode_lower-is bytes)
 
 -- they are text
 digits_are_ascii : IsAscii lower_digits
@@ -24,8 +23,7 @@ digits_are_text bytes = IsUtf8-from_ascii _ (IsAscii-encode_with lower_digits by
 -- the digits of bytes one after another
 pub hex_of-append : (a b : List ℕ) → hex_of (a ++ b) ≡ hex_of a ++ hex_of b
 hex_of-append [] b = refl
-hex_of-append (x ∷ a) b =
-    ap (λ (t : List ℕ). hex_digit (x / 16) ∷ hex_digit (x % 16) ∷ t) (hex_of-append a b)
+hex_of-append (x ∷ a) b = ap (λ (t : List ℕ). hex_digit (x / 16) ∷ hex_digit (x % 16) ∷ t) (hex_of-append a b)
 
 -- the digits of one byte more
 pub one_more_byte : (bytes : List ℕ) (i d : ℕ) → i < length bytes

@@ -30,8 +30,7 @@ pub found_barren : (h : HandBytes) (entries : List ((ℕ × Option ℕ) × Optio
     → AreAllBarren h entries
     → IfSome (lookup (is_at (asked_cmp (from, end))) entries) (IsReading from (read_bytes h end from) [])
 found_barren h [] from end all = tt
-found_barren h (e ∷ entries) from end all =
-    elim (asked_cmp (from, end) e.0) as (λ o. asked_cmp (from, end) e.0 ≡ o
+found_barren h (e ∷ entries) from end all = elim (asked_cmp (from, end) e.0) as (λ o. asked_cmp (from, end) e.0 ≡ o
     → IfSome (cond (is_eq o) (Some e.1) (lookup (is_at (asked_cmp (from, end))) entries))
     (IsReading from (read_bytes h end from) [])) [
       | Less ↦ λ _. found_barren h entries from end all.1
@@ -45,8 +44,7 @@ pub kept_barren : (h : HandBytes) (entries : List ((ℕ × Option ℕ) × Option
     (head : Option NoteParts) → AreAllBarren h entries → IsBarren h (key, head)
     → AreAllBarren h (insert_entry asked_cmp entries key head)
 kept_barren h [] key head all is = (is, tt)
-kept_barren h (e ∷ entries) key head all is =
-    elim (asked_cmp key e.0) as (λ o. asked_cmp key e.0 ≡ o
+kept_barren h (e ∷ entries) key head all is = elim (asked_cmp key e.0) as (λ o. asked_cmp key e.0 ≡ o
     → AreAllBarren h (match_ordering o ((key, head) ∷ e ∷ entries) ((e.0, head) ∷ entries)
     (e ∷ insert_entry asked_cmp entries key head))) [
       | Less ↦ λ _. (is, all)

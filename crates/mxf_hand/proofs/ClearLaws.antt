@@ -127,8 +127,7 @@ module _ (notes : List NoteParts) (content : IsContent notes) (n : NoteParts) (c
   -- What lies ahead of a section's first byte, from where the head begins that ends there, is that head's.
   ahead : (p : Section) (x : ℕ) → start_of notes p.first ≤ x → x < p.first
       → (m : NoteParts) × In m notes × (m.whole ≡ false) × IsInSpan m x
-  ahead p x low high =
-      elim (find (is_head_to p.first) notes) as (λ o. find (is_head_to p.first) notes ≡ o
+  ahead p x low high = elim (find (is_head_to p.first) notes) as (λ o. find (is_head_to p.first) notes ≡ o
       → option_map_or (λ m. m.offset) o p.first ≤ x
       → (m : NoteParts) × In m notes × (m.whole ≡ false) × IsInSpan m x) [
         | None ↦ λ e from. absurd (omega (arith, from, high))
@@ -153,8 +152,7 @@ module _ (notes : List NoteParts) (content : IsContent notes) (n : NoteParts) (c
   from_by : (first q : ℕ) (heads : List NoteParts) → ((m : NoteParts) → In m heads → covered_end m ≡ first)
       → read_from (start_of notes first) heads ≡ Some q → (q ≡ start_of notes first) ⊎ (first ≤ q)
   from_by first q [] all e = inl (sym (same_Some (start_of notes first) q e))
-  from_by first q (m ∷ []) all e =
-      inr (let end = all m (inl refl) in
+  from_by first q (m ∷ []) all e = inr (let end = all m (inl refl) in
       let le = covers_below_end m in
       let is = same_Some (end_of m) q e in omega (arith, end, le, is))
   from_by first q (m ∷ k ∷ heads) all e = absurd cc
@@ -194,8 +192,7 @@ module _ (notes : List NoteParts) (content : IsContent notes) (n : NoteParts) (c
             apart_behind h p q m i e above (λ x first low high.
             sections_are.within p x i (
               first,
-              read_below h p.end q x (omega (arith, above, low))
-                  (omega (arith, end, size, high)),
+              read_below h p.end q x (omega (arith, above, low)) (omega (arith, end, size, high)),
             )) s
       ] refl k
 
@@ -229,8 +226,7 @@ module _ (notes : List NoteParts) (content : IsContent notes) (n : NoteParts) (c
   made_by_apart h end (a ∷ b ∷ heads) m all k s = k
 
   made_apart : (h : HandBytes) (p : Section) (m : NoteParts) → In m (made_of h notes p) → SharesByte m n → ⊥
-  made_apart h p m k s =
-      made_by_apart h p.hole.end (fitting h notes p.first) m
+  made_apart h p m k s = made_by_apart h p.hole.end (fitting h notes p.first) m
       (λ a i. let f = fitted h p.first a i in (f.0, f.1)) k s
 
   -- All that is put together shares no byte with it.
@@ -253,8 +249,7 @@ module _ (notes : List NoteParts) (content : IsContent notes) (n : NoteParts) (c
               let end : c.0.hole_end ≡ p.0.hole.end = ap (λ (c : CutHead). c.hole_end) j.2 in
               let w = (and_parts (ends_within c.0.hole_end c.0.note) _ f.1).0 in
               let is : m ≡ j.0 = c.2 ∙ note in
-              head_ends_apart h p.0 j.0 p.1 j.1
-              (subst (λ (o : Option ℕ). ends_within o j.0 ≡ true) end
+              head_ends_apart h p.0 j.0 p.1 j.1 (subst (λ (o : Option ℕ). ends_within o j.0 ≡ true) end
               (subst (λ (a : NoteParts). ends_within c.0.hole_end a ≡ true) note w))
               (subst (λ (a : NoteParts). SharesByte a n) is s)
         ]
@@ -265,8 +260,7 @@ module _ (notes : List NoteParts) (content : IsContent notes) (n : NoteParts) (c
 clear_round : (h : HandBytes) (notes : List NoteParts) (n : NoteParts) → IsContent notes → AreReduced notes
     → IsClear n notes → IsClear n (round h notes)
 unfolding round
-clear_round h notes n r p c =
-    stays notes (taken_in h notes (sections_of notes)) n p c (taken_apart notes r n c h)
+clear_round h notes n r p c = stays notes (taken_in h notes (sections_of notes)) n p c (taken_apart notes r n c h)
 
 clear_rounds : (count : ℕ) (h : HandBytes) (notes : List NoteParts) (n : NoteParts) → IsContent notes
     → AreReduced notes → IsClear n notes → IsClear n (rounds count h notes)

@@ -77,8 +77,7 @@ stands_more (Some given) number position filled count from old part whole l m at
     take_both zero k (x ∷ a) b e = absurd (omega (arith, e))
     take_both (suc n) k (x ∷ a) b e =
         let same : suc n + k ≡ suc (n + k) = omega arith in
-        ap (λ (j : ℕ). take j (x ∷ (a ++ b))) same
-        ∙ ap (λ (l : List ℕ). x ∷ l) (take_both n k a b (omega (arith, e)))
+        ap (λ (j : ℕ). take j (x ∷ (a ++ b))) same ∙ ap (λ (l : List ℕ). x ∷ l) (take_both n k a b (omega (arith, e)))
 
 -- Bytes that stand in a source are those that it gives.
 gives_standing : (sources : List SourceParts) (number : ℕ) (s : SourceParts) (bytes more : List ℕ) (at : ℕ)
@@ -94,8 +93,7 @@ gives_standing sources number s (b ∷ bytes) more at is from e =
 
 pub gives_read : (told : Option (List SourceParts)) (extents : List Extent) (given : List SourceParts)
     (number at : ℕ) (e : Extent) (bytes : List ℕ) → AreTold told extents given → slice_get extents number ≡ Some e
-    → e.offset ≤ at → IfSome told (λ given. StandAt given number (at - e.offset) bytes)
-    → GivesAll given number at bytes
+    → e.offset ≤ at → IfSome told (λ given. StandAt given number (at - e.offset) bytes) → GivesAll given number at bytes
 gives_read told extents given number at e bytes are is from stands = grind (arith, same_offset, gives_standing)
 
 -- ---- what is noted
@@ -104,13 +102,11 @@ pub part_compared : (sources : List SourceParts) (p q at size : ℕ) (old new : 
     → GivesAll sources p at one → GivesAll sources q at other → length one ≡ size → length other ≡ length one
     → new ≡ with_bytes old at one other → IsPartCompared sources p q at (at + size) old new
 part_compared sources p q at size old new one other g h len alike is = record {
-  sound = λ all.
-      subst (AllByRecursion (IsDifferenceOf sources)) (sym is)
+  sound = λ all. subst (AllByRecursion (IsDifferenceOf sources)) (sym is)
       (sound_with_bytes sources p q old at one other g h all);
   kept = λ x l.
       subst (λ (ds : List Difference). LiesInOne ds x) (sym is) (kept_with_bytes sources p q old at one other x l);
-  found = λ x from before d.
-      subst (λ (ds : List Difference). LiesInOne ds x) (sym is)
+  found = λ x from before d. subst (λ (ds : List Difference). LiesInOne ds x) (sym is)
       (found_with_bytes sources p q old at one other x g h alike from (omega (arith, before, len)) d);
 }
 
@@ -136,8 +132,7 @@ apart_same low (r ∷ places) a some p q x (inr h) (inr k) l m =
 -- One part more of an overlap, which lies in one place.
 pub compared_more : (sources : List SourceParts) (extents : List Extent) (places : List Place) (overlap p : Place)
     (at size : ℕ) (first old new : List Difference) → IsOverlap extents places overlap → In p places
-    → LiesInPlace p at → at + size ≤ p.end
-    → IsCompared sources places (place overlap.start at overlap.source) first old
+    → LiesInPlace p at → at + size ≤ p.end → IsCompared sources places (place overlap.start at overlap.source) first old
     → IsPartCompared sources p.source overlap.source at (at + size) old new
     → IsCompared sources places (place overlap.start (at + size) overlap.source) first new
 compared_more sources extents places overlap p at size first old new is h l end before part = record {
@@ -153,16 +148,14 @@ compared_more sources extents places overlap p at size first old new is h l end 
             let here : LiesInPlace p x =
             record { from = omega (arith, low, above); before = omega (arith, below, end) } in
             let same = apart_same 0 places is.apart (λ r i. (is.within r i).some) q p x k h n here in
-            part.found x above below
-            (subst (λ (r : Place). DifferAt sources r.source overlap.source x) same d))
+            part.found x above below (subst (λ (r : Place). DifferAt sources r.source overlap.source x) same d))
       ];
 }
 
 -- One overlap more.
 pub all_compared_more : (sources : List SourceParts) (places overlaps : List Place) (i : ℕ) (d : Place)
     (old new : List Difference) → i < length overlaps → AreCompared sources places (take i overlaps) old
-    → IsCompared sources places (get_or overlaps i d) old new
-    → AreCompared sources places (take (i + 1) overlaps) new
+    → IsCompared sources places (get_or overlaps i d) old new → AreCompared sources places (take (i + 1) overlaps) new
 all_compared_more sources places overlaps i d old new within before one =
     subst (λ (l : List Place). AreCompared sources places l new) (sym (take_more overlaps i d within)) (record {
       sound = one.sound before.sound;
@@ -299,8 +292,7 @@ module _ (sources : List SourceParts) (extents : List Extent) (have : HaveExtent
               let same = apart_same 0 places are.apart (λ r i. (are.within r i).some) q.0 p x own h q.2 l in
               absurd (ne (one_byte sources 0 0 p.source x a b g
               (subst (λ (r : Place). GivesAt sources r.source x b) same of_q))))
-          | inr shared ↦
-              compared.found q.0 x p shared q.2 h l
+          | inr shared ↦ compared.found q.0 x p shared q.2 h l
               (record { one = a; other = b; gives_one = g; gives_other = of_q; differs = ne })
         ]
 

@@ -31,8 +31,7 @@ with_near_grown zero last next (d ∷ []) l at near =
     let first = ap (λ (e : Difference). e.first) same in
     let end = ap (λ (e : Difference). e.last) same in
     sym ((ap (λ b. if b then difference d.first (max d.last next.last) ∷ [] else d ∷ next ∷ [])
-    (ap (λ (e : Difference). is_near e next) same ∙ near))
-    ∙ (λ i. difference (first i) (max (end i) next.last) ∷ []))
+    (ap (λ (e : Difference). is_near e next) same ∙ near)) ∙ (λ i. difference (first i) (max (end i) next.last) ∷ []))
 with_near_grown zero last next (d ∷ e ∷ ds) l at near = absurd (omega arith)
 with_near_grown (suc k) last next (d ∷ []) l at near = absurd (omega arith)
 with_near_grown (suc k) last next (d ∷ e ∷ ds) l at near =
@@ -61,8 +60,7 @@ with_near_first (d ∷ ds) next e = absurd (none_there (slice_get-get_or (d ∷ 
 with_near_cases : (d next : Difference) (P : List Difference → Type 0)
     → (d.first ≤ next.first → next.first < d.last + 512 → P (difference d.first (max d.last next.last) ∷ []))
     → ((d.first ≤ next.first → d.last + 512 ≤ next.first) → P (d ∷ next ∷ [])) → P (with_near (d ∷ []) next)
-with_near_cases d next P near far =
-    elim (is_near d next) as (λ b. is_near d next ≡ b
+with_near_cases d next P near far = elim (is_near d next) as (λ b. is_near d next ≡ b
     → P (if b then difference d.first (max d.last next.last) ∷ [] else d ∷ next ∷ [])) [
       | true ↦ λ e.
           let both = and_parts (nat_le d.first next.first) (nat_lt (next.first - d.last) 512) e in
@@ -99,10 +97,8 @@ all_with_all P join ds (next ∷ others) all more =
 -- ---- they lie below the greatest end
 
 pub differences_with_near : (ds : List Difference) (next : Difference) → AllByRecursion IsDifference ds
-    → IsDifference next
-    → AllByRecursion IsDifference (with_near ds next)
-differences_with_near =
-    all_with_near IsDifference (λ d next one other from near.
+    → IsDifference next → AllByRecursion IsDifference (with_near ds next)
+differences_with_near = all_with_near IsDifference (λ d next one other from near.
     let order = one.order in
     let low = one.within in
     let high = other.within in record { order = omega (arith, order); within = omega (arith, low, high) })
@@ -124,8 +120,7 @@ lies_cases d ds x (e, inr h, l) = inr (e, h, l)
 lies_with_near : (ds : List Difference) (next : Difference) (x : ℕ) → LiesInOne ds x ⊎ LiesInDifference next x
     → LiesInOne (with_near ds next) x
 lies_with_near [] next x l = elim l [ inl none ↦ absurd none.1 | inr k ↦ lies_first next [] x k ]
-lies_with_near (d ∷ []) next x l =
-    with_near_cases d next (λ ds. LiesInOne ds x)
+lies_with_near (d ∷ []) next x l = with_near_cases d next (λ ds. LiesInOne ds x)
     (λ from near. lies_first (difference d.first (max d.last next.last)) [] x (elim l [
       | inl k ↦ elim (lies_cases d [] x k) [
         | inl m ↦ (let low = m.from in let high = m.to in record { from = low; to = omega (arith, high) })
@@ -212,8 +207,7 @@ module _ (sources : List SourceParts) (p q : ℕ) where
   pub one_byte : (number x a b : ℕ) → GivesAt sources number x a → GivesAt sources number x b → a ≡ b
   one_byte number x a b g h =
       let same = same_Some g.0 h.0 (sym g.1 ∙ h.1) in
-      same_Some a b (sym g.2.is
-      ∙ (λ i. slice_get (same i).bytes (x - (same i).offset)) ∙ h.2.is)
+      same_Some a b (sym g.2.is ∙ (λ i. slice_get (same i).bytes (x - (same i).offset)) ∙ h.2.is)
 
   pub is_difference : (x a b : ℕ) → GivesAt sources p x a → GivesAt sources q x b → a ≢ b
       → IsDifferenceOf sources (difference x x)
@@ -254,8 +248,7 @@ module _ (sources : List SourceParts) (p q : ℕ) where
       elim (a == b) as (λ c. (a == b) ≡ c → AllByRecursion (IsDifferenceOf sources)
       (with_bytes (if c then ds else with_near ds (difference at at)) (at + 1) bytes others)) [
         | true ↦ λ e. sound_with_bytes ds (at + 1) bytes others g.1 h.1 all
-        | false ↦ λ e.
-            sound_with_bytes (with_near ds (difference at at)) (at + 1) bytes others g.1 h.1
+        | false ↦ λ e. sound_with_bytes (with_near ds (difference at at)) (at + 1) bytes others g.1 h.1
             (sound_with_near sources ds (difference at at) all (is_difference at a b g.0 h.0 (not_same a b e)))
       ] refl
 
@@ -263,12 +256,10 @@ module _ (sources : List SourceParts) (p q : ℕ) where
       → LiesInOne (with_bytes ds at bytes others) x
   kept_with_bytes ds at [] others x l = l
   kept_with_bytes ds at (a ∷ bytes) [] x l = l
-  kept_with_bytes ds at (a ∷ bytes) (b ∷ others) x l =
-      elim (a == b) as (λ c. LiesInOne
+  kept_with_bytes ds at (a ∷ bytes) (b ∷ others) x l = elim (a == b) as (λ c. LiesInOne
       (with_bytes (if c then ds else with_near ds (difference at at)) (at + 1) bytes others) x) [
         | true ↦ kept_with_bytes ds (at + 1) bytes others x l
-        | false ↦
-            kept_with_bytes (with_near ds (difference at at)) (at + 1) bytes others x
+        | false ↦ kept_with_bytes (with_near ds (difference at at)) (at + 1) bytes others x
             (lies_with_near ds (difference at at) x (inl l))
       ]
 
@@ -280,8 +271,7 @@ module _ (sources : List SourceParts) (p q : ℕ) where
   found_with_bytes ds at (a ∷ bytes) (b ∷ others) x g h same from before d =
       let next = if a == b then ds else with_near ds (difference at at) in
       elim (cases_lt at x) [
-        | inl above ↦
-            found_with_bytes next (at + 1) bytes others x g.1 h.1 (omega (arith, same)) (omega (arith, above))
+        | inl above ↦ found_with_bytes next (at + 1) bytes others x g.1 h.1 (omega (arith, same)) (omega (arith, above))
             (omega (arith, before)) d
         | inr here ↦ (
             let is : x ≡ at = omega (arith, from, here) in
@@ -290,10 +280,8 @@ module _ (sources : List SourceParts) (p q : ℕ) where
             elim (a == b) as (λ c. (a == b) ≡ c → LiesInOne
             (with_bytes (if c then ds else with_near ds (difference at at)) (at + 1) bytes others) x) [
               | true ↦ λ e. absurd (d.differs (one ∙ eqb-true a b e ∙ sym other))
-              | false ↦ λ e.
-                  kept_with_bytes (with_near ds (difference at at)) (at + 1) bytes others x
-                  (lies_with_near ds (difference at at) x
-                  (inr (record { from = from; to = here })))
+              | false ↦ λ e. kept_with_bytes (with_near ds (difference at at)) (at + 1) bytes others x
+                  (lies_with_near ds (difference at at) x (inr (record { from = from; to = here })))
             ] refl)
       ]
 
@@ -345,8 +333,7 @@ far_with_all : (low : ℕ) (ds others : List Difference) → AreFar 0 ds → All
 far_with_all low ds [] far below rise some = far
 far_with_all low ds (next ∷ others) far below rise some =
     let under = below_more low next.first ds rise.0 below in
-    far_with_all next.first (with_near ds next) others
-    (far_with_near 0 ds next far (omega arith) some.0 under)
+    far_with_all next.first (with_near ds next) others (far_with_near 0 ds next far (omega arith) some.0 under)
     (all_with_near (λ d. d.first ≤ next.first) (λ d e one other from near. one) ds next under (omega arith))
     rise.1 some.1
 
@@ -397,8 +384,7 @@ joined_are sources noted all j sound found x = (
       (omega (arith, above, below)) i.near x above below,
 ) where
   In-noted : (d : Difference) → In d j.sorted → In d noted
-  In-noted d h =
-      In-from_Contains d noted
+  In-noted d h = In-from_Contains d noted
       (Contains-permutation j.sorted noted d (IsPermutation-sym noted j.sorted j.members)
       (Contains-from_In d j.sorted h))
 
@@ -407,13 +393,11 @@ joined_are sources noted all j sound found x = (
       In-from_Contains d j.sorted (Contains-permutation noted j.sorted d j.members (Contains-from_In d noted h))
 
   sound_sorted : AllByRecursion (IsDifferenceOf sources) j.sorted
-  sound_sorted =
-      all_from_In (IsDifferenceOf sources) j.sorted
+  sound_sorted = all_from_In (IsDifferenceOf sources) j.sorted
       (λ d h. all-In (IsDifferenceOf sources) noted d sound (In-noted d h))
 
   sound_all : AllByRecursion (IsDifferenceOf sources) all
-  sound_all =
-      subst (AllByRecursion (IsDifferenceOf sources)) (sym j.is)
+  sound_all = subst (AllByRecursion (IsDifferenceOf sources)) (sym j.is)
       (all_with_all (IsDifferenceOf sources) (join_of sources) [] j.sorted tt sound_sorted)
 
   found_all : (y : ℕ) → Differ sources y → LiesInOne all y
@@ -423,9 +407,7 @@ joined_are sources noted all j sound found x = (
       (lies_with_all [] j.sorted y (inr (l.0, In-sorted l.0 l.1, l.2)))
 
   far : AreFar 0 all
-  far =
-      subst (AreFar 0) (sym j.is)
-      (far_with_all 0 [] j.sorted tt tt (rise_by 0 j.sorted j.rise (λ d h. omega arith))
+  far = subst (AreFar 0) (sym j.is) (far_with_all 0 [] j.sorted tt tt (rise_by 0 j.sorted j.rise (λ d h. omega arith))
       (all_from_In (λ (d : Difference). d.first ≤ d.last) j.sorted
       (λ d h. (all-In (IsDifferenceOf sources) j.sorted d sound_sorted h).order)))
 
@@ -457,8 +439,7 @@ lies_in_differences ds x =
 
 pub differences_cover : (ds : List Difference) → AllByRecursion IsDifference ds
     → IsCover (union_of_runs [] (map run_of_difference ds))
-differences_cover ds all =
-    IsCover-all [] (map run_of_difference ds) (record { maximal = tt; within = tt }) (λ r h.
+differences_cover ds all = IsCover-all [] (map run_of_difference ds) (record { maximal = tt; within = tt }) (λ r h.
     let m = (In-map run_of_difference ds r).0 h in
     let d = all-In IsDifference ds m.0 all m.1 in
     let order = d.order in
@@ -479,8 +460,7 @@ differences_anyway (Err e) old new next added err all one = subst (AllByRecursio
 
 pub all_permuted : (P : Difference → Type 0) (xs ys : List Difference) → IsPermutation xs ys → AllByRecursion P xs
     → AllByRecursion P ys
-all_permuted P xs ys perm all =
-    all_from_In P ys (λ d h.
+all_permuted P xs ys perm all = all_from_In P ys (λ d h.
     all-In P xs d all (In-from_Contains d xs (Contains-permutation ys xs d (IsPermutation-sym xs ys perm)
     (Contains-from_In d ys h))))
 
@@ -489,8 +469,7 @@ pub bytes_ended : (ds : List Difference) (at n : ℕ) (bytes others : List ℕ) 
     → with_bytes ds at (drop n bytes) (drop n others) ≡ ds
 bytes_ended ds at n bytes others e =
     elim (cases_lt n (length bytes)) [
-      | inl below ↦
-          at_drop_all (λ (l : List ℕ). with_bytes ds at (drop n bytes) l) others n (omega (arith, below, e))
+      | inl below ↦ at_drop_all (λ (l : List ℕ). with_bytes ds at (drop n bytes) l) others n (omega (arith, below, e))
           ∙ no_others (drop n bytes)
       | inr ended ↦ at_drop_all (λ (l : List ℕ). with_bytes ds at l (drop n others)) bytes n ended
     ]

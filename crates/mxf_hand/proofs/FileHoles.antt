@@ -77,6 +77,5 @@ module _ (l : List PacketParts) (well : IsWellFormed l) (notes : List NoteParts)
             (record {
               below = (k.pack, k.clear.held, omega (arith, known, is, less));
               in_none = λ n i c. free (n, i, c);
-            })
-            (subst (λ (o : Option ℕ). x < unwrap_or o (max (top_of notes) 0)) (sym e) (omega (arith, is, less)))
+            }) (subst (λ (o : Option ℕ). x < unwrap_or o (max (top_of notes) 0)) (sym e) (omega (arith, is, less)))
       ] refl

@@ -116,10 +116,8 @@ one_key : {bytes key other after rest : List ℕ} {l m : LengthParts} → Begins
 one_key {bytes} {key} {other} {after} {rest} a b =
     let first : length key ≡ 16 = a.label.0 in
     let second : length other ≡ 16 = b.label.0 in
-    sym (take-append_seam key (a.spelled ++ after))
-    ∙ (λ i. take (first i) (sym a.whole i))
-    ∙ (λ i. take (sym second i) (b.whole i))
-    ∙ take-append_seam other (b.spelled ++ rest)
+    sym (take-append_seam key (a.spelled ++ after)) ∙ (λ i. take (first i) (sym a.whole i))
+    ∙ (λ i. take (sym second i) (b.whole i)) ∙ take-append_seam other (b.spelled ++ rest)
 
 -- ---- a reading of packets that are laid
 
@@ -145,8 +143,7 @@ module _ (q : ℕ) (read more behind : List ℕ) (back : List PacketParts) (join
 
   -- Its packets are among them.
   read_packet : (n : NoteParts) → In n (packet_notes q read) → In n (notes_from q back)
-  read_packet n i =
-      subst (In n) (sym notes_are) ((In-append n (notes_from q packets) (notes_from at others)).1 (inl i))
+  read_packet n i = subst (In n) (sym notes_are) ((In-append n (notes_from q packets) (notes_from at others)).1 (inl i))
 
   others_laid : AreLaid at (rest_in q read ++ more) others []
   others_laid = grind (arith, whole_is, joined, seam, some_piece)
@@ -215,8 +212,7 @@ module _ (q : ℕ) (read more behind : List ℕ) (back : List PacketParts) (join
           let here : BeginsWithKeyAndLength (rest_in q read ++ more) p.key
           (record { width = p.width; value = length p.value })
           (p.value ++ after) = subst (λ t. BeginsWithKeyAndLength t p.key
-          (record { width = p.width; value = length p.value })
-          (p.value ++ after)) (sym joined) one in
+          (record { width = p.width; value = length p.value }) (p.value ++ after)) (sym joined) one in
           let lengths : cut.length ≡ record { width = p.width; value = length p.value } =
           same_Some cut.length (record { width = p.width; value = length p.value })
           (sym (head_at-head (rest_in q read ++ more) cut.key cut.length (cut.after ++ more) other)
@@ -241,8 +237,7 @@ module _ (l : List PacketParts) (bytes : List ℕ) (h : HandBytes) (laid : AreLa
   laid_from front back e = laid_behind 0 bytes front back (subst (λ l. AreLaid 0 bytes l []) e laid)
 
   pub reads_front : (front back : List PacketParts) (e : l ≡ front ++ back) (end : Option ℕ) (q : ℕ)
-      → end_after 0 front ≡ q
-      → (laid_from front back e).behind
+      → end_after 0 front ≡ q → (laid_from front back e).behind
       ≡ read_bytes h end q ++ drop (read_to h.runs end q - q) (laid_from front back e).behind
   reads_front front back e end q at =
       let b = laid_from front back e in
@@ -261,8 +256,7 @@ module _ (l : List PacketParts) (bytes : List ℕ) (h : HandBytes) (laid : AreLa
       ((In-append m (notes_from 0 front) (notes_from (end_after 0 front) back)).1 (inr i)))
 
   packet_of_file : (end : Option ℕ) (q : ℕ) (n : NoteParts) → IsBoundary l q
-      → In n (packet_notes q (read_bytes h end q))
-      → IsOfFile l n
+      → In n (packet_notes q (read_bytes h end q)) → IsOfFile l n
   packet_of_file end q n (front, back, e, at) i =
       let b = laid_from front back e in
       let behind = subst (λ q. AreLaid q b.behind back []) at b.laid in
@@ -397,8 +391,7 @@ module _ (l : List PacketParts) (bytes : List ℕ) (h : HandBytes) (laid : AreLa
           ∙ is_file (start + i) (lies (start + i) (omega arith) (omega (arith, less)))) in
           let count : start + length p.value - start ≡ length p.value = omega arith in
           ap (λ (k : ℕ). note_of q (packet_parts p.key p.width (map h.byte (range_with_len start k)))) count
-          ∙ ap (λ (v : List ℕ). note_of q (packet_parts p.key p.width v))
-          (sym value ∙ take-append_seam p.value after)
+          ∙ ap (λ (v : List ℕ). note_of q (packet_parts p.key p.width v)) (sym value ∙ take-append_seam p.value after)
 
   -- ---- a round
 
@@ -426,8 +419,7 @@ module _ (l : List PacketParts) (bytes : List ℕ) (h : HandBytes) (laid : AreLa
 
     -- A section is read from where a packet begins.
     from_boundary : (p : Section) (q : ℕ) → In p (sections_of notes) → from_of h notes p ≡ Some q → IsBoundary l q
-    from_boundary p q i e =
-        from_by p.first q (fitting h notes p.first) (λ m k. (fitted p.first m k).0) (begin p i) e
+    from_boundary p q i e = from_by p.first q (fitting h notes p.first) (λ m k. (fitted p.first m k).0) (begin p i) e
 
     packets_of_file : (p : Section) (m : NoteParts) → In p (sections_of notes) → In m (packets_of h notes p)
         → IsOfFile l m

@@ -56,8 +56,7 @@ start_added old new items left n is first x =
     )
 
 -- All notes that were read, of two parts.
-pub read_more : (p n : List NoteParts) (h m : List CutHead) (x : ℕ)
-    → IsStart (read_notes (p ++ n) (h ++ m)) x
+pub read_more : (p n : List NoteParts) (h m : List CutHead) (x : ℕ) → IsStart (read_notes (p ++ n) (h ++ m)) x
     ↔ IsStart (read_notes p h) x ⊎ (IsStart n x ⊎ IsStart (map (λ c. c.note) m) x)
 read_more p n h m x =
     let note = λ (c : CutHead). c.note in

@@ -13,8 +13,7 @@ use Rattle.mxf_hand.proofs.HandLaws.{fits_at}
 
 -- Key and length of a note have 16 bytes and its width.
 pub length-key_and_length : (n : NoteParts) → IsNote n → length (key_and_length n) ≡ 16 + n.width
-length-key_and_length n is =
-    length-append n.key (length_bytes n.width n.length)
+length-key_and_length n is = length-append n.key (length_bytes n.width n.length)
     ∙ (let key : length n.key ≡ 16 = is.label.0 in
     let rest = spelled_len (length_bytes n.width n.length) n.width n.length
     (length_bytes-spelled n.width n.length is.width) in
@@ -32,11 +31,9 @@ pub between_lies : (runs items : List Run) (start end : ℕ) → items ≡ filte
 between_lies runs items start end e x low high lies = grind (arith, In-filter, and_from, lt-ltb)
 
 -- A byte that was read.
-pub read_byte : (byte : ℕ → ℕ) (bytes : List ℕ) (from to x : ℕ) → bytes ≡ bytes_between byte from to → from ≤ x
-    → x < to
+pub read_byte : (byte : ℕ → ℕ) (bytes : List ℕ) (from to x : ℕ) → bytes ≡ bytes_between byte from to → from ≤ x → x < to
     → get_or bytes (x - from) 0 ≡ byte x
-read_byte byte bytes from to x e low high =
-    ap (λ (l : List ℕ). get_or l (x - from) 0) e
+read_byte byte bytes from to x e low high = ap (λ (l : List ℕ). get_or l (x - from) 0) e
     ∙ get_or-map-range_with_len byte from (to - from) (x - from) x 0 (omega arith) (omega arith)
 
 -- As many bytes were read.
@@ -55,20 +52,16 @@ stands byte bytes others start from to x e above agree low high =
     sym (read_byte byte bytes from to x e low high) ∙ sym here ∙ ap (λ (k : ℕ). get_or others k 0) at
 
 room : (count size from to start width : ℕ) → start ≤ from → from < start + 16 + width → to ≤ start + 16 + width
-    → count ≡ to - from
-    → size ≡ 16 + width → (from - start) + count ≤ size
+    → count ≡ to - from → size ≡ 16 + width → (from - start) + count ≤ size
 room count size from to start width above inside within e f = omega (arith, above, inside, within, e, f)
 
 -- Where a byte of a run doesn't stand in the key and length of a head, the head doesn't fit.
 pub unfit : (h : HandBytes) (n : NoteParts) (bytes others : List ℕ) (start from to : ℕ) → others ≡ key_and_length n
     → IsNote n → start ≡ n.offset → start ≤ from → from < start + 16 + n.width → to ≤ start + 16 + n.width
-    → bytes ≡ bytes_between h.byte from to
-    → ((x : ℕ) → from ≤ x → x < to → LiesIn h.runs x)
+    → bytes ≡ bytes_between h.byte from to → ((x : ℕ) → from ≤ x → x < to → LiesIn h.runs x)
     → ((from - start) + length bytes ≤ length others
-    → (i : ℕ) × (i < length bytes) × (get_or others ((from - start) + i) 0 ≢ get_or bytes i 0))
-    → fits h n ≡ false
-unfit h n bytes others start from to eo is es above inside within eb lies differ =
-    false_from_ne_true (fits h n) (λ yes.
+    → (i : ℕ) × (i < length bytes) × (get_or others ((from - start) + i) 0 ≢ get_or bytes i 0)) → fits h n ≡ false
+unfit h n bytes others start from to eo is es above inside within eb lies differ = false_from_ne_true (fits h n) (λ yes.
     let count = read_count h.byte bytes from to eb in
     let size : length others ≡ 16 + n.width = ap length eo ∙ length-key_and_length n is in
     let d = differ (room (length bytes) (length others) from to start n.width above inside within count size) in

@@ -30,8 +30,7 @@ first_above (s ∷ runs) left x r e =
 pub none_above : (runs : List Run) (x : ℕ) → filter (is_between x None) runs ≡ []
     → find (λ s. nat_lt x s.end) runs ≡ None
 none_above [] x e = refl
-none_above (s ∷ runs) x e =
-    elim (nat_lt x s.end) as (λ b. cond (b && true) (s ∷ filter (is_between x None) runs)
+none_above (s ∷ runs) x e = elim (nat_lt x s.end) as (λ b. cond (b && true) (s ∷ filter (is_between x None) runs)
     (filter (is_between x None) runs) ≡ []
     → cond b (Some s) (find (λ s. nat_lt x s.end) runs) ≡ None) [
       | true ↦ λ h. absurd cc
@@ -75,8 +74,7 @@ run_lies runs x e y h from before =
 
 -- All offsets that are read are at hand.
 pub read_lies : (runs : List Run) (end : Option ℕ) (from x : ℕ) → from ≤ x → x < read_to runs end from → LiesIn runs x
-read_lies runs end from x low high =
-    elim (run_end runs from) as (λ o. run_end runs from ≡ o
+read_lies runs end from x low high = elim (run_end runs from) as (λ o. run_end runs from ≡ o
     → x < option_map_or (λ e. up_to_bound e end) o from → LiesIn runs x) [
       | None ↦ λ e k. absurd (omega arith)
       | Some last ↦ λ e k. run_lies runs from last x e low (let b = bound_le last end in omega (arith, b))
@@ -105,8 +103,7 @@ range_in a (suc n) x (inr i) =
     (omega arith, omega arith)
 
 -- The test whether a head fits, and what it says of each offset of its key and length.
-pub fits_at : (h : HandBytes) (n : NoteParts) → fits h n ≡ true → (x : ℕ) → n.offset ≤ x
-    → x < n.offset + (16 + n.width)
+pub fits_at : (h : HandBytes) (n : NoteParts) → fits h n ≡ true → (x : ℕ) → n.offset ≤ x → x < n.offset + (16 + n.width)
     → LiesIn h.runs x → h.byte x ≡ get_or (key_and_length n) (x - n.offset) 0
 unfolding fits
 fits_at h n all x from before lies =
@@ -122,8 +119,7 @@ pub at_fits : (h : HandBytes) (n : NoteParts) → ((x : ℕ) → n.offset ≤ x 
 unfolding fits
 at_fits h n all =
     In-list_all (λ x. not (has_offset h.runs x) || (h.byte x == get_or (key_and_length n) (x - n.offset) 0))
-    (range_with_len n.offset (16 + n.width))
-    (λ x i.
+    (range_with_len n.offset (16 + n.width)) (λ x i.
     let bounds = range_in n.offset (16 + n.width) x i in
     elim (has_offset h.runs x) as (λ b. has_offset h.runs x ≡ b
     → (not b || (h.byte x == get_or (key_and_length n) (x - n.offset) 0)) ≡ true) [

@@ -36,15 +36,13 @@ kept_mapped {K} {L} f q (x ∷ xs) = grind (arith, kept_mapped f q xs)
 
 -- Where a packet begins: at the first of the heads.
 pub start_first : (heads : List HeadNote) (h : HeadNote) (end : ℕ) (notes : List NoteParts)
-    → slice_get heads 0 ≡ Some h → map (λ x. x.0.now) heads ≡ heads_to end notes
-    → h.0.now.offset ≡ start_of notes end
+    → slice_get heads 0 ≡ Some h → map (λ x. x.0.now) heads ≡ heads_to end notes → h.0.now.offset ≡ start_of notes end
 start_first [] h end notes e f = absurd cc
 start_first (x ∷ heads) h end notes e f = grind (arith, find, first_kept)
 
 pub start_none : (heads : List HeadNote) (end : ℕ) (notes : List NoteParts) → slice_get heads 0 ≡ None
     → map (λ x. x.0.now) heads ≡ heads_to end notes → end ≡ start_of notes end
-start_none [] end notes e f =
-    sym (ap (λ (o : Option NoteParts). option_map_or (λ n. n.offset) o end)
+start_none [] end notes e f = sym (ap (λ (o : Option NoteParts). option_map_or (λ n. n.offset) o end)
     (none_kept (is_head_to end) notes (sym f)))
 start_none (x ∷ heads) end notes e f = absurd cc
 
@@ -104,15 +102,13 @@ heads_are notes heads is e =
 -- The heads that end at an offset are among those that begin near it.
 pub ending : (notes : List NoteParts) (heads : List HeadNote) (end : ℕ) → AreHeads notes heads
     → map (λ h. h.0.now) (filter (λ h. covered_end h.0.now == end)
-    (filter (λ h. nat_le (end - 25) h.0.now.offset && nat_lt h.0.now.offset end) heads))
-    ≡ heads_to end notes
+    (filter (λ h. nat_le (end - 25) h.0.now.offset && nat_lt h.0.now.offset end) heads)) ≡ heads_to end notes
 ending notes heads end are =
     let note = λ (h : HeadNote). h.0.now in
     let ends = λ (n : NoteParts). covered_end n == end in
     let lies = λ (h : HeadNote). nat_le (end - 25) h.0.now.offset && nat_lt h.0.now.offset end in
     let all : filter (λ h. ends (note h)) (filter lies heads) ≡ filter (λ h. ends (note h)) heads =
-    both lies (λ h. ends (note h)) heads
-    (λ h i e.
+    both lies (λ h. ends (note h)) heads (λ h i e.
     let there = (In-map note heads (note h)).1 (h, i, refl) in
     let kept = (In-filter (λ n. not n.whole) notes (note h)).0
     (subst (λ (l : List NoteParts). In (note h) l) are.listed there) in
@@ -142,6 +138,5 @@ kept_more {K} {L} f q xs i d old new whole here grown before =
 -- None is left.
 pub kept_all : {K L : Type 0} (f : K → L) (q : L → Bool) (xs : List K) (i : ℕ) (all whole : List L) → length xs ≤ i
     → all ++ filter q (map f (drop i xs)) ≡ whole → all ≡ whole
-kept_all {K} {L} f q xs i all whole ended before =
-    sym (append-nil all)
+kept_all {K} {L} f q xs i all whole ended before = sym (append-nil all)
     ∙ ap (λ (l : List L). all ++ l) (sym (at_drop_all (λ (l : List K). filter q (map f l)) xs i ended)) ∙ before

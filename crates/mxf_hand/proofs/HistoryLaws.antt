@@ -64,8 +64,7 @@ joined_again : (h : HandBytes) (notes : List NoteParts) → IsContent notes → 
 joined_again h notes r p =
     let all = put_together h notes in
     one_reduced (reduced_union notes all) all (IsContent-reduced_union notes all r) (all_content h notes r)
-    (AreReduced-reduced_union notes all p) (all_reduced h notes p)
-    (λ n.
+    (AreReduced-reduced_union notes all p) (all_reduced h notes p) (λ n.
     let u = has-reduced_union n notes all in (
       λ k. elim (u.0 k) [ inl a ↦ all_keep h notes n a | inr b ↦ b ],
       λ k. u.1 (inr k),
@@ -74,8 +73,7 @@ joined_again h notes r p =
 pub saved_again : (h : HandBytes) (notes : List NoteParts) → IsContent notes → AreReduced notes
     → round h (put_together h notes) ≡ put_together h notes
     → put_together h (reduced_union notes (put_together h notes)) ≡ put_together h notes
-saved_again h notes r p e =
-    ap (put_together h) (joined_again h notes r p) ∙ all_rounds h (put_together h notes)
+saved_again h notes r p e = ap (put_together h) (joined_again h notes r p) ∙ all_rounds h (put_together h notes)
     ∙ rounds_end h (put_together h notes) 64 e
 
 -- Notes that are added one after another.
@@ -96,8 +94,7 @@ hands-adds before (m ∷ notes) n k = hands-adds (Add before m) notes n (inl k)
 
 -- A history of rounds.
 abbrev Leads : HandBytes → ℕ → History → Type 0
-Leads h count before =
-    (after : History) × (content after ≡ rounds count h (content before))
+Leads h count before = (after : History) × (content after ≡ rounds count h (content before))
     × ((n : NoteParts) → Hands before n → Hands after n)
 
 led : (h : HandBytes) (count : ℕ) (before : History) → Leads h count before

@@ -65,16 +65,14 @@ module _ (l : List PacketParts) (h : HandBytes) (file : AreBytesOfFile l h) wher
   no_head_at q = refl
 
   no_heads : (q : ℕ) → cut_heads q [] ≡ []
-  no_heads q =
-      (λ i. heads_at (end_after q (no_packets q i)) (rest_in-none q [] (none_at_end q [] (omega arith)) i))
+  no_heads q = (λ i. heads_at (end_after q (no_packets q i)) (rest_in-none q [] (none_at_end q [] (omega arith)) i))
       ∙ no_head_at q
 
   none_fits : (first : ℕ) → heads_to first whole ≡ []
   none_fits first = grind (arith, filter_none, not_whole, and_parts, is_whole)
 
   fits_nothing : (first : ℕ) → fitting h whole first ≡ []
-  fits_nothing first =
-      ap (filter (λ n. (n.offset == start_of whole first) && fits h n)) (none_fits first)
+  fits_nothing first = ap (filter (λ n. (n.offset == start_of whole first) && fits h n)) (none_fits first)
 
   from_there : (p : Section) → In p (sections_of whole) → (q : ℕ) × (from_of h whole p ≡ Some q) × (end_after 0 l ≤ q)
   from_there p k =

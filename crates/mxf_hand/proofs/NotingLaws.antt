@@ -41,5 +41,4 @@ reading_told o m p notes head tells e f = grind arith
 
 -- the numbers of a note's length can be spelled
 pub can_spell : (n : NoteParts) (w l : ℕ) → IsNote n → w ≡ n.width → l ≡ n.length → CanSpell w l
-can_spell n w l note e f =
-    subst (λ (x : ℕ). CanSpell x l) (sym e) (subst (CanSpell n.width) (sym f) note.width)
+can_spell n w l note e f = subst (λ (x : ℕ). CanSpell x l) (sym e) (subst (CanSpell n.width) (sym f) note.width)

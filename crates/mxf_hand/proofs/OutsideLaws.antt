@@ -13,8 +13,7 @@ use Rattle.mxf_hand.specs.Outside.{with_all_outside, with_outside, with_some}
 
 LiesIn-with_some : (start end : ℕ) (runs : List Run) (x : ℕ)
     → LiesIn (with_some start end runs) x ↔ LiesIn runs x ⊎ ((start ≤ x) × (x < end))
-LiesIn-with_some start end runs x =
-    elim (nat_lt start end) as (λ b. nat_lt start end ≡ b
+LiesIn-with_some start end runs x = elim (nat_lt start end) as (λ b. nat_lt start end ≡ b
     → LiesIn (if b then with_run (run start end) runs else runs) x ↔ LiesIn runs x ⊎ ((start ≤ x) × (x < end))) [
       | true ↦ λ e.
           let one = LiesIn-with_run (run start end) runs x in (
@@ -41,8 +40,7 @@ LiesIn-with_some start end runs x =
 
 IsCover-with_some : (start end : ℕ) (runs : List Run) → end ≤ greatest_end → IsCover runs
     → IsCover (with_some start end runs)
-IsCover-with_some start end runs most c =
-    elim (nat_lt start end) as (λ b. nat_lt start end ≡ b
+IsCover-with_some start end runs most c = elim (nat_lt start end) as (λ b. nat_lt start end ≡ b
     → IsCover (if b then with_run (run start end) runs else runs)) [
       | true ↦ λ e.
           let order = ltb-true start end e in
@@ -53,8 +51,7 @@ IsCover-with_some start end runs most c =
 -- ---- offsets outside holes
 
 pub LiesIn-with_outside : (low : ℕ) (runs : List Run) (reached end : ℕ) (holes : List Run) (x : ℕ)
-    → AreMaximal low holes
-    → LiesIn (with_outside runs reached end holes) x
+    → AreMaximal low holes → LiesIn (with_outside runs reached end holes) x
     ↔ LiesIn runs x ⊎ ((reached ≤ x) × (x < end) × (LiesIn holes x → ⊥))
 LiesIn-with_outside low runs reached end [] x m =
     let some = LiesIn-with_some reached end runs x in (

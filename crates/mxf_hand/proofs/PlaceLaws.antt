@@ -34,8 +34,7 @@ end_above low (p ∷ ps) (suc j) d a some h =
     omega arith
 
 -- so their ends never fall
-pub ends_never_fall : (low : ℕ) (ps : List Place) → AreApart low ps → HaveOffsets ps
-    → IsNonDecreasingBy (λ p. p.end) ps
+pub ends_never_fall : (low : ℕ) (ps : List Place) → AreApart low ps → HaveOffsets ps → IsNonDecreasingBy (λ p. p.end) ps
 ends_never_fall low [] a some i j d l h = absurd (omega arith)
 ends_never_fall low (p ∷ ps) a some zero zero d l h = omega arith
 ends_never_fall low (p ∷ ps) a some zero (suc j) d l h =
@@ -74,8 +73,7 @@ none_has low (q ∷ ps) x (suc k) a some below next p (inl e) at =
     let f = ap (λ (r : Place). r.end) e in
     let before = at.before in
     omega arith
-none_has low (q ∷ ps) x (suc k) a some below next p (inr h) at =
-    none_has q.end ps x k a.1 (λ r t. some r (inr t))
+none_has low (q ∷ ps) x (suc k) a some below next p (inr h) at = none_has q.end ps x k a.1 (λ r t. some r (inr t))
     (λ j d m n. below (suc j) d (omega arith) (omega arith)) next p h at
 
 -- what no place has isn't given
@@ -83,8 +81,7 @@ pub none_given : (extents : List Extent) (places others : List Place) (runs : Li
     → ArePlaces extents places others runs → IfNone r ((p : Place) → In p places → ¬ LiesInPlace p x)
     → IfNone r (¬ LiesIn runs x)
 none_given extents places others runs x (Some p) a none = tt
-none_given extents places others runs x None a none =
-    λ lies. let s = (a.given x).0 lies in none s.0 s.1 s.2
+none_given extents places others runs x None a none = λ lies. let s = (a.given x).0 lies in none s.0 s.1 s.2
 
 pub have_offsets : (extents : List Extent) (places others : List Place) (runs : List Run)
     → ArePlaces extents places others runs → HaveOffsets places

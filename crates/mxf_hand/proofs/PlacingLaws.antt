@@ -14,8 +14,7 @@ use Rattle.mxf_hand.specs.declared.given.Place.{Place}
 -- ---- one place, where it has an offset
 
 some_is : (s e n : ℕ) (p : Place) → In p (some_place s e n) → (p ≡ place s e n) × (s < e)
-some_is s e n p h =
-    elim (nat_lt s e) as (λ b. nat_lt s e ≡ b → In p (if b then place s e n ∷ [] else [])
+some_is s e n p h = elim (nat_lt s e) as (λ b. nat_lt s e ≡ b → In p (if b then place s e n ∷ [] else [])
     → (p ≡ place s e n) × (s < e)) [
       | true ↦ λ q k. elim k [ inl same ↦ (same, ltb-true s e q) | inr none ↦ absurd none ]
       | false ↦ λ q k. absurd k
@@ -133,8 +132,7 @@ overlaps_part r (q ∷ spans) p h =
 
 places_apart : (low r : ℕ) (spans : List Place) → low ≤ r → AreApart low (places_above r spans)
 places_apart low r [] l = tt
-places_apart low r (q ∷ spans) l =
-    elim (nat_lt (max r q.start) q.end) as (λ b.
+places_apart low r (q ∷ spans) l = elim (nat_lt (max r q.start) q.end) as (λ b.
     AreApart low ((if b then place (max r q.start) q.end q.source ∷ [] else []) ++ places_above (max r q.end) spans)) [
       | true ↦ (omega (arith, l), places_apart q.end (max r q.end) spans (omega arith))
       | false ↦ places_apart low (max r q.end) spans (omega (arith, l))
@@ -176,8 +174,7 @@ each r (s ∷ spans) q x (inr h) l =
         | inl k ↦ inl ((In-append ih.0 (some_place (max r s.start) s.end s.source) (places_above (max r s.end) spans)).1
             (inr k))
         | inr k ↦ inr ((In-append ih.0 (some_place s.start (min r s.end) s.source)
-            (overlaps_below (max r s.end) spans)).1
-            (inr k))
+            (overlaps_below (max r s.end) spans)).1 (inr k))
       ],
     )
 
@@ -283,14 +280,12 @@ lies_in_places places x =
 
 module _ (extents : List Extent) (spans : List Place) (are : AreSpans extents spans) where
   span_of : (p : Place) → In p spans → IsSpan 0 extents p
-  span_of p h =
-      span_is 0 extents p (In-from_Contains p (spans_from 0 extents)
+  span_of p h = span_is 0 extents p (In-from_Contains p (spans_from 0 extents)
       (Contains-permutation spans (spans_from 0 extents) p (IsPermutation-sym (spans_from 0 extents) spans are.all)
       (Contains-from_In p spans h)))
 
   span_in : (p : Place) → In p (spans_from 0 extents) → In p spans
-  span_in p h =
-      In-from_Contains p spans
+  span_in p h = In-from_Contains p spans
       (Contains-permutation (spans_from 0 extents) spans p are.all (Contains-from_In p (spans_from 0 extents) h))
 
   is_place : (p q : Place) → In q spans → IsPartOf p q → IsPlaceOf extents p

@@ -86,8 +86,7 @@ read_front : (told : Option (List SourceParts)) (extents : List Extent) (number 
     → AreTold told extents sources → AreBytesOf sources byte at (at + n)
     → take n (front ++ rest) ≡ bytes_between byte at (at + n)
 read_front told extents number at n e front rest is from (some, within, stands) sources byte are of =
-    take-append-le n front rest within
-    ∙ are_read told extents sources byte number at n e (take n front) are is from
+    take-append-le n front rest within ∙ are_read told extents sources byte number at n e (take n front) are is from
     (omega (arith, length-take n front)) stands of
 
 -- the same of what a read came to
@@ -108,14 +107,12 @@ extent_there own items p e same there is = grind (arith, slice_get_within, slice
 -- the place that was found
 pub found_place : (own : List Extent) (x : ℕ) (r : Option Place) (p : Place) → r ≡ Some p
     → IfSome r (λ q. IsPlaceOf own q × LiesInPlace q x) → IsPlaceOf own p × LiesInPlace p x
-found_place own x r p e found =
-    subst (λ (o : Option Place). IfSome o (λ q. IsPlaceOf own q × LiesInPlace q x)) e found
+found_place own x r p e found = subst (λ (o : Option Place). IfSome o (λ q. IsPlaceOf own q × LiesInPlace q x)) e found
 
 -- ---- one read after another
 
 -- so many offsets, and so many others behind them
-range_more : (byte : ℕ → ℕ) (from m n : ℕ)
-    → map byte (range_with_len from m) ++ map byte (range_with_len (from + m) n)
+range_more : (byte : ℕ → ℕ) (from m n : ℕ) → map byte (range_with_len from m) ++ map byte (range_with_len (from + m) n)
     ≡ map byte (range_with_len from (m + n))
 range_more byte from zero n = grind arith
 range_more byte from (suc m) n =

@@ -10,11 +10,9 @@ use Rattle.mxf_hand.specs.Rounds.{heads_taken, made_in, packets_in, put_together
 -- What a catalogue of some notes has, added to a content, adds these notes.
 pub added_at_once : (a b : List NoteParts) → IsContent a → AreReduced a
     → reduced_union a (reduced_union [] b) ≡ reduced_union a b
-added_at_once a b r p =
-    one_reduced (reduced_union a (reduced_union [] b)) (reduced_union a b)
+added_at_once a b r p = one_reduced (reduced_union a (reduced_union [] b)) (reduced_union a b)
     (IsContent-reduced_union a (reduced_union [] b) r) (IsContent-reduced_union a b r)
-    (AreReduced-reduced_union a (reduced_union [] b) p) (AreReduced-reduced_union a b p)
-    (λ n.
+    (AreReduced-reduced_union a (reduced_union [] b) p) (AreReduced-reduced_union a b p) (λ n.
     let both = has-reduced_union n a (reduced_union [] b) in
     let one = has-reduced_union n [] b in
     let plain = has-reduced_union n a b in (
@@ -68,8 +66,6 @@ round_is h old mid new packets made ep em first second r p =
     let rest = made_in h old (sections_of old) ++ heads_taken h old (sections_of old) in
     let one : mid ≡ reduced_union old read =
     first ∙ ap (reduced_union old) ep ∙ added_at_once old read r p in
-    second ∙ ap (λ (l : List NoteParts). reduced_union l made) one
-    ∙ ap (reduced_union (reduced_union old read)) em
+    second ∙ ap (λ (l : List NoteParts). reduced_union l made) one ∙ ap (reduced_union (reduced_union old read)) em
     ∙ added_at_once (reduced_union old read) rest (IsContent-reduced_union old read r)
-    (AreReduced-reduced_union old read p)
-    ∙ sym (union_append old read rest)
+    (AreReduced-reduced_union old read p) ∙ sym (union_append old read rest)

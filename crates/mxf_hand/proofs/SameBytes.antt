@@ -26,8 +26,7 @@ use Rattle.mxf_hand.proofs.HandLaws.{one_hand, read_lies}
 same_range : (f g : ℕ → ℕ) (a n : ℕ) → ((x : ℕ) → a ≤ x → x < a + n → f x ≡ g x)
     → map f (range_with_len a n) ≡ map g (range_with_len a n)
 same_range f g a zero same = refl
-same_range f g a (suc n) same =
-    (λ i. same a (omega arith) (omega arith) i
+same_range f g a (suc n) same = (λ i. same a (omega arith) (omega arith) i
     ∷ same_range f g (a + 1) n (λ x low high. same x (omega arith) (omega arith)) i)
 
 same_all : (p q : ℕ → Bool) (xs : List ℕ) → ((x : ℕ) → p x ≡ q x) → list_all p xs ≡ list_all q xs
@@ -64,8 +63,7 @@ with_byte h f = record { runs = h.runs; byte = f }
 module _ (h : HandBytes) (f : ℕ → ℕ) (cover : IsCover h.runs) (agree : (x : ℕ) → LiesIn h.runs x → h.byte x ≡ f x) where
   same_bytes : (from to : ℕ) → ((x : ℕ) → from ≤ x → x < to → LiesIn h.runs x)
       → bytes_between h.byte from to ≡ bytes_between f from to
-  same_bytes from to lies =
-      same_range h.byte f from (to - from) (λ x low high. agree x (lies x low (omega arith)))
+  same_bytes from to lies = same_range h.byte f from (to - from) (λ x low high. agree x (lies x low (omega arith)))
 
   same_read : (end : Option ℕ) (from : ℕ) → read_bytes h end from ≡ read_bytes (with_byte h f) end from
   same_read end from = same_bytes from (read_to h.runs end from) (λ x low high. read_lies h.runs end from x low high)
@@ -130,8 +128,7 @@ pub one_together : (sources : List SourceParts) (h k : HandBytes) (notes : List 
     → AreOf sources k → put_together h notes ≡ put_together k notes
 one_together sources h k notes a b =
     let runs : h.runs ≡ k.runs = one_hand sources h.runs k a.offsets b in
-    same_together h k.byte a.offsets.cover
-    (λ x lies.
+    same_together h k.byte a.offsets.cover (λ x lies.
     let given = ((a.offsets.offsets x).0 lies).given in
     a.bytes x given.0 lies given.1
     ∙ sym (b.bytes x given.0 (subst (λ (l : List Run). LiesIn l x) runs lies) given.1)) notes
@@ -152,8 +149,7 @@ differing_also : (some others : List SourceParts) (x : ℕ) → SameMembers some
     → IsDiffering others x
 differing_also some others x same d = grind (arith, differ_also)
 
-at_hand_also : (some others : List SourceParts) (x : ℕ) → SameMembers some others → IsAtHand some x
-    → IsAtHand others x
+at_hand_also : (some others : List SourceParts) (x : ℕ) → SameMembers some others → IsAtHand some x → IsAtHand others x
 at_hand_also some others x same a = record {
   given = (a.given.0, given_also some others x a.given.0 same a.given.1);
   alike = λ d. a.alike (differing_also others some x (back some others same) d);

@@ -32,8 +32,7 @@ all_held-says notes e = (
             (is_held-says notes x).0 (range-full (is_held notes) e.offset e.size (eqb-true _ _ p.1) x above below);
       },
   λ h. and_from (nat_lt 0 e.size) (count_by (is_held notes) (range_with_len e.offset e.size) == e.size)
-      (lt-ltb 0 e.size h.some)
-      (eq-eqb _ _ (range-all (is_held notes) e.offset e.size
+      (lt-ltb 0 e.size h.some) (eq-eqb _ _ (range-all (is_held notes) e.offset e.size
       (λ o above below. (is_held-says notes o).1 (h.held o above below)))),
 )
 
@@ -132,8 +131,7 @@ mapped_never_fall key (x ∷ xs) r i j d l h =
     let b = get_or-map key (x ∷ xs) j x d within in
     omega (arith, r i j x l within, a, b)
 
-pub starts_never_fall : (notes : List NoteParts) → IsContent notes
-    → IsNonDecreasingBy (λ n. n) (disputed_starts notes)
+pub starts_never_fall : (notes : List NoteParts) → IsContent notes → IsNonDecreasingBy (λ n. n) (disputed_starts notes)
 starts_never_fall notes c =
     grind (arith, starts_of, mapped_never_fall, offsets_rise, IsContent-filter, IsContent-disputed_notes)
 

@@ -186,8 +186,7 @@ module _ (l : List PacketParts) (h : HandBytes) (well : IsWellFormed l) (file : 
         (j.0, not_whole n.whole parts.0, eqb-true (covered_end n) first parts.1)
 
     fitted_rise : (first : ℕ) → IsContent (fitting h notes first)
-    fitted_rise first =
-        IsContent-filter (λ a. (a.offset == start_of notes first) && fits h a) (heads_to first notes)
+    fitted_rise first = IsContent-filter (λ a. (a.offset == start_of notes first) && fits h a) (heads_to first notes)
         (IsContent-filter (is_head_to first) notes content)
 
     -- At an offset one head ends.
@@ -216,8 +215,7 @@ module _ (l : List PacketParts) (h : HandBytes) (well : IsWellFormed l) (file : 
 
     -- A section is read from somewhere, from where a packet begins at or below each that begins in it.
     abbrev Start : Section → Type 0
-    Start p =
-        (q : ℕ) × (from_of h notes p ≡ Some q) × IsBoundary l q
+    Start p = (q : ℕ) × (from_of h notes p ≡ Some q) × IsBoundary l q
         × ((m : NoteParts) → In m (notes_from 0 l) → p.first ≤ m.offset → q ≤ m.offset)
 
     start_at : (p : Section) (heads : List NoteParts) → In p (sections_of notes) → fitting h notes p.first ≡ heads
@@ -444,8 +442,7 @@ module _ (l : List PacketParts) (h : HandBytes) (well : IsWellFormed l) (file : 
     pub one_round : AreReduced notes → round h notes ≡ notes_from 0 l
     one_round reduced =
         one_reduced (round h notes) (notes_from 0 l) (round_content h notes content) (IsContent-laid 0 l)
-        (round_reduced h notes reduced)
-        (λ x i told.
+        (round_reduced h notes reduced) (λ x i told.
         let packet = is_whole 0 l x i in
         let head = ap (λ (n : NoteParts). n.whole) told.3 in cc (packet, head))
         (λ n. (
@@ -458,8 +455,7 @@ module _ (l : List PacketParts) (h : HandBytes) (well : IsWellFormed l) (file : 
 
   pub all_together : (notes : List NoteParts) → IsContent notes → AreReduced notes → AreOfFile l notes
       → HeadsHaveValues notes → BeginAtPackets l notes → put_together h notes ≡ notes_from 0 l
-  all_together notes content reduced of values begin =
-      all_rounds h notes ∙ round_more h notes 64 63 refl
+  all_together notes content reduced of values begin = all_rounds h notes ∙ round_more h notes 64 63 refl
       ∙ ap (rounds 63 h) (one_round notes content of values begin reduced)
       ∙ rounds_end h (notes_from 0 l) 63 (no_more l h file)
 

@@ -8,8 +8,7 @@ use Rattle.mxf_hints.specs.Shifts.{AreShifts, IsShift, IsShiftIn, is_shifted}
 
 pub shifts_none : (contents : List (List NoteParts)) (shifts : List (Option Shift)) → contents ≡ [] → shifts ≡ []
     → AreShifts contents shifts
-shifts_none contents shifts a b =
-    subst (λ (l : List (List NoteParts)). AreShifts l shifts) (sym a)
+shifts_none contents shifts a b = subst (λ (l : List (List NoteParts)). AreShifts l shifts) (sym a)
     (subst (λ (s : List (Option Shift)). AreShifts [] s) (sym b) tt)
 
 shifts_push : (contents : List (List NoteParts)) (shifts : List (Option Shift)) (c : List NoteParts) (s : Option Shift)
@@ -22,8 +21,7 @@ shifts_push (d ∷ contents) (t ∷ shifts) c s a is = (a.0, shifts_push content
 pub shifts_one : (contents more : List (List NoteParts)) (shifts after : List (Option Shift)) (c : List NoteParts)
     (s : Option Shift) → more ≡ contents ++ c ∷ [] → after ≡ shifts ++ s ∷ [] → IsShiftIn c s
     → AreShifts contents shifts → AreShifts more after
-shifts_one contents more shifts after c s e f is a =
-    subst (λ (l : List (List NoteParts)). AreShifts l after) (sym e)
+shifts_one contents more shifts after c s e f is a = subst (λ (l : List (List NoteParts)). AreShifts l after) (sym e)
     (subst (λ (t : List (Option Shift)). AreShifts (contents ++ c ∷ []) t) (sym f)
     (shifts_push contents shifts c s a is))
 

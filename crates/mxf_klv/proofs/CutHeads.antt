@@ -15,8 +15,7 @@ use Rattle.mxf_klv.proofs.PieceLaws.{head_at-stands, head_at-head}
 use Rattle.mxf_klv.proofs.StopLaws.{at_cut, stops}
 
 abbrev heads_for : ℕ → List ℕ → Option LengthParts → List NoteParts
-heads_for offset bytes o =
-    option_map_or (λ l. cond (is_cut_at offset bytes l) (head_parts offset
+heads_for offset bytes o = option_map_or (λ l. cond (is_cut_at offset bytes l) (head_parts offset
     (take 16 bytes) l.width l.value ∷ []) []) o []
 
 heads_at-is : (offset : ℕ) (bytes : List ℕ) → heads_at offset bytes ≡ heads_for offset bytes (head_at bytes)
@@ -40,8 +39,7 @@ heads_at-cut offset bytes key after l h near short =
     (le-leb (offset + (16 + l.width + l.value)) greatest_end near))
 
 pub heads_at-whole : (offset : ℕ) (bytes key after : List ℕ) (l : LengthParts)
-    → BeginsWithKeyAndLength bytes key l after
-    → l.value ≤ length after → heads_at offset bytes ≡ []
+    → BeginsWithKeyAndLength bytes key l after → l.value ≤ length after → heads_at offset bytes ≡ []
 heads_at-whole offset bytes key after l h whole =
     let size = head-size h in
     heads_at-of offset bytes key after l h
@@ -49,8 +47,7 @@ heads_at-whole offset bytes key after l h whole =
 
 pub heads_at-far : (offset : ℕ) (bytes key after : List ℕ) (l : LengthParts) → BeginsWithKeyAndLength bytes key l after
     → greatest_end < offset + (16 + l.width + l.value) → heads_at offset bytes ≡ []
-heads_at-far offset bytes key after l h far =
-    heads_at-of offset bytes key after l h
+heads_at-far offset bytes key after l h far = heads_at-of offset bytes key after l h
     ∙ cond-false _ _ _ (and_right _ _ (lt-leb (offset + (16 + l.width + l.value)) greatest_end far))
 
 pub heads_at-none : (offset : ℕ) (bytes : List ℕ) → HasNoKeyAndLength bytes → heads_at offset bytes ≡ []
@@ -67,8 +64,7 @@ heads_at-stands offset bytes n = (
   λ h. elim (head_at bytes) as (λ o. head_at bytes ≡ o → In n (heads_for offset bytes o)
       → BeginsWithCut offset bytes n) [
         | None ↦ λ e i. absurd i
-        | Some l ↦ λ e i.
-            elim (is_cut_at offset bytes l) as (λ b. is_cut_at offset bytes l ≡ b
+        | Some l ↦ λ e i. elim (is_cut_at offset bytes l) as (λ b. is_cut_at offset bytes l ≡ b
             → In n (cond b (head_parts offset (take 16 bytes) l.width l.value ∷ []) [])
             → BeginsWithCut offset bytes n) [
               | true ↦ λ t j.
@@ -93,8 +89,7 @@ heads_at-stands offset bytes n = (
 
 pub cut_stops : (offset : ℕ) (rest : List ℕ) (n : NoteParts) → BeginsWithCut offset rest n
     → stop_of offset rest ≡ Truncated offset
-cut_stops offset rest n c =
-    sym (stops offset rest (Truncated offset)
+cut_stops offset rest n c = sym (stops offset rest (Truncated offset)
     (at_cut offset rest c.key c.after c.length c.stands c.within c.cut)).1
 
 -- what `cut_head` answers of a head whose packet isn't whole

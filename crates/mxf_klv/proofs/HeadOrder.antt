@@ -24,8 +24,7 @@ tie_then a b h = cc
 
 heads_alike : (n : NoteParts) → note_cmp (head_note n) n
     ≡ ordering_then (bool_cmp false n.whole) (slice_cmp nat_cmp [] n.held)
-heads_alike n =
-    tie_then (nat_cmp n.offset n.offset) _ (tied_itself nat_cmp_total n.offset)
+heads_alike n = tie_then (nat_cmp n.offset n.offset) _ (tied_itself nat_cmp_total n.offset)
     ∙ tie_then (slice_cmp nat_cmp n.key n.key) _ (tied_itself nat_list_cmp_total n.key)
     ∙ tie_then (nat_cmp n.width n.width) _ (tied_itself nat_cmp_total n.width)
     ∙ tie_then (nat_cmp n.length n.length) _ (tied_itself nat_cmp_total n.length)
@@ -44,8 +43,7 @@ head_note-below n =
           whole = sym e i;
           held = sym f i;
         })
-        | x ∷ xs ↦ λ f. inr (heads_alike n
-            ∙ (λ i. ordering_then (bool_cmp false (e i)) (slice_cmp nat_cmp [] (f i))))
+        | x ∷ xs ↦ λ f. inr (heads_alike n ∙ (λ i. ordering_then (bool_cmp false (e i)) (slice_cmp nat_cmp [] (f i))))
       ] refl
     ] refl
 

@@ -80,8 +80,7 @@ head_in text rest p s = grind (arith, append_assoc)
 pub head_at_front : (bytes start rest after key : List ℕ) (w : ℕ) (l : LengthParts) → start ≡ take 16 bytes
     → rest ≡ drop 16 bytes
     → after ≡ drop w rest → w ≡ l.width → length rest + 16 ≡ length bytes → take 4 start ≡ label_start → key ≡ start
-    → ReadsLength rest (Ok l)
-    → BeginsWithKeyAndLength bytes key l after
+    → ReadsLength rest (Ok l) → BeginsWithKeyAndLength bytes key l after
 head_at_front bytes start rest after key w l start-is rest-is after-is w-is size begins key-is reads =
     grind (arith, head_of bytes l)
 

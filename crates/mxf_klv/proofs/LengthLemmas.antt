@@ -28,8 +28,7 @@ wide_found_cons first rest n is high long =
       omega arith,
       omega arith,
       rw e (omega (arith, length-take (suc n) rest)),
-      rw e
-          (sym (big_from-take 0 (suc n) (suc n) rest (omega arith))),
+      rw e (sym (big_from-take 0 (suc n) (suc n) rest (omega arith))),
     )
 
 pub wide_found : (bytes : List ℕ) (first : ℕ) (rest : List ℕ) → bytes ≡ first ∷ rest → 129 ≤ first → first ≤ 136

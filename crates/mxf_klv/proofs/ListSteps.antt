@@ -26,8 +26,7 @@ pub map_rest : {K : Type 0} (f : K → K) (xs : List K) (at : ℕ) → AllWithin
     → take at xs ++ map f (drop at xs) ≡ map f xs
 map_rest f xs zero a = refl
 map_rest f [] (suc at) a = refl
-map_rest f (x ∷ xs) (suc at) a =
-    ap (λ l. x ∷ l) (map_rest f xs at (λ k d l h. a (suc k) d (omega arith) (omega arith)))
+map_rest f (x ∷ xs) (suc at) a = ap (λ l. x ∷ l) (map_rest f xs at (λ k d l h. a (suc k) d (omega arith) (omega arith)))
     ∙ ap (λ y. y ∷ map f xs) (sym (a 0 x (omega arith) (omega arith)))
 
 -- What stands before an element is told by the first alone.

@@ -57,8 +57,7 @@ laid_more o m r b s (p ∷ ps) qs a h =
 
 -- What more bytes make of a piece, by its packets and its rest.
 pub record Joined (o : ℕ) (m b : List ℕ) : Type 0 where
-  pub packets : packets_in o (m ++ b)
-      ≡ packets_in o m ++ packets_in (end_after o (packets_in o m)) (rest_in o m ++ b)
+  pub packets : packets_in o (m ++ b) ≡ packets_in o m ++ packets_in (end_after o (packets_in o m)) (rest_in o m ++ b)
   pub rest : rest_in o (m ++ b) ≡ rest_in (end_after o (packets_in o m)) (rest_in o m ++ b)
 
 pub seam : (o : ℕ) (m b : List ℕ) → Joined o m b
@@ -95,8 +94,7 @@ pub record OneMore (o : ℕ) (m b : List ℕ) (p : PacketParts) : Type 0 where
   pub rest : rest_in o (m ++ b) ≡ []
 
 pub one_more : (o : ℕ) (m b : List ℕ) (p : PacketParts)
-    → packet_at (end_after o (packets_in o m)) (rest_in o m ++ b) ≡ Some p
-    → size_of p ≡ length (rest_in o m ++ b)
+    → packet_at (end_after o (packets_in o m)) (rest_in o m ++ b) ≡ Some p → size_of p ≡ length (rest_in o m ++ b)
     → OneMore o m b p
 one_more o m b p e whole =
     let s = seam o m b in
@@ -106,8 +104,7 @@ one_more o m b p e whole =
     let after = drop (size_of p) t in
     let none : packet_at (at + size_of p) after ≡ None = none_at_end (at + size_of p) after (omega (
       arith,
-      length-drop
-          (size_of p) t,
+      length-drop (size_of p) t,
     )) in
     let packets : packets_in o (m ++ b) ≡ ps ++ p ∷ [] =
     s.packets ∙ ap (λ (qs : List PacketParts). ps ++ qs) (packets_in-some at t p e)
@@ -127,12 +124,10 @@ more_head r key l after x h = grind (arith, append_assoc)
 
 -- where there is no whole key and length there is no packet
 pub no_head_no_packet : (at : ℕ) (r : List ℕ) → HasNoKeyAndLength r → packet_at at r ≡ None
-no_head_no_packet at r none =
-    none-packet_at at r (λ front after p s is.
+no_head_no_packet at r none = none-packet_at at r (λ front after p s is.
     absurd (none p.key (p.value ++ after) (record { width = p.width; value = length p.value })
     (subst (λ (t : List ℕ). BeginsWithKeyAndLength t p.key (record { width = p.width; value = length p.value }) (p.value
-    ++ after))
-    (sym is) (head_in front after p s))))
+    ++ after)) (sym is) (head_in front after p s))))
 
 -- A value that has come whole makes a packet, behind which nil_from_length has come.
 pub record IsWholePacket (at : ℕ) (r key : List ℕ) (l : LengthParts) (after : List ℕ) : Type 0 where
@@ -196,8 +191,7 @@ head_now r x key count l after none h =
             subst (λ (t : List ℕ). BeginsWithKeyAndLength t key l []) cut
             (subst (λ (t : List ℕ). BeginsWithKeyAndLength (take (16 + l.width) (r ++ y)) key l t) emptied front);
       }
-      | inr long ↦
-          absurd (none key (take (length r - (16 + l.width)) after) l
+      | inr long ↦ absurd (none key (take (length r - (16 + l.width)) after) l
           (subst (λ (t : List ℕ). BeginsWithKeyAndLength t key l (take (length r - (16 + l.width)) after))
           (take_at r y (length r) refl) (head_front (r ++ y) key l after (length r) h long)))
     ]
@@ -219,8 +213,7 @@ few_cut r none c =
     let nine = spelled_width s.spelled p.width (length p.value) s.width in
     elim (cases_lt (length r) (16 + p.width)) [
       | inl below ↦ omega arith
-      | inr long ↦
-          absurd (none p.key (take (length r - (16 + p.width)) p.value) l
+      | inr long ↦ absurd (none p.key (take (length r - (16 + p.width)) p.value) l
           (subst (λ (t : List ℕ). BeginsWithKeyAndLength t p.key l (take (length r - (16 + p.width)) p.value))
           (take_at r c.more (length r) refl) (head_front (r ++ c.more) p.key l p.value (length r) h long)))
     ]

@@ -39,8 +39,7 @@ next_tally test count one total n left rest e same is = grind (arith, count_by-c
 
 -- what is behind the first
 pub behind : (x n : NoteParts) (xs ys : List NoteParts) → (In n xs → n ≡ x → ⊥) → (In n (x ∷ xs) → In n (x ∷ ys))
-    → In n xs
-    → In n ys
+    → In n xs → In n ys
 behind x n xs ys f g h = elim (g (inr h)) [ inl e ↦ absurd (f h e) | inr k ↦ k ]
 
 pub all-right : (P : PacketParts → Type 0) (xs ys : List PacketParts) → AllByRecursion P (xs ++ ys)

@@ -37,8 +37,7 @@ two_lengths xs l e p q = let same = one_reading xs (Ok l) (Err e) p q in cc
 -- where a packet stands there is no fault of its length
 no_fault : (text rest bytes : List ℕ) (p : PacketParts) (e : BerFault) → text ++ rest ≡ bytes → IsSpelledPacket text p
     → ReadsLength (drop 16 bytes) (Err e) → ⊥
-no_fault text rest bytes p e is s q =
-    two_lengths (drop 16 bytes) (record { width = p.width; value = length p.value }) e
+no_fault text rest bytes p e is s q = two_lengths (drop 16 bytes) (record { width = p.width; value = length p.value }) e
     (subst (λ (t : List ℕ). ReadsLength (drop 16 t) (Ok (record { width = p.width; value = length p.value }))) is
     (head-length (head_in text rest p s))) q
 
@@ -52,8 +51,7 @@ no_fault_cut bytes e n c q =
     no_fault (bytes ++ c.more) [] (bytes ++ c.more) c.packet e (append-nil (bytes ++ c.more)) c.spells more
 
 ok_begins : (bytes : List ℕ) (p : PacketParts) (size : ℕ) → IsSpelledPacket (take size bytes) p → BeginsAsLabel bytes
-ok_begins bytes p size s =
-    begins_front bytes []
+ok_begins bytes p size s = begins_front bytes []
     (ap (take 4) (append-nil bytes ∙ sym (take-append-drop size bytes)) ∙ start4 (take size bytes)
     (drop size bytes) p s)
 

@@ -90,8 +90,7 @@ packet_at-stands offset bytes p e = grind (arith, head-packet, head_at-stands, l
 -- two packets at one front are one
 same_front : (m n : ℕ) (bytes : List ℕ) (p q : PacketParts) → IsSpelledPacket (take m bytes) p → IsSpelledPacket
     (take n bytes) q → p ≡ q
-same_front m n bytes p q s t =
-    (same_packet (take m bytes) (take n bytes) (drop m bytes) (drop n bytes) p q s t
+same_front m n bytes p q s t = (same_packet (take m bytes) (take n bytes) (drop m bytes) (drop n bytes) p q s t
     (take-append-drop m bytes ∙ sym (take-append-drop n bytes))).1
 
 -- a packet that stands at the front and ends where it may is given

@@ -64,8 +64,7 @@ module _ {K : Type 0} (key : K → ℕ) where
   )
 
   pub rises-filter_map : {L : Type 0} (f : K → Option L) (other : L → ℕ) (xs : List K)
-      → ((x : K) (y : L) → f x ≡ Some y → other y ≡ key x) → IsRisingBy key xs
-      → IsRisingBy other (filter_map f xs)
+      → ((x : K) (y : L) → f x ≡ Some y → other y ≡ key x) → IsRisingBy key xs → IsRisingBy other (filter_map f xs)
   rises-filter_map f other [] same r = tt
   rises-filter_map f other (x ∷ xs) same r =
       let ih = rises-filter_map f other xs same r.1 in

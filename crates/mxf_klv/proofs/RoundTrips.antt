@@ -71,8 +71,7 @@ length_bytes-spelled w v (inr s) =
     let less : w - 1 + 1 ≡ w = omega arith in
     let all : take (w - 1) (big_bytes (w - 1) v) ≡ big_bytes (w - 1) v = take_all (w - 1) (big_bytes (w - 1) v)
     (omega (arith, length-bytes_high_first (w - 1) v)) in
-    rw (more_bytes w v s.0)
-    (subst (λ (t : List ℕ). IsSpelledLength ((127 + w) ∷ t) w v) all
+    rw (more_bytes w v s.0) (subst (λ (t : List ℕ). IsSpelledLength ((127 + w) ∷ t) w v) all
     (wide_spelled w v (w - 1) (big_bytes (w - 1) v) [] (sym less) (omega arith) (omega arith) s.2
     (sym (append-nil (big_bytes (w - 1) v)))))
 
@@ -129,6 +128,5 @@ pub packet_written_back : (bytes : List ℕ) (packet : PacketParts) (size : ℕ)
     (Ok (packet, size)) → take size bytes ≡ packet_bytes packet
 packet_written_back bytes p size h r =
     let s = r.1 in
-    s.whole ∙ ap (λ (t : List ℕ). p.key ++ (t ++ p.value))
-    (spelled-length_bytes s.spelled p.width (length p.value)
+    s.whole ∙ ap (λ (t : List ℕ). p.key ++ (t ++ p.value)) (spelled-length_bytes s.spelled p.width (length p.value)
     (AreBytes-front p.key s.spelled p.value (take size bytes) s.whole (AreBytes-take size bytes h)) s.width)

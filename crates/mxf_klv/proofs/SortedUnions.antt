@@ -28,8 +28,7 @@ module _ {K : Type 0} (R : K → K → Ordering) (total : IsTotalOrder R) (one :
   sorted-union xs ys p s =
       let once = dedup (eq_by_cmp R) ys in
       same_from_members total one once (union R [] xs)
-      (rising once (IsStrictlySortedBy-dedup total (λ x y. refl) ys s)) (IsRising-union total one [] xs tt)
-      (λ x.
+      (rising once (IsStrictlySortedBy-dedup total (λ x y. refl) ys s)) (IsRising-union total one [] xs tt) (λ x.
       let u = In-union total one x [] xs in (
         λ h.
             let there = Contains-from_dedup (eq_by_cmp R) ys x (Contains-from_In x once h) in

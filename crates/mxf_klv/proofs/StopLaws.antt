@@ -36,8 +36,7 @@ cut_else : (xs : List ℕ) → is_bad_length xs ≡ false → length_at xs ≡ N
 cut_else xs h k = grind arith
 
 far-is : (offset : ℕ) (bytes : List ℕ) → ends_too_far offset bytes ≡ true → EndsTooFar offset bytes
-far-is offset bytes e =
-    elim (head_at bytes) as (λ o. head_at bytes ≡ o
+far-is offset bytes e = elim (head_at bytes) as (λ o. head_at bytes ≡ o
     → option_map_or (λ l. nat_lt greatest_end (end_with offset l)) o false ≡ true → EndsTooFar offset bytes) [
       | None ↦ λ h f. absurd cc
       | Some l ↦ λ h f. (
@@ -52,8 +51,7 @@ far-is offset bytes e =
 is-far : (offset : ℕ) (bytes : List ℕ) → EndsTooFar offset bytes → ends_too_far offset bytes ≡ true
 is-far offset bytes (key, l, after, h, far) =
     ap (λ (o : Option LengthParts). option_map_or (λ l. nat_lt greatest_end (end_with offset l)) o false)
-    (head_at-head bytes key l after h)
-    ∙ lt-ltb greatest_end (end_with offset l) far
+    (head_at-head bytes key l after h) ∙ lt-ltb greatest_end (end_with offset l) far
 
 pub no-bytes : (bytes : List ℕ) → nat_eq (length bytes) 0 ≡ true → bytes ≡ []
 no-bytes [] e = refl
@@ -65,14 +63,11 @@ some-bytes bytes n = false_from_ne_true _ (λ e. n (no-bytes bytes e))
 -- ---- the choice among them
 
 abbrev choice : Bool → Bool → Bool → Bool → ℕ → Stop
-choice none begins bad far offset =
-    cond none End (cond (not begins) (NotUl offset)
+choice none begins bad far offset = cond none End (cond (not begins) (NotUl offset)
     (cond bad (BadLength offset) (cond far (TooFar offset) (Truncated offset))))
 
-by_cases : (P : Stop → Type 0) (none begins bad far : Bool) (offset : ℕ)
-    → (none ≡ true → P End)
-    → (begins ≡ false → P (NotUl offset))
-    → (begins ≡ true → bad ≡ true → P (BadLength offset))
+by_cases : (P : Stop → Type 0) (none begins bad far : Bool) (offset : ℕ) → (none ≡ true → P End)
+    → (begins ≡ false → P (NotUl offset)) → (begins ≡ true → bad ≡ true → P (BadLength offset))
     → (far ≡ true → P (TooFar offset))
     → (none ≡ false → begins ≡ true → bad ≡ false → far ≡ false → P (Truncated offset))
     → P (choice none begins bad far offset)
@@ -86,8 +81,7 @@ too_far none begins bad far offset p q r s = rw (p, q, r, s) refl
 
 -- a rest that is neither at fault nor too long is cut
 cut : (offset : ℕ) (rest : List ℕ) → BeginsWithNone offset rest → BeginsAsLabel rest → is_bad_length
-    (drop 16 rest) ≡ false
-    → (EndsTooFar offset rest → ⊥) → IsCutPacket rest
+    (drop 16 rest) ≡ false → (EndsTooFar offset rest → ⊥) → IsCutPacket rest
 cut offset rest none begins sound near =
     elim (cases_lt (length rest) 16) [
       | inl short ↦ key_cut rest begins short
@@ -115,24 +109,18 @@ stop-is : (offset : ℕ) (rest : List ℕ) → BeginsWithNone offset rest → Is
 unfolding stop_of
 stop-is offset rest none =
     by_cases (IsStop offset rest) (nat_eq (length rest) 0) (begins_as_label rest) (is_bad_length (drop 16 rest))
-    (ends_too_far offset rest) offset
-    (λ e. no-bytes rest e)
-    (λ e. (refl, λ h. both_ways _ e (begins-test rest h)))
+    (ends_too_far offset rest) offset (λ e. no-bytes rest e) (λ e. (refl, λ h. both_ways _ e (begins-test rest h)))
     (λ e f. (
       refl,
       elim (bad-reads (drop 16 rest) f) [
         | inl p ↦ inl (test-begins rest e, p)
-        | inr p ↦ inr
-            (test-begins rest e, p)
+        | inr p ↦ inr (test-begins rest e, p)
       ],
-    ))
-    (λ e. (refl, far-is offset rest e))
-    (λ a b c d.
+    )) (λ e. (refl, far-is offset rest e)) (λ a b c d.
     let near : EndsTooFar offset rest → ⊥ = λ h. both_ways _ d (is-far offset rest h) in (
       refl,
       (λ e. both_ways _ a (eq-eqb (length rest) 0 (ap length e))),
-      cut offset rest none
-          (test-begins rest b) c near,
+      cut offset rest none (test-begins rest b) c near,
       near,
     ))
 
@@ -211,8 +199,7 @@ is_stop_for offset bytes faults.TooWide some r = (refl, inr r.0)
 is_stop_for offset bytes faults.Short some r = (refl, some, r.0, λ far. r.1 far.0 far.2 far.1 far.3)
 
 pub at_fault : (offset : ℕ) (bytes : List ℕ) (f g : PacketFault) → nat_eq (length bytes) 0 ≡ false → f ≡ g
-    → ReadsKeyAndLength bytes (Err f)
-    → Stopped offset bytes (stop_for offset g)
+    → ReadsKeyAndLength bytes (Err f) → Stopped offset bytes (stop_for offset g)
 at_fault offset bytes f g some same r =
     let read : ReadsKeyAndLength bytes (Err g) = subst (λ (x : PacketFault). ReadsKeyAndLength bytes (Err x)) same r in
     record {
@@ -222,8 +209,7 @@ at_fault offset bytes f g some same r =
 
 -- two heads of the same bytes have one length
 same_length : (bytes j k a b : List ℕ) (l m : LengthParts) → BeginsWithKeyAndLength bytes j l a
-    → BeginsWithKeyAndLength bytes k m b
-    → l ≡ m
+    → BeginsWithKeyAndLength bytes k m b → l ≡ m
 same_length bytes j k a b l m h i =
     let e : Ok l ≡ Ok m = one_reading (drop 16 bytes) (Ok l) (Ok m) (head-length h) (head-length i) in
     cc
@@ -234,8 +220,7 @@ pub at_far : (offset : ℕ) (bytes key after : List ℕ) (l : LengthParts) → B
 at_far offset bytes key after l h far = record {
   none = λ front rest p s is.
       let other = subst (λ (t : List ℕ). BeginsWithKeyAndLength t p.key
-      (record { width = p.width; value = length p.value })
-      (p.value ++ rest)) (sym is) (head_in front rest p s) in
+      (record { width = p.width; value = length p.value }) (p.value ++ rest)) (sym is) (head_in front rest p s) in
       let same = same_length bytes key p.key after (p.value ++ rest) l _ h other in
       let width : l.width ≡ p.width = ap (λ (m : LengthParts). m.width) same in
       let value : l.value ≡ length p.value = ap (λ (m : LengthParts). m.value) same in
@@ -287,8 +272,7 @@ at_packet offset bytes key after l h near whole =
 
 -- the last exit: the packet, or its value is cut
 pub at_value : (offset : ℕ) (bytes key after : List ℕ) (l : LengthParts) (r : Option (PacketParts × ℕ))
-    → BeginsWithKeyAndLength bytes key l after
-    → offset + (16 + l.width + l.value) ≤ greatest_end
+    → BeginsWithKeyAndLength bytes key l after → offset + (16 + l.width + l.value) ≤ greatest_end
     → SomeIff r (l.value ≤ length after) (packet_parts key l.width (take l.value after), 16 + l.width + l.value)
     → Answers offset bytes (ok_or r (Truncated offset))
 at_value offset bytes key after l None h near cut =
@@ -304,8 +288,7 @@ at_value offset bytes key after l (Some x) h near whole =
 -- ---- the exits of `next_key_and_length`
 
 pub no_head_for : (offset : ℕ) (bytes : List ℕ) (stop : Stop) → Stopped offset bytes stop
-    → (IsOpen stop → HasNoKeyAndLength bytes)
-    → IsNoHead offset bytes stop
+    → (IsOpen stop → HasNoKeyAndLength bytes) → IsNoHead offset bytes stop
 no_head_for offset bytes stop s cut = grind (arith, stops)
 
 pub end_has_no_head : (bytes : List ℕ) → nat_eq (length bytes) 0 ≡ true → HasNoKeyAndLength bytes

@@ -34,8 +34,7 @@ window p q (x ∷ xs) zero (suc b) h pb pa qb qa =
     let rest = window p q xs zero b (omega arith) (λ k d l m. absurd (omega arith))
     (λ k d l m. pa (suc k) d (omega arith) (omega arith)) (λ k d l m. qb (suc k) d (omega arith) (omega arith))
     (λ k d l m. qa (suc k) d (omega arith) (omega arith)) in
-    ap (λ n. drop n (x ∷ take b xs)) e
-    ∙ ap (λ ys. x ∷ ys) (sym (ap (λ n. drop n (take b xs)) f) ∙ rest)
+    ap (λ n. drop n (x ∷ take b xs)) e ∙ ap (λ ys. x ∷ ys) (sym (ap (λ n. drop n (take b xs)) f) ∙ rest)
     ∙ sym (λ i. cond (px i && qx i) (x ∷ filter (λ y. p y && q y) xs) (filter (λ y. p y && q y) xs))
 window p q (x ∷ xs) (suc a) (suc b) h pb pa qb qa =
     let e : min (suc a) (suc b) ≡ suc (min a b) = omega arith in

@@ -31,14 +31,12 @@ StopsIn-part a b c before mid e done part rest p m q =
       length done + n,
       omega (arith, q.1),
       q.2 ∙ counted_again before (length done) n mid m,
-      subst (Appends a c) bytes
-          (Appends-trans a b c done (take n part) p q.3),
+      subst (Appends a c) bytes (Appends-trans a b c done (take n part) p q.3),
     )
 
 pub flat_map-at : {X A : Type 0} (f : X → List A) (xs : List X) (i : ℕ) (d : X) → i < length xs
     → (flat_map f (take i xs) ++ f (get_or xs i d)) ++ flat_map f (drop (suc i) xs) ≡ flat_map f xs
-flat_map-at f xs i d h =
-    append_assoc (flat_map f (take i xs)) (f (get_or xs i d)) (flat_map f (drop (suc i) xs)) ∙ sym
+flat_map-at f xs i d h = append_assoc (flat_map f (take i xs)) (f (get_or xs i d)) (flat_map f (drop (suc i) xs)) ∙ sym
     (flat_map-append f (take i xs) (get_or xs i d ∷ drop (suc i) xs)) ∙ ap (flat_map f)
     (ap (λ l. take i xs ++ l) (sym (drop-cons xs i d h)) ∙ take-append-drop i xs)
 

@@ -22,8 +22,7 @@ test-open standings.Hand h k = absurd (k refl)
 test-open _ h k = refl
 
 pub told-disputes : (w : WantedParts) (d : Disputes) → (told_disputes w ≡ Some d) ↔ AreToldDisputes w d
-told-disputes w d =
-    by (list_any is_open (wanted_units w)) (list_any-In is_open (wanted_units w))
+told-disputes w d = by (list_any is_open (wanted_units w)) (list_any-In is_open (wanted_units w))
   where
     by : (b : Bool) → IsTrue b ↔ ((u : EditUnit) × In u (wanted_units w) × IsTrue (is_open u))
         → ((if b then disputes_of (notes_of w) else None) ≡ Some d) ↔ AreToldDisputes w d

@@ -55,8 +55,7 @@ first_row columns cell width passed (m ∷ marks) some more =
           let same : columns ≡ count = omega (arith, within) in
           let left = length-drop columns all in
           enough columns cell width (length marks) (length (drop columns all)) (passed + columns)
-          (drop columns all) some
-          (omega (arith, left)) (omega arith)
+          (drop columns all) some (omega (arith, left)) (omega arith)
           ∙ ap (λ k. rows_of columns cell width (passed + k) (drop k all)) same
       | false ↦ λ t.
           let past : length all < columns = leb-false _ _ t in

@@ -46,8 +46,7 @@ located_there P Q m run same n = (
 
 pub one_content : (P Q : NoteParts → Type 0) (m n : List NoteParts) → IsTheRun P m → IsTheRun Q n → HandsSame P Q
     → m ≡ n
-one_content P Q m n run other same =
-    other.one (Read (file_bytes m) m run.file) (located_there P Q m run same)
+one_content P Q m n run other same = other.one (Read (file_bytes m) m run.file) (located_there P Q m run same)
 
 -- ---- one print
 
@@ -61,27 +60,22 @@ touched_same a b same n =
 differs_same : (a b : VerifiedUnitsParts) → SameMembers a.places b.places → (d : DifferingParts)
     → differs_line (Some a) d.source d.note ≡ differs_line (Some b) d.source d.note
 unfolding differs_line
-differs_same a b same d =
-    ap (λ (span : Option UnitSpan).
+differs_same a b same d = ap (λ (span : Option UnitSpan).
     line "differs" (number " " "source" d.source ∷ (note_fields d.note ++ span_fields span)))
     (touched_same a b same d.note)
 
 counted_same : (c : VerifiedCounts) (a b : VerifiedUnitsParts) → a.runs ≡ b.runs
     → verified_line c (Some a) ≡ verified_line c (Some b)
 unfolding verified_line
-counted_same c a b runs =
-    ap (λ (r : List UnitRun). line "verified" (verified_fields c ++ (other_fields c
+counted_same c a b runs = ap (λ (r : List UnitRun). line "verified" (verified_fields c ++ (other_fields c
     ++ (number " units " "units" (units_in (filter (λ u. is_verified u.fixity) r))
     ∷ number " of " "all-units" (units_in r) ∷ [])))) runs
 
 verified_same : (reports : List PieceReport) (v : VerificationParts) (a b : VerifiedUnitsParts) → a.runs ≡ b.runs
     → SameMembers a.places b.places → verification_lines reports v (Some a) ≡ verification_lines reports v (Some b)
-verified_same reports v a b runs places = λ i.
-    flat_map stop_lines reports
-    ++ (flat_map (λ d. differs_same a b places d i ∷ []) v.differing
-    ++ (cut_lines v.cut
-    ++ (range_lines (codes "unknown") v.unknown
-    ++ (range_lines (codes "unverified") v.unverified
+verified_same reports v a b runs places = λ i. flat_map stop_lines reports
+    ++ (flat_map (λ d. differs_same a b places d i ∷ []) v.differing ++ (cut_lines v.cut
+    ++ (range_lines (codes "unknown") v.unknown ++ (range_lines (codes "unverified") v.unverified
     ++ (flat_map (λ r. unit_run_line r ∷ []) (runs i) ++ counted_same (counts_of v) a b runs i ∷ [])))))
 
 -- what is told of a verification with units, or without them
@@ -105,8 +99,7 @@ told_status None content v a b e f reports is_whole =
     ap (λ (told : Option VerifiedUnitsParts). verification_status reports v told is_whole) (e ∙ sym f)
 told_status (Some asked) content v None b e f reports is_whole = absurd e
 told_status (Some asked) content v (Some a) None e f reports is_whole = absurd f
-told_status (Some asked) content v (Some a) (Some b) e f reports is_whole =
-    ap (λ (runs : List UnitRun).
+told_status (Some asked) content v (Some a) (Some b) e f reports is_whole = ap (λ (runs : List UnitRun).
     verification_status reports v (Some (record { runs = runs; places = a.places })) is_whole)
     (one_list_of_runs _ _ _ _ _ a b e f)
 

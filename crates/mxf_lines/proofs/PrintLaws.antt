@@ -51,8 +51,7 @@ after_printed f a b c before mid after (Err BadUnit) done more p q = q
 pub Prints-after : {X : Type 0} (f g : Form) (a b c : Option (List ℕ)) (before mid after : ℕ) (r : Result X AnswerFault)
     (done more : List PrintedLine) → Printed f a b before mid done → g ≡ f → PrintsPart g b c mid after r more
     → PrintsPart f a c before after r (done ++ more)
-Prints-after f g a b c before mid after r done more p kept q =
-    after_printed f a b c before mid after r done more p
+Prints-after f g a b c before mid after r done more p kept q = after_printed f a b c before mid after r done more p
     (subst (λ (form : Form). PrintsPart form b c mid after r more) kept q)
 
 -- a fault among lines is a fault among these and more
@@ -101,8 +100,7 @@ leads_more {f} {g} {h} {a} {b} {c} {before} {mid} {next} {all} {left} lines rest
 -- a fault among those of the next item
 pub leads_failed : {f g : Form} {a b : Option (List ℕ)} {before mid : ℕ} {all left : List PrintedLine}
     (c : Option (List ℕ)) (after : ℕ) (e : AnswerFault) (lines rest : List PrintedLine)
-    → left ≡ lines ++ rest → Leads f a before all g b mid left
-    → PrintsPart {X = Unit {0}} g b c mid after (Err e) lines
+    → left ≡ lines ++ rest → Leads f a before all g b mid left → PrintsPart {X = Unit {0}} g b c mid after (Err e) lines
     → PrintsPart {X = Unit {0}} f a c before after (Err e) all
 leads_failed {f} {g} {a} {b} {before} {mid} {all} {left} c after e lines rest same led p =
     led.leads c after (Err e) (subst (PrintsPart {X = Unit {0}} g b c mid after (Err e)) (sym same)

@@ -70,8 +70,7 @@ module _ (first : ℕ) (all left : List EditUnit) (units held hand from : ℕ) (
   line_is i = units_line (as_many i) (all_held i) (all_hand i) ((sym (ap (needed_from from) none) ∙ needed) i)
 
   -- What is answered of the last line is answered of all.
-  pub answered : {f g : Form} {a b : Option (List ℕ)} {before mid : ℕ}
-      → Leads f a before (unit_lines first all) g b mid
+  pub answered : {f g : Form} {a b : Option (List ℕ)} {before mid : ℕ} → Leads f a before (unit_lines first all) g b mid
       (flat_map (λ u. unit_line u ∷ []) left ++ last_line first all ∷ [])
       → (c : Option (List ℕ)) (after : ℕ) (r : Result (Unit {0}) AnswerFault)
       → PrintsPart g b c mid after r (units_line units held hand from ∷ [])

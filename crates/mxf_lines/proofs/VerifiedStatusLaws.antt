@@ -222,7 +222,6 @@ status_by_packets reports reference bytes v noted whole are within told =
           let s = says.1 h in
           zero_of (is_good reports v None true) (all_four _ _ _ _
           (In-list_all (λ r. is_noted r.report.stop) reports (λ r i. noted_of r.report.stop (noted r i)))
-          ((equals_itself v.damaged 0).1 s.differs)
-          ((not_equal v.packets 0).1 (not_zero v.packets s.some))
+          ((equals_itself v.damaged 0).1 s.differs) ((not_equal v.packets 0).1 (not_zero v.packets s.some))
           (both _ _ (ap has_none s.verified) (ap has_none s.known))),
     )

@@ -28,8 +28,7 @@ kept_or_not false low r rest above some m = AreMaximal-lower low (r.end + 1) res
 
 kept_maximal : (p : Run → Bool) (low : ℕ) (runs : List Run) → AreMaximal low runs → AreMaximal low (filter p runs)
 kept_maximal p low [] m = tt
-kept_maximal p low (r ∷ runs) m =
-    kept_or_not (p r) low r (filter p runs) m.0 m.1 (kept_maximal p (r.end + 1) runs m.2)
+kept_maximal p low (r ∷ runs) m = kept_or_not (p r) low r (filter p runs) m.0 m.1 (kept_maximal p (r.end + 1) runs m.2)
 
 -- a run that ends above an offset and begins below another is between the two
 between-of : (from end : ℕ) (r : Run) → from < r.end → r.start < end → is_between from (Some end) r ≡ true
@@ -132,8 +131,7 @@ module _ (stands : ℕ → ByteStanding) (end : ℕ) where
   members : (from : ℕ) (es : List MapExtent) (e : MapExtent) → Begins from → AreExtents stands end from es → In e es
       → IsExtent stands end e
   members from [] e begins are h = absurd h
-  members from (d ∷ es) e begins are (inl same) =
-      subst (IsExtent stands end) (sym same) (is_extent from d begins are.0)
+  members from (d ∷ es) e begins are (inl same) = subst (IsExtent stands end) (sym same) (is_extent from d begins are.0)
   members from (d ∷ es) e begins are (inr h) = members d.end es e (begins-next from d are.0) are.1 h
 
   pub extent-members : (es : List MapExtent) (e : MapExtent) → AreExtents stands end 0 es → In e es
@@ -201,11 +199,9 @@ module _ (stands : ℕ → ByteStanding) (end : ℕ) where
 
   one_from : (from : ℕ) (a b : List MapExtent) → AreExtents stands end from a → AreExtents stands end from b → a ≡ b
   one_from from [] [] p q = refl
-  one_from from [] (e ∷ b) p q =
-      absurd (let all : end ≤ from = p in let some = q.0.some in let within = q.0.within in
+  one_from from [] (e ∷ b) p q = absurd (let all : end ≤ from = p in let some = q.0.some in let within = q.0.within in
       omega (arith, all, some, within))
-  one_from from (d ∷ a) [] p q =
-      absurd (let all : end ≤ from = q in let some = p.0.some in let within = p.0.within in
+  one_from from (d ∷ a) [] p q = absurd (let all : end ≤ from = q in let some = p.0.some in let within = p.0.within in
       omega (arith, all, some, within))
   one_from from (d ∷ a) (e ∷ b) p q =
       let start = p.0.start ∙ sym q.0.start in

@@ -50,8 +50,7 @@ any_in P known (x ∷ xs) =
 
 any_of : (P : ℕ → Type 0) → ((x : ℕ) → Known (P x)) → (from len : ℕ)
     → Known ((x : ℕ) × IsInCell from (from + len) x × P x)
-any_of P known from zero =
-    inr (λ s. let l = s.1.above in let r = s.1.below in absurd (omega (arith, l, r)))
+any_of P known from zero = inr (λ s. let l = s.1.above in let r = s.1.below in absurd (omega (arith, l, r)))
 any_of P known from (suc len) =
     elim (known (from + len)) [
       | inl p ↦ inl (from + len, record { above = omega arith; below = omega arith }, p)

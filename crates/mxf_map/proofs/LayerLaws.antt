@@ -131,8 +131,7 @@ random_index_begin notes x =
 
 pub random_index_within : (notes : List NoteParts) → IsCatalogue notes
     → AllByRecursion (λ x. x < greatest_end) (random_index_offsets (clear_notes notes))
-random_index_within notes is =
-    all_from_In (λ x. x < greatest_end) (random_index_offsets (clear_notes notes)) (λ x h.
+random_index_within notes is = all_from_In (λ x. x < greatest_end) (random_index_offsets (clear_notes notes)) (λ x h.
     let b = (random_index_begin notes x).0 h in
     let l = note_below notes b.0 is b.1.held in
     let same = b.3 in omega (arith, l, same))
@@ -194,8 +193,7 @@ zone_are notes zone x =
 -- ---- missing places
 
 -- What is kept of what is mapped is what is mapped and kept.
-kept_left : (p : ℕ → Bool) (f : Claim → Option ℕ) (claims : List Claim)
-    → filter p (filter_map f claims)
+kept_left : (p : ℕ → Bool) (f : Claim → Option ℕ) (claims : List Claim) → filter p (filter_map f claims)
     ≡ filter_map (λ c. option_and_then (λ x. if p x then Some x else None) (f c)) claims
 kept_left p f [] = refl
 kept_left p f (c ∷ claims) = grind (arith, filter_map, kept_left p f claims)
@@ -208,8 +206,7 @@ missing_members notes xs ys e p x =
     let same : xs ≡ missing_places notes = e ∙ sym (kept_left (is_missing notes) named_place (claims_of notes)) in (
       λ h. subst (In x) same (In-from_Contains x xs
           (Contains-permutation ys xs x (IsPermutation-sym xs ys p) (Contains-from_In x ys h))),
-      λ h. In-from_Contains x ys
-          (Contains-permutation xs ys x p (Contains-from_In x xs (subst (In x) (sym same) h))),
+      λ h. In-from_Contains x ys (Contains-permutation xs ys x p (Contains-from_In x xs (subst (In x) (sym same) h))),
     )
 
 missing_below : (notes : List NoteParts) (x : ℕ) → In x (missing_places notes) → x < greatest_end
@@ -223,5 +220,4 @@ missing_below notes x h =
 
 pub missing_within : (notes : List NoteParts) (xs : List ℕ) → SameMembers xs (missing_places notes)
     → AllByRecursion (λ x. x < greatest_end) xs
-missing_within notes xs s =
-    all_from_In (λ x. x < greatest_end) xs (λ x h. missing_below notes x ((s x).0 h))
+missing_within notes xs s = all_from_In (λ x. x < greatest_end) xs (λ x h. missing_below notes x ((s x).0 h))

@@ -19,8 +19,7 @@ use Rattle.mxf_restore.specs.Missing.{missing_places}
 
 -- ---- the end and the cells
 
-greatest-bound : (xs : List ℕ) (bound : ℕ)
-    → greatest_of (map (λ x. x + 1) xs) ≤ bound ↔ ((x : ℕ) → In x xs → x < bound)
+greatest-bound : (xs : List ℕ) (bound : ℕ) → greatest_of (map (λ x. x + 1) xs) ≤ bound ↔ ((x : ℕ) → In x xs → x < bound)
 greatest-bound [] bound = (λ h x k. absurd k, λ f. omega arith)
 greatest-bound (y ∷ xs) bound =
     let ih = greatest-bound xs bound in (
@@ -63,8 +62,7 @@ none_before low x runs m l h =
 
 -- The bytes of maximal runs are the offsets of a range that lie in one of them, where they lie in the range.
 runs_count : (p : ℕ → Bool) (low len : ℕ) (runs : List Run) → AreMaximal low runs
-    → AllByRecursion (λ r. r.end ≤ low + len) runs
-    → ((x : ℕ) → low ≤ x → x < low + len → (p x ≡ true) ↔ LiesIn runs x)
+    → AllByRecursion (λ r. r.end ≤ low + len) runs → ((x : ℕ) → low ≤ x → x < low + len → (p x ≡ true) ↔ LiesIn runs x)
     → bytes_of runs ≡ count_by p (range_with_len low len)
 runs_count p low len [] m w f =
     sym (range-none p low len (λ x l r. false_from_ne_true (p x) (λ t. let k = (f x l r).0 t in k.1)))
@@ -119,8 +117,7 @@ top_above notes x h =
 edge_by : (notes : List NoteParts) (given : ℕ) (o : Option ℕ) (x : ℕ) → IsHeld notes x
     → x < unwrap_or (option_and_then (λ e. if reaches_past e notes then None else Some e) o) (max (top_of notes) given)
 edge_by notes given None x h = let top = top_above notes x h in omega (arith, top)
-edge_by notes given (Some e) x h =
-    elim (reaches_past e notes) as (λ b. reaches_past e notes ≡ b
+edge_by notes given (Some e) x h = elim (reaches_past e notes) as (λ b. reaches_past e notes ≡ b
     → x < unwrap_or (if b then None else Some e) (max (top_of notes) given)) [
       | true ↦ λ t. let top = top_above notes x h in omega (arith, top)
       | false ↦ λ t. elim (cases_lt e (covered_end h.0)) [
@@ -139,8 +136,7 @@ held_below_end known x h =
 
 pub held_is : (known : KnownParts) (runs : List Run) → Covers runs known.notes → IsCover runs
     → bytes_of runs ≡ held_below known.notes (map_end known)
-held_is known runs covers is =
-    runs_count (is_held known.notes) 0 (map_end known) runs is.maximal
+held_is known runs covers is = runs_count (is_held known.notes) 0 (map_end known) runs is.maximal
     (all_from_In (λ (r : Run). r.end ≤ 0 + map_end known) runs (λ r h.
     let some : r.start < r.end = has_byte 0 runs r is.maximal h in
     let last = (covers (r.end - 1)).0 (r, h, record { from = omega (arith, some); before = omega (arith, some) }) in
@@ -151,8 +147,7 @@ held_is known runs covers is =
 
 pub hand_is : (known : KnownParts) (runs : List Run) → Covers runs known.notes → (end : ℕ)
     → outside_below known.at.hand runs end ≡ hand_below known end
-hand_is known runs covers end =
-    range-same (λ x. has_offset known.at.hand x && not (has_offset runs x))
+hand_is known runs covers end = range-same (λ x. has_offset known.at.hand x && not (has_offset runs x))
     (λ x. has_offset known.at.hand x && not (is_held known.notes x)) 0 end (λ x l h.
     ap (λ b. has_offset known.at.hand x && not b) (same_bool (has_offset runs x) (is_held known.notes x)
     (λ t. (is_held-says known.notes x).1 ((covers x).0 ((has_offset-says runs x).0 t)))

@@ -18,8 +18,7 @@ use Rattle.mxf_map.specs.declared.map.Mark.TheVariants as marks
 -- A test of one mark of what is known is one of an equal mark of what is equal.
 pub told : (part all : KnownParts) (from to : ℕ) (mark given : Mark) (b : Bool) → part ≡ all → mark ≡ given
     → IsTrue b ↔ Says part from to given → IsTrue b ↔ Says all from to mark
-told part all from to mark given b e f h =
-    subst (λ (k : KnownParts). IsTrue b ↔ Says k from to mark) e
+told part all from to mark given b e f h = subst (λ (k : KnownParts). IsTrue b ↔ Says k from to mark) e
     (subst (λ (m : Mark). IsTrue b ↔ Says part from to m) (sym f) h)
 
 -- An offset of a set lies from one up to another.
@@ -93,8 +92,7 @@ hand_denied known from to held is some =
     (λ h. absurd (not-true-false held h some), λ s. (none_held known from to held is).1 s.0)
 
 -- All numbers of a range pass a test, or some doesn't.
-all_or_some : (p : ℕ → Bool) (from len : ℕ)
-    → ((x : ℕ) → from ≤ x → x < from + len → p x ≡ true)
+all_or_some : (p : ℕ → Bool) (from len : ℕ) → ((x : ℕ) → from ≤ x → x < from + len → p x ≡ true)
     ⊎ ((x : ℕ) × (from ≤ x) × (x < from + len) × (p x ≡ false))
 all_or_some p from zero = inl (λ x l r. absurd (omega arith))
 all_or_some p from (suc len) =
@@ -151,8 +149,7 @@ mark_at marks.Whole d h = absurd (omega (arith, h))
 -- Where one more of the marks says nothing true, none up to it does.
 pub none_more : (known : KnownParts) (from to i : ℕ) (d : Mark) (all : List Mark) → all ≡ marks_in_order
     → i < length all → ((other : Mark) → rank other < i → ¬ Says known from to other)
-    → ¬ Says known from to (get_or all i d)
-    → (other : Mark) → rank other < i + 1 → ¬ Says known from to other
+    → ¬ Says known from to (get_or all i d) → (other : Mark) → rank other < i + 1 → ¬ Says known from to other
 none_more known from to i d all e within before here other below says = grind (arith, cases_lt, mark_at)
 
 -- Each mark but the last stands at its rank.
@@ -178,8 +175,7 @@ first_found known from to i d all e within before says = grind (arith, rank_at)
 
 -- Where none of them does, the last is.
 pub none_found : (known : KnownParts) (from to i : ℕ) (all : List Mark) → all ≡ marks_in_order
-    → length all ≤ i → ((other : Mark) → rank other < i → ¬ Says known from to other)
-    → IsMark known from to marks.Whole
+    → length all ≤ i → ((other : Mark) → rank other < i → ¬ Says known from to other) → IsMark known from to marks.Whole
 none_found known from to i all e past before = grind arith
 
 -- ---- the marks of all cells
@@ -222,8 +218,7 @@ ranked marks.Index = refl
 ranked marks.Whole = refl
 
 -- Two marks that fit are one.
-pub one_mark : (known : KnownParts) (from to : ℕ) (a b : Mark) → IsMark known from to a → IsMark known from to b
-    → a ≡ b
+pub one_mark : (known : KnownParts) (from to : ℕ) (a b : Mark) → IsMark known from to a → IsMark known from to b → a ≡ b
 one_mark known from to a b x y = grind (arith, cases_lt, ranked)
 
 one_list : (known : KnownParts) (size end from : ℕ) (a b : List Mark) → AreMarks known size end from a

@@ -67,10 +67,8 @@ way_says u unit p e = grind (arith, from_ok)
 says_way : (u : UnitsParts) (unit : EditUnit) (p : StreamPlace)
     → ((unit.standing ≡ standings.Several) ⊎ (unit.standing ≡ standings.Unknown))
     → place_of (segments_for u.known.notes u.index_sid) unit.number ≡ Ok p → way_asked u unit ≡ Some p
-says_way u unit p (inl s) e =
-    ap (λ t. Rattle.mxf_partial.specs.Questions.way_asked_as t u unit) s ∙ ap result_ok e
-says_way u unit p (inr s) e =
-    ap (λ t. Rattle.mxf_partial.specs.Questions.way_asked_as t u unit) s ∙ ap result_ok e
+says_way u unit p (inl s) e = ap (λ t. Rattle.mxf_partial.specs.Questions.way_asked_as t u unit) s ∙ ap result_ok e
+says_way u unit p (inr s) e = ap (λ t. Rattle.mxf_partial.specs.Questions.way_asked_as t u unit) s ∙ ap result_ok e
 
 pub ways_are : (w : WantedParts) (p : StreamPlace)
     → In p (filter_map (way_asked w.units) (wanted_units w)) ↔ NeedsWay w p
@@ -95,8 +93,7 @@ limit_says : (w : WantedParts) (unit : EditUnit) (x : ℕ) → In unit (wanted_u
     → NeedsLimit w x
 limit_says w unit x i e = grind (arith, limit_by)
 
-pub limits_are : (w : WantedParts) (x : ℕ)
-    → In x (filter_map (limit_asked w.units) (wanted_units w)) ↔ NeedsLimit w x
+pub limits_are : (w : WantedParts) (x : ℕ) → In x (filter_map (limit_asked w.units) (wanted_units w)) ↔ NeedsLimit w x
 limits_are w x =
     let members = In-filter_map (limit_asked w.units) (wanted_units w) x in (
       λ i. let s = members.0 i in limit_says w s.0 x s.1 s.2,
@@ -104,8 +101,7 @@ limits_are w x =
         n.unit,
         n.wanted,
         ap (λ t. Rattle.mxf_partial.specs.Questions.limit_asked_as t w.units n.unit) n.standing
-            ∙ ap (λ r. option_and_then (λ (l : Location). l.zone.limit) (result_ok r)) n.location_is
-            ∙ n.limit_is,
+            ∙ ap (λ r. option_and_then (λ (l : Location). l.zone.limit) (result_ok r)) n.location_is ∙ n.limit_is,
       ),
     )
 
@@ -130,8 +126,7 @@ named_limits w named limits n are is =
             n.place,
             subst (In n.place) (sym is) ((limits_are w n.place).1 h.0),
             find-only (λ (m : NamedPlace). m.place == n.place) named n i
-                (let t : (n.place == n.place) ≡ true = eq-eqb n.place n.place refl in grind (arith, t))
-                (λ m k t.
+                (let t : (n.place == n.place) ≡ true = eq-eqb n.place n.place refl in grind (arith, t)) (λ m k t.
                 one_by_key (λ (m : NamedPlace). m.place) named m n (keys_rise named are.rising) k i
                 (eqb-true m.place n.place (let u : (m.place == n.place) ≡ true = grind (arith, t) in u))),
           ),
@@ -140,16 +135,14 @@ named_limits w named limits n are is =
 -- All that units ask for.
 pub asked_are : (w : WantedParts) (named before_ways before_limits asked : List NamedPlace) (limits : List ℕ)
     (partitions ways : List StreamPlace) (none : List NamedPlace) (n : NamedPlace) → AreNamed (notes_of w) named
-    → none ≡ []
-    → partitions ≡ filter_map (partition_asked w.units) (wanted_units w)
+    → none ≡ [] → partitions ≡ filter_map (partition_asked w.units) (wanted_units w)
     → ways ≡ filter_map (way_asked w.units) (wanted_units w)
     → limits ≡ filter_map (limit_asked w.units) (wanted_units w)
     → In n before_ways ↔ (In n none ⊎ (In n named × ((p : StreamPlace) × In p partitions
     × MayLieAt w.units p.body_sid p.offset n.place)))
     → In n before_limits ↔ (In n before_ways ⊎ ((p : StreamPlace) × (part : StreamPart) × In p ways
     × LeadsTo (notes_of w) p.body_sid p.offset part n.place × (n.source ≡ Some part.partition)))
-    → asked ≡ before_limits ++ filter_map (named_at named) limits
-    → In n asked ↔ IsAskedByUnit w n.place n.source
+    → asked ≡ before_limits ++ filter_map (named_at named) limits → In n asked ↔ IsAskedByUnit w n.place n.source
 asked_are w named before_ways before_limits asked limits partitions ways none n are empty p_is w_is l_is first second third =
     let by_limit = named_limits w named limits n are l_is in
     let parts = In-append n before_limits (filter_map (named_at named) limits) in (

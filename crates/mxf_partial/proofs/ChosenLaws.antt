@@ -74,8 +74,7 @@ evenly_mapped ns n h =
     ]
 
 evenly_from_mapped : (ns : List NamedPlace) (n : NamedPlace)
-    → ((m : NamedPlace) → In m ns → n.place ≡ m.place → n ≡ m) → IsEvenly16 (map offset_of ns) n.place
-    → IsEvenly16 ns n
+    → ((m : NamedPlace) → In m ns → n.place ≡ m.place → n ≡ m) → IsEvenly16 (map offset_of ns) n.place → IsEvenly16 ns n
 evenly_from_mapped ns n only h =
     let count : length (map offset_of ns) ≡ length ns = length-map ns offset_of in
     elim h [
@@ -156,8 +155,7 @@ module _ (u : UnitsParts) (numbers : List ℕ) (named : List NamedPlace) (are : 
   abbrev places : List NamedPlace
   places = filter test named
 
-  test_says : (n : NamedPlace) → IsTrue (test n)
-      ↔ ((unit : ℕ) × In unit numbers
+  test_says : (n : NamedPlace) → IsTrue (test n) ↔ ((unit : ℕ) × In unit numbers
       × LiesBetweenSegments (segments_for u.known.notes u.index_sid) unit n.place)
   unfolding starts_for
   test_says n = grind (arith, between_any, between_segments)
@@ -178,20 +176,17 @@ module _ (u : UnitsParts) (numbers : List ℕ) (named : List NamedPlace) (are : 
         let n : NamedPlace = record { place = x; source = m.named.0 } in
         (In-map offset_of places x).1 (
           n,
-          (In-filter test named n).1
-              ((are.members n).1 m.named.1, (test_says n).1 (m.number, m.among, m.between)),
+          (In-filter test named n).1 ((are.members n).1 m.named.1, (test_says n).1 (m.number, m.among, m.between)),
           refl,
         ),
   )
 
   rise : IsRisingBy (λ x. x) (map offset_of places)
-  rise =
-      rises-map offset_of offset_of (λ x. x) places (λ n h. refl)
+  rise = rises-map offset_of offset_of (λ x. x) places (λ n h. refl)
       (rises-filter offset_of test named (keys_rise named are.rising))
 
   -- The places that are chosen.
-  pub chosen_says : (n : NamedPlace) → IsEvenly16 places n
-      ↔ (In n named × IsOneOf16 (MayIndexOneOf u numbers) n.place)
+  pub chosen_says : (n : NamedPlace) → IsEvenly16 places n ↔ (In n named × IsOneOf16 (MayIndexOneOf u numbers) n.place)
   chosen_says n = (
     λ h. (
       ((In-filter test named n).0 (evenly_in places n h)).0,

@@ -53,8 +53,7 @@ earlier_is (Some (Some x)) (Some y) = record {
             let is : y ≡ min x y = omega (arith, l) in inr (ap Some is)
       ] refl;
   before = omega arith;
-  seen = λ z e.
-      subst (λ (o : Option ℕ). GoesFirst (Some (min x y)) o) (same_Some (Some x) z e)
+  seen = λ z e. subst (λ (o : Option ℕ). GoesFirst (Some (min x y)) o) (same_Some (Some x) z e)
       (let l : min x y ≤ x = omega arith in l);
 }
 
@@ -83,8 +82,7 @@ first_is first (n ∷ places) result e =
         | inr s ↦ inr (s.0, inr s.1, s.2)
       ];
       all = λ m i. elim i [
-        | inl k ↦
-            subst (λ (k : NamedPlace). GoesFirst result k.source) (sym k)
+        | inl k ↦ subst (λ (k : NamedPlace). GoesFirst result k.source) (sym k)
             (goes_on result (earlier first n.source) n.source next one.before)
         | inr k ↦ rest.all m k
       ];
@@ -113,8 +111,7 @@ pub source_is : (asked : List NamedPlace) (from : ℕ) (end : Option ℕ) (sourc
     → (first_source asked from end ≡ Some source) ↔ IsFirstSource asked from end source
 source_is asked from end source = (to, back)
   where
-    there : (n : NamedPlace) → In n (filter (lies_between from end) asked)
-        ↔ (In n asked × LiesBetween from end n.place)
+    there : (n : NamedPlace) → In n (filter (lies_between from end) asked) ↔ (In n asked × LiesBetween from end n.place)
     there n =
         let f = In-filter (lies_between from end) asked n in
         let b = between-says from end n in (
@@ -143,8 +140,7 @@ source_is asked from end source = (to, back)
         let i = (there f.place).1 (f.among, f.lies) in
         let some = some_first None f.place (filter (lies_between from end) asked) i in
         let is = first_is None (filter (lies_between from end) asked) some.0 some.1 in
-        let one : some.0 ≡ source = goes_both some.0 source
-        (subst (GoesFirst some.0) f.is (is.all f.place i))
+        let one : some.0 ≡ source = goes_both some.0 source (subst (GoesFirst some.0) f.is (is.all f.place i))
         (elim is.one [
           | inl none ↦ absurd cc
           | inr s ↦ let at = (there s.0).0 s.1 in subst (GoesFirst source) s.2 (f.first s.0 at.0 at.1)
@@ -157,8 +153,7 @@ pub front_is : (described : Bool) (at : AtHandParts) (notes : List NoteParts) (a
     (o : Order) → (front_order described at notes asked p ≡ Some o) ↔ IsFrontOf described at notes asked p o
 front_is described at notes asked p o = (
   λ e. by_helping (helping_of described at notes p) refl e,
-  λ f.
-      ap (λ (l : List Order). if_none l (front_from (first_source asked (start_of notes p.first) p.end))) f.none_first
+  λ f. ap (λ (l : List Order). if_none l (front_from (first_source asked (start_of notes p.first) p.end))) f.none_first
       ∙ ap front_from ((source_is asked (start_of notes p.first) p.end f.source).1 f.source_is)
       ∙ ap (option_map (front_by f.source)) f.front_is ∙ ap Some (sym f.is),
 )

@@ -144,8 +144,7 @@ not_zero (negsuc n) other = omega arith
 
 -- Each offset that the segment gives is reached by one of the places, where it ends.
 abbrev pub IsReached : List GreatestPlace → SegmentAtParts → Type 0
-IsReached places s =
-    (unit offset : ℕ) → ¬ IsEndless s.segment → stream_offset s.segment unit ≡ Some offset
+IsReached places s = (unit offset : ℕ) → ¬ IsEndless s.segment → stream_offset s.segment unit ≡ Some offset
     → (g : GreatestPlace) × In g places × (g.body_sid ≡ s.segment.numbers.body_sid) × (offset ≤ g.offset)
 
 -- The segments of an index have been passed, all but these.
@@ -156,8 +155,7 @@ pub record Passed (u : UnitsParts) (places : List GreatestPlace) (rest : List Se
 
 of_index : (u : UnitsParts) (s : SegmentAtParts)
     → (In s (segments_for u.known.notes u.index_sid) → s.segment.numbers.index_sid ≡ u.index_sid)
-of_index u s h =
-    eqb-true _ _ ((In-filter (λ (t : SegmentAtParts). t.segment.numbers.index_sid == u.index_sid)
+of_index u s h = eqb-true _ _ ((In-filter (λ (t : SegmentAtParts). t.segment.numbers.index_sid == u.index_sid)
     (segments_of u.known.notes) s).0 h).1
 
 to_index : (u : UnitsParts) (s : SegmentAtParts) → In s (segments_of u.known.notes)
@@ -248,8 +246,7 @@ one_greatest : IsAntisymmetric greatest_cmp
 one_greatest a b e = grind (arith, ties)
 
 pub all_greatest : (u : UnitsParts) (places sorted : List GreatestPlace) (rest : List SegmentAtParts) → rest ≡ []
-    → Passed u places rest → sorted ≡ union greatest_cmp [] places → IsRising greatest_cmp sorted
-    → AreGreatest u sorted
+    → Passed u places rest → sorted ≡ union greatest_cmp [] places → IsRising greatest_cmp sorted → AreGreatest u sorted
 all_greatest u places sorted rest none p is rises =
     let members = λ (g : GreatestPlace). In-union greatest_total one_greatest g [] places in
     record {

@@ -14,8 +14,7 @@ use Rattle.mxf_partial.specs.InStreams.{IsLastBelow, Precedes, is_below}
 
 pub says_below : (a x s t : ℕ) → IsBelow a x s t → is_below a x s t ≡ true
 says_below a x s t (inl l) = either _ _ (inl (lt-ltb _ _ l))
-says_below a x s t (inr p) =
-    either _ _ (inr (and_from (a == s) (nat_lt x t) (eq-eqb _ _ p.0) (lt-ltb _ _ p.1)))
+says_below a x s t (inr p) = either _ _ (inr (and_from (a == s) (nat_lt x t) (eq-eqb _ _ p.0) (lt-ltb _ _ p.1)))
 
 pub below_says : (a x s t : ℕ) → is_below a x s t ≡ true → IsBelow a x s t
 below_says a x s t e = grind (arith, ltb-true, and_parts, eqb-true)
@@ -62,8 +61,7 @@ module _ {T : Type 0} (stream offset tie : T → ℕ) where
       → get_or xs i d ≡ x → get_or xs j d ≡ y → (x ≡ y) ⊎ Precedes stream offset tie x y
   at_places xs i j x y d r l h e f =
       elim (cases_lt i j) [
-        | inl m ↦
-            inr (subst (λ u. Precedes stream offset tie u y) e
+        | inl m ↦ inr (subst (λ u. Precedes stream offset tie u y) e
             (subst (λ v. Precedes stream offset tie (get_or xs i d) v) f (in_order_at xs i j d r m h)))
         | inr m ↦
             let same : i ≡ j = omega (arith, l, m) in inl (sym e ∙ ap (λ k. get_or xs k d) same ∙ f)

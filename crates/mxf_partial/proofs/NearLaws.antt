@@ -69,16 +69,14 @@ from_both places b low to x y from up is_x most_x is_y most_y same =
 
 -- The places with a property stand from one position up to another.
 abbrev pub IsRangeOf : List PlaceOf → (PlaceOf → Type 0) → ℕ → ℕ → Type 0
-IsRangeOf items Q start end =
-    (k : ℕ) (p : PlaceOf) → slice_get items k ≡ Some p → ((start ≤ k) × (k < end)) ↔ Q p
+IsRangeOf items Q start end = (k : ℕ) (p : PlaceOf) → slice_get items k ≡ Some p → ((start ≤ k) × (k < end)) ↔ Q p
 
 pub at_position : (items : List PlaceOf) (p : PlaceOf) → In p items → (k : ℕ) × (slice_get items k ≡ Some p)
 at_position items p h =
     let c = Contains-from_In p items h in (c.0, slice_get_read items (length items) c.0 p refl c.1 (sym c.2))
 
 pub in_position : (items : List PlaceOf) (k : ℕ) (p : PlaceOf) → slice_get items k ≡ Some p → In p items
-in_position items k p e =
-    subst (λ (q : PlaceOf). In q items) (get_or_from_slice_get items k p p e)
+in_position items k p e = subst (λ (q : PlaceOf). In q items) (get_or_from_slice_get items k p p e)
     (In-at items k p (slice_get_within items k p e))
 
 module _ (items : List PlaceOf) (Q : PlaceOf → Type 0) (start end : ℕ) (are : IsRangeOf items Q start end)
@@ -149,8 +147,7 @@ added_both items b from end old mid new any own all first second same =
     parts : (any || own) ≡ true → (any ≡ true) ⊎ (own ≡ true)
     parts e = elim any as (λ a. (a || own) ≡ true → (a ≡ true) ⊎ (own ≡ true)) [
       | true ↦ λ f. inl refl
-      | false ↦ λ
-          f. inr f
+      | false ↦ λ f. inr f
     ] e
 
     left : any ≡ true → (any || own) ≡ true
@@ -226,5 +223,4 @@ module _ (items : List PlaceOf) (positions : List Run) (count : ℕ) (old now : 
 pub moved : (P : List PlaceOf → Type 0) (xs ys : List PlaceOf) → xs ≡ ys
     → (IsInOrder (λ p. rank p.body_sid) (λ p. p.place) (λ p. 0) xs → P xs)
     → IsInOrder (λ p. rank p.body_sid) (λ p. p.place) (λ p. 0) ys → P ys
-moved P xs ys e h r =
-    subst P e (h (subst (IsInOrder (λ p. rank p.body_sid) (λ p. p.place) (λ p. 0)) (sym e) r))
+moved P xs ys e h r = subst P e (h (subst (IsInOrder (λ p. rank p.body_sid) (λ p. p.place) (λ p. 0)) (sym e) r))

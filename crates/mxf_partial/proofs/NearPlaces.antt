@@ -134,8 +134,7 @@ module _ (u : UnitsParts) (named : List NamedPlace) (near : Near) (nm : AreNamed
 
     -- Where some of the places near are named.
     pub asks_near : (any every : Bool) (old new : List Run) → HasAddedThose items (LiesInStream b from end) old new any
-        → any ≡ true → (x : ℕ)
-        → Asks items (record { positions = new; all = every }) x
+        → any ≡ true → (x : ℕ) → Asks items (record { positions = new; all = every }) x
         ↔ (Asks items (record { positions = old; all = every }) x ⊎ MayLieAt u b s x)
     asks_near any every old new has some x = (
       λ h. elim h [
@@ -174,8 +173,7 @@ module _ (u : UnitsParts) (named : List NamedPlace) (near : Near) (nm : AreNamed
           ]
 
       -- Where none is, and some of the stream are named.
-      pub asks_named : own ≡ true → (x : ℕ)
-          → Asks items (record { positions = new; all = every }) x
+      pub asks_named : own ≡ true → (x : ℕ) → Asks items (record { positions = new; all = every }) x
           ↔ (Asks items (record { positions = old; all = every }) x ⊎ MayLieAt u b s x)
       asks_named some x = (
         λ h. elim h [
@@ -214,8 +212,7 @@ module _ (u : UnitsParts) (named : List NamedPlace) (near : Near) (nm : AreNamed
       )
 
       -- Where none of the stream is named.
-      pub asks_all : own ≡ false → (x : ℕ) → IsNamed notes x
-          → Asks items (record { positions = new; all = true }) x
+      pub asks_all : own ≡ false → (x : ℕ) → IsNamed notes x → Asks items (record { positions = new; all = true }) x
           ↔ (Asks items (record { positions = old; all = every }) x ⊎ MayLieAt u b s x)
       asks_all empty x there = (
         λ h. inr (inr (inr (
@@ -226,8 +223,7 @@ module _ (u : UnitsParts) (named : List NamedPlace) (near : Near) (nm : AreNamed
               p.3,
               (
                 omega arith,
-                inl
-                    refl,
+                inl refl,
               ),
             ),
           )) empty,
@@ -269,8 +265,7 @@ module _ (u : UnitsParts) (named : List NamedPlace) (near : Near) (nm : AreNamed
 
   -- One more of them, by where it stands.
   pub asks_push : (places : List StreamPlace) (count : ℕ) (d : StreamPlace) (old new : Asked) → count < length places
-      → AsksFor places count old
-      → ((x : ℕ) → IsNamed notes x → Asks items new x
+      → AsksFor places count old → ((x : ℕ) → IsNamed notes x → Asks items new x
       ↔ (Asks items old x ⊎ MayLieAt u (get_or places count d).body_sid (get_or places count d).offset x))
       → AsksFor places (count + 1) new
   asks_push places count d old new l was step =
@@ -278,8 +273,7 @@ module _ (u : UnitsParts) (named : List NamedPlace) (near : Near) (nm : AreNamed
 
   -- What is added of the named places.
   abbrev pub IsAdded : Asked → NamedPlace → Type 0
-  IsAdded asked n =
-      ((asked.all ≡ true) × In n named)
+  IsAdded asked n = ((asked.all ≡ true) × In n named)
       ⊎ ((asked.all ≡ false) × ((k : ℕ) × (p : PlaceOf) × (slice_get items k ≡ Some p) × LiesIn asked.positions k
       × (n ≡ named_of p)))
 
@@ -333,6 +327,5 @@ module _ (u : UnitsParts) (named : List NamedPlace) (near : Near) (nm : AreNamed
   )
     where
       in_places : (k : ℕ) (p : StreamPlace) → slice_get places k ≡ Some p → In p places
-      in_places k p e =
-          subst (λ (q : StreamPlace). In q places) (get_or_from_slice_get places k p p e)
+      in_places k p e = subst (λ (q : StreamPlace). In q places) (get_or_from_slice_get places k p p e)
           (In-at places k p (slice_get_within places k p e))

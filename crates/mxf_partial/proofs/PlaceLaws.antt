@@ -37,8 +37,7 @@ module _ (notes : List NoteParts) (listed : List ListedStream) (are : AreListed 
   )
 
   pub contradicted : (first last : ListedStream) → (IsInOrder at start of listed → IsFirstFrom at start of listed x
-      0 first)
-      → (IsInOrder at start of listed → IsLastBelow at start of listed x 1 last)
+      0 first) → (IsInOrder at start of listed → IsLastBelow at start of listed x 1 last)
       → (first.body_sid ≡ last.body_sid → ⊥) → IsOfNoStream notes x
   contradicted first last f l other = λ b h.
       let all = (are.same b x).0 h in
@@ -126,8 +125,7 @@ listed_none notes items sorted none empty is rises = grind (arith, listed_order,
 -- ---- places in their order
 
 abbrev pub place_of_cmp : PlaceOf → PlaceOf → Ordering
-place_of_cmp =
-    then_cmp (on (λ p. p.body_sid) (option_cmp nat_cmp))
+place_of_cmp = then_cmp (on (λ p. p.body_sid) (option_cmp nat_cmp))
     (then_cmp (on (λ p. p.place) nat_cmp) (on (λ p. p.source) (option_cmp nat_cmp)))
 
 one_option : IsAntisymmetric (option_cmp nat_cmp)
@@ -140,8 +138,7 @@ one_place : IsAntisymmetric place_of_cmp
 one_place a b e = grind (arith, ties, one_option)
 
 places_total : IsTotalOrder place_of_cmp
-places_total =
-    then_total (on_total (λ p. p.body_sid) (options_total nat_cmp_total))
+places_total = then_total (on_total (λ p. p.body_sid) (options_total nat_cmp_total))
     (then_total (on_total (λ p. p.place) nat_cmp_total) (on_total (λ p. p.source) (options_total nat_cmp_total)))
 
 rank_less : (a b : Option ℕ) → option_cmp nat_cmp a b ≡ Less → rank a < rank b
@@ -152,8 +149,7 @@ rank_less (Some x) (Some y) e = let l = lt_from_less x y e in omega (arith, l)
 
 places_order : (sorted : List PlaceOf) → IsRising place_of_cmp sorted
     → IsInOrder (λ p. rank p.body_sid) (λ p. p.place) (λ p. 0) sorted
-places_order sorted rises =
-    in_order_from (λ p. rank p.body_sid) (λ p. p.place) (λ p. 0) place_of_cmp
+places_order sorted rises = in_order_from (λ p. rank p.body_sid) (λ p. p.place) (λ p. 0) place_of_cmp
     (λ x y e. elim (then_less _ _ e) [
       | inl l ↦ inl (rank_less x.body_sid y.body_sid l)
       | inr q ↦ inr (

@@ -160,8 +160,7 @@ pub all_apart : (u x : ℕ) (starts : List SegmentStart) → IsTrue (list_all (i
     × ((s : SegmentStart) → In s starts → x ≤ s.offset → u < s.unit))
 all_apart u x starts = grind (arith, apart_says, list_all-In, leb_tells, In-list_all)
 
-pub between_any : (starts : List SegmentStart) (numbers : List ℕ) (x : ℕ)
-    → IsTrue (is_between_any starts numbers x)
+pub between_any : (starts : List SegmentStart) (numbers : List ℕ) (x : ℕ) → IsTrue (is_between_any starts numbers x)
     ↔ ((u : ℕ) × In u numbers × IsTrue (list_all (is_apart u x) starts))
 unfolding is_between_any
 between_any starts numbers x = list_any-In (λ u. list_all (is_apart u x) starts) numbers
@@ -181,8 +180,7 @@ module _ (starts : List SegmentStart) (numbers : List ℕ) (x low k : ℕ)
       let after : k ≤ f.0 = f.2 in
       absurd (omega (arith, inside, after)))
 
-  pub one_between : (high m : ℕ)
-      → ((u : ℕ) → u < 18446744073709551616
+  pub one_between : (high m : ℕ) → ((u : ℕ) → u < 18446744073709551616
       → (u < high) ↔ ((s : SegmentStart) → In s starts → x ≤ s.offset → u < s.unit))
       → ((j : ℕ) → get_or numbers j 0 < 18446744073709551616)
       → IsNonDecreasingBy (λ n. n) numbers → AllWithin (λ n. low ≤ n) numbers k (length numbers)

@@ -52,8 +52,7 @@ module _ (notes : List NoteParts) (starts : List PartStart) (are : AreStarts not
   low_found start low is sum = grind (arith, part_of_start, last_is_part)
 
   pub low_none : (low : ℕ) → HasNoneBelow of at tie starts b t → low ≡ 0 → IsLow notes b s low
-  low_none low none zero =
-      inl (λ p h. let l = none (start_of p) (start_there p h) h.body in omega (arith, l, up), zero)
+  low_none low none zero = inl (λ p h. let l = none (start_of p) (start_there p h) h.body in omega (arith, l, up), zero)
 
   first_is_part : (p : StreamPart) → IsPart notes b p → IsFirstFrom of at tie starts b t (start_of p)
       → IsPartBehind notes b s p
@@ -135,20 +134,16 @@ high_by_rip u b s high greatest offset rip none is e greatest_is same =
 
 pub high_none : (u : UnitsParts) (b s : ℕ) (rip high : Option ℕ) → HasNoPartBehind u.known.notes b s
     → IsRipOffset u.known.notes rip → rip ≡ None → high ≡ None → IsHigh u b s high
-high_none u b s rip high none is e same =
-    subst (IsHigh u b s) (sym same) (none, subst (IsRipOffset u.known.notes) e is)
+high_none u b s rip high none is e same = subst (IsHigh u b s) (sym same) (none, subst (IsRipOffset u.known.notes) e is)
 
 -- ---- where parts begin, in their order
 
 abbrev pub start_cmp : PartStart → PartStart → Ordering
-start_cmp =
-    then_cmp (on (λ s. s.body_sid) nat_cmp)
-    (then_cmp (on (λ s. s.body_offset) nat_cmp)
+start_cmp = then_cmp (on (λ s. s.body_sid) nat_cmp) (then_cmp (on (λ s. s.body_offset) nat_cmp)
     (then_cmp (on (λ s. s.partition) nat_cmp) (on (λ s. s.origin) nat_cmp)))
 
 start_total : IsTotalOrder start_cmp
-start_total =
-    then_total (on_total (λ s. s.body_sid) nat_cmp_total)
+start_total = then_total (on_total (λ s. s.body_sid) nat_cmp_total)
     (then_total (on_total (λ s. s.body_offset) nat_cmp_total)
     (then_total (on_total (λ s. s.partition) nat_cmp_total) (on_total (λ s. s.origin) nat_cmp_total)))
 

@@ -58,13 +58,11 @@ high_one u b s None (Some y) f (inr g) = absurd (f.1 g.1.0 g.1.1)
 high_one u b s (Some x) None (inl f) g =
     let l = g.0 f.0 f.1.part in let m = f.1.behind in absurd (omega (arith, l, m))
 high_one u b s (Some x) None (inr f) g = absurd (g.1 f.1.0 f.1.1)
-high_one u b s (Some x) (Some y) (inl f) (inl g) =
-    ap (λ (n : ℕ). Some n) (behind_one u b s x y f.0 g.0 f.1 g.1 f.2 g.2)
+high_one u b s (Some x) (Some y) (inl f) (inl g) = ap (λ (n : ℕ). Some n) (behind_one u b s x y f.0 g.0 f.1 g.1 f.2 g.2)
 high_one u b s (Some x) (Some y) (inl f) (inr g) =
     let l = g.0 f.0 f.1.part in let m = f.1.behind in absurd (omega (arith, l, m))
 high_one u b s (Some x) (Some y) (inr f) (inl g) =
     let l = f.0 g.0 g.1.part in let m = g.1.behind in absurd (omega (arith, l, m))
 high_one u b s (Some x) (Some y) (inr f) (inr g) =
     let same : f.1.0 ≡ g.1.0 = cc (f.1.1, g.1.1) in
-    ap (λ (n : ℕ). Some n)
-    (by_rip_one b s x y u f.1.0 g.1.0 f.1.2.0 g.1.2.0 same f.1.2.1 g.1.2.1 f.1.2.2 g.1.2.2)
+    ap (λ (n : ℕ). Some n) (by_rip_one b s x y u f.1.0 g.1.0 f.1.2.0 g.1.2.0 same f.1.2.1 g.1.2.1 f.1.2.2 g.1.2.2)

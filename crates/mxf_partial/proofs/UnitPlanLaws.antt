@@ -44,8 +44,7 @@ use Rattle.mxf_units.specs.declared.standing.UnitStanding.TheVariants as standin
 -- ---- what finds partitions and index table segments
 
 abbrev pub fronts_in : WantedParts → List NamedPlace → List Order
-fronts_in w asked =
-    filter_map (front_order (is_described w) (hand_of w) (notes_of w) asked) (sections_of (notes_of w))
+fronts_in w asked = filter_map (front_order (is_described w) (hand_of w) (notes_of w) asked) (sections_of (notes_of w))
 
 fronts_are : (w : WantedParts) (asked : List NamedPlace) (o : Order) → AreAsked w asked
     → In o (fronts_in w asked) ↔ IsFrontOrder w o
@@ -172,8 +171,7 @@ named_says notes named x are = (to (named_at named x) refl, back (named_at named
         )
 
     back : (o : Option NamedPlace) → named_at named x ≡ o → IsNamed notes x → is_some o ≡ true
-    back None is s =
-        absurd (none_found (λ (n : NamedPlace). n.place == x) named (record { place = x; source = s.0 }) is
+    back None is s = absurd (none_found (λ (n : NamedPlace). n.place == x) named (record { place = x; source = s.0 }) is
         ((are.members (record { place = x; source = s.0 })).1 s.1)
         (let t : (x == x) ≡ true = eq-eqb x x refl in grind (arith, t)))
     back (Some n) is s = refl
@@ -197,8 +195,7 @@ wanted_at_says : (notes : List NoteParts) (named : List NamedPlace) (l : Locatio
     → AreNamed notes named → HasByte (wanted_at named standing l) x ↔ WantsAt notes l standing x
 wanted_at_says notes named l standings.Missing x are = (λ h. h, λ h. h)
 wanted_at_says notes named l standings.Part x are = (λ h. h, λ h. h)
-wanted_at_says notes named l standings.Unsure x are =
-    by_limit (is_limit_named named l) refl
+wanted_at_says notes named l standings.Unsure x are = by_limit (is_limit_named named l) refl
   where
     by_limit : (b : Bool) → is_limit_named named l ≡ b
         → HasByte (if b then None else Some (record {
@@ -247,8 +244,7 @@ wanted_is w named runs are cover offsets = record {
 -- ---- the orders of bytes of units
 
 abbrev pub units_in : AtHandParts → List Run → List Run → List Order
-units_in at there wanted =
-    flat_map (λ (r : Run). map (unit_order at) (lacking there r.start (Some r.end))) wanted
+units_in at there wanted = flat_map (λ (r : Run). map (unit_order at) (lacking there r.start (Some r.end))) wanted
 
 one_cover : (P : ℕ → Type 0) (a b : List Run) → AreOffsetsOf P a → AreOffsetsOf P b → a ≡ b
 one_cover P a b of_a of_b =
@@ -402,11 +398,9 @@ reason_of_front at notes p c o is e =
     by : (asked : Option Order) → asked_of at notes p ≡ asked → (part : Option OffsetRange)
         → option_map (λ r. part_order at (looked_for at notes p) (front_range r)) part ≡ Some o
         → (o.reason ≡ c.reason) ⊎ (o.reason ≡ reasons.Gap)
-    by None f part e =
-        inr (by_part (looked_for at notes p) part e
+    by None f part e = inr (by_part (looked_for at notes p) part e
         ∙ ap (λ (a : Option Order). (unwrap_or a (all_from (start_of notes p.first))).reason) f)
-    by (Some a) f part e =
-        inl (by_part (looked_for at notes p) part e
+    by (Some a) f part e = inl (by_part (looked_for at notes p) part e
         ∙ ap (λ (a : Option Order). (unwrap_or a (all_from (start_of notes p.first))).reason) f
         ∙ reason_of_asked at notes p c a is f)
 
@@ -429,8 +423,7 @@ helping_reason described at notes p o i reason = by_claim (claim_at notes (start
             ]
         by (Some f) e (inr none) = none
 
-    by_open : (c : Claim) (b d : Bool) → claim_at notes (start_of notes p.first) ≡ Some c
-        → ¬ (c.reason ≡ reasons.Unit)
+    by_open : (c : Claim) (b d : Bool) → claim_at notes (start_of notes p.first) ≡ Some c → ¬ (c.reason ≡ reasons.Unit)
         → In o (if d then [] else (if b then option_to_list (front_of at notes p) else orders_of at notes p)) → ⊥
     by_open c b true is other i = i
     by_open c true false is other i = not_front c is other i
@@ -512,5 +505,4 @@ found w described sought pieces sections others orders items asked d k s t helpi
     (λ n. (
       λ i. elim ((are n).0 i) [ inl u ↦ inl u | inr v ↦ inr (none v.0, v.1) ],
       λ h. (are n).1 (elim h [ inl u ↦ inl u | inr v ↦ inr (some v.0, v.1) ]),
-    ))
-    (is ∙ (λ i. same i ++ filter_map (front_order (d i) (k i).at (k i).notes asked) (t i)))
+    )) (is ∙ (λ i. same i ++ filter_map (front_order (d i) (k i).at (k i).notes asked) (t i)))

@@ -30,14 +30,12 @@ added start end last old new e is x =
 -- ---- one unit more
 
 module _ (named : List NamedPlace) (u : UnitsParts) where
-  first_or_later : (unit : EditUnit) (left : List EditUnit) (x : ℕ)
-      → HasByteOf named u (unit ∷ left) x
+  first_or_later : (unit : EditUnit) (left : List EditUnit) (x : ℕ) → HasByteOf named u (unit ∷ left) x
       ↔ ((HasByte (wanted_of named u unit) x × (x < greatest_end)) ⊎ HasByteOf named u left x)
   first_or_later unit left x = grind arith
 
   pub one_more : (unit : EditUnit) (left before all : List EditUnit) (extent : Option Extent) (old new : List Run)
-      (x : ℕ)
-      → before ≡ unit ∷ left → extent ≡ wanted_of named u unit
+      (x : ℕ) → before ≡ unit ∷ left → extent ≡ wanted_of named u unit
       → LiesIn new x ↔ (LiesIn old x ⊎ (HasByte extent x × (x < greatest_end)))
       → (LiesIn old x ⊎ HasByteOf named u before x) ↔ HasByteOf named u all x
       → (LiesIn new x ⊎ HasByteOf named u left x) ↔ HasByteOf named u all x
@@ -45,6 +43,5 @@ module _ (named : List NamedPlace) (u : UnitsParts) where
 
   -- No unit is left.
   pub no_more : (before all : List EditUnit) (runs : List Run) (x : ℕ) → before ≡ []
-      → (LiesIn runs x ⊎ HasByteOf named u before x) ↔ HasByteOf named u all x
-      → LiesIn runs x ↔ HasByteOf named u all x
+      → (LiesIn runs x ⊎ HasByteOf named u before x) ↔ HasByteOf named u all x → LiesIn runs x ↔ HasByteOf named u all x
   no_more before all runs x e so = grind arith

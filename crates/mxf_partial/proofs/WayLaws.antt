@@ -133,8 +133,7 @@ way_says notes part n e = by_zone part.zone refl e
         )
 
     by_partition : (o : Option PartitionParts) → find (λ q. q.offset == part.partition) (partitions_of notes) ≡ o
-        → part.zone ≡ None
-        → option_map (λ x. record { place = x; source = Some part.partition })
+        → part.zone ≡ None → option_map (λ x. record { place = x; source = Some part.partition })
         (option_and_then (way_of notes) (option_map in_numbers o)) ≡ Some n
         → (p : PartitionParts) × In p (partitions_of notes) × (p.offset ≡ part.partition)
         × (way_of notes p ≡ Some n.place) × (part.zone ≡ None) × (n.source ≡ Some part.partition)
@@ -157,8 +156,7 @@ says_way notes part p n content i at w none source =
     grind (arith, find-only, eq-eqb, one_there, partitions_rise, eqb-true, is_some, find, in_numbers_alike)
 
 pub ways_are : (notes : List NoteParts) (places others : List StreamPlace) (n : NamedPlace) → IsContent notes
-    → ((p : StreamPlace) → In p others ↔ In p places)
-    → HasWay notes notes others (parts_of notes) n
+    → ((p : StreamPlace) → In p others ↔ In p places) → HasWay notes notes others (parts_of notes) n
     ↔ ((p : StreamPlace) × (part : StreamPart) × In p places × LeadsTo notes p.body_sid p.offset part n.place
     × (n.source ≡ Some part.partition))
 ways_are notes places others n content same = grind (arith, way_says, says_way)
@@ -213,7 +211,6 @@ in_order_is ps r = grind (arith, in_order_from, then_less, nat_cmp, lt_from_less
 
 -- No packet begins where files end at the latest, or above.
 pub far_from_fills : (notes : List NoteParts) (x : ℕ) → IsCatalogue notes → greatest_end ≤ x → x ≡ over_fills notes x
-far_from_fills notes x is far =
-    sym (over_none (undisputed_notes notes) x (λ n h e.
+far_from_fills notes x is far = sym (over_none (undisputed_notes notes) x (λ n h e.
     let note : IsNote n = all-In IsNote notes n is.members ((In-undisputed_notes n notes).0 h).0 in
     let end : n.offset + 16 + n.width + n.length ≤ greatest_end = note.within in omega (arith, end, far, e)))

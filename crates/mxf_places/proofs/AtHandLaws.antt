@@ -34,8 +34,7 @@ runs_end-bound low runs m bound = (
 -- ---- runs that lie elsewhere don't matter
 
 no_range : (start end : ℕ) → end ≤ start → some_range start (Some end) ≡ []
-no_range start end l =
-    ap (λ b. if b then record { start = start; end = Some end } ∷ [] else []) (le-ltb start end l)
+no_range start end l = ap (λ b. if b then record { start = start; end = Some end } ∷ [] else []) (le-ltb start end l)
 
 pub bound_le : (x : ℕ) (end : Option ℕ) → up_to_bound x end ≤ x
 bound_le x None = omega arith
@@ -72,8 +71,7 @@ lacking-between low (r ∷ runs) m from start end l =
           let none = no_range start (up_to_bound r.start end) (omega (arith, least, some, before, l)) in
           let same : max start r.end ≡ start = omega (arith, before, l) in
           lacking-between (r.end + 1) runs m.2 from start end l ∙ sym (λ i. none i ++ lacking runs (same i) end)
-      | true ↦ λ e.
-          by_end some end (λ s k. lacking-between (r.end + 1) runs m.2 from s end k)
+      | true ↦ λ e. by_end some end (λ s k. lacking-between (r.end + 1) runs m.2 from s end k)
           (option_map_or (λ x. nat_lt r.start x) end true) refl
     ] refl
   where
@@ -82,14 +80,12 @@ lacking-between low (r ∷ runs) m from start end l =
         → (b : Bool) → option_map_or (λ x. nat_lt r.start x) stop true ≡ b
         → lacking (cond b (r ∷ filter (is_between from stop) runs) (filter (is_between from stop) runs)) start stop
         ≡ lacking (r ∷ runs) start stop
-    by_end some stop ih true e =
-        ap (λ rest. some_range start (Some (up_to_bound r.start stop)) ++ rest)
+    by_end some stop ih true e = ap (λ rest. some_range start (Some (up_to_bound r.start stop)) ++ rest)
         (ih (max start r.end) (omega (arith, l)))
     by_end some None ih false e = absurd cc
     by_end some (Some x) ih false e =
         let behind : x ≤ r.start = ltb-false r.start x e in
-        ih start l
-        ∙ all_behind (r.end + 1) runs m.2 start x (omega (arith, behind, some))
+        ih start l ∙ all_behind (r.end + 1) runs m.2 start x (omega (arith, behind, some))
         ∙ sym (all_behind r.start (r ∷ runs) (omega arith, m.1, m.2) start x behind)
 
 -- ---- what they are
@@ -161,8 +157,7 @@ some_is : (start : ℕ) (end : Option ℕ) (g : OffsetRange) → In g (some_rang
     → (g ≡ record { start = start; end = end }) × LiesBetween start end start
 some_is start None g (inl e) = (e, (omega arith, inl refl))
 some_is start None g (inr k) = absurd k
-some_is start (Some x) g k =
-    elim (nat_lt start x) as (λ b. nat_lt start x ≡ b
+some_is start (Some x) g k = elim (nat_lt start x) as (λ b. nat_lt start x ≡ b
     → In g (if b then record { start = start; end = Some x } ∷ [] else [])
     → (g ≡ record { start = start; end = Some x }) × LiesBetween start (Some x) start) [
       | true ↦ λ e h. elim h [
@@ -365,8 +360,7 @@ has_offset-says runs x =
           any.1 (
             h.0,
             h.1,
-            and_from (nat_le h.0.start x) (nat_lt x h.0.end) (le-leb _ _ h.2.from)
-                (lt-ltb _ _ (omega (arith, before))),
+            and_from (nat_le h.0.start x) (nat_lt x h.0.end) (le-leb _ _ h.2.from) (lt-ltb _ _ (omega (arith, before))),
           ),
     )
 
@@ -409,8 +403,7 @@ rise_from low high (g ∷ gs) l r = let from : high ≤ g.start = r.0 in (omega 
 
 pub lacking_rise : (low : ℕ) (runs : List Run) → AreMaximal low runs → (start : ℕ) (end : Option ℕ)
     → Rise start (lacking runs start end)
-lacking_rise low [] m start end =
-    elim (option_map_or (λ e. nat_lt start e) end true) as (λ b.
+lacking_rise low [] m start end = elim (option_map_or (λ e. nat_lt start e) end true) as (λ b.
     Rise start (if b then record { start = start; end = end } ∷ [] else [])) [
       | true ↦ (omega arith, tt)
       | false ↦ tt

@@ -80,8 +80,7 @@ module _ (notes : List NoteParts) (content : IsContent notes) (c : Claim) where
   zone_tells : (zone : Zone) (p : PartitionParts) (o : Option Stretch) → In p partitions → zone_of zone notes p ≡ o
       → option_map (stretch_claim (zone_reason zone) p) o ≡ Some c → SaysZone notes (zone_reason zone) zone c
   zone_tells zone p None h f e = absurd (cc (e))
-  zone_tells zone p (Some s) h f e =
-      (p, h, (s, (zone_says notes content p zone s).0 f, sym (same_Some _ _ e)))
+  zone_tells zone p (Some s) h f e = (p, h, (s, (zone_says notes content p zone s).0 f, sym (same_Some _ _ e)))
 
   zones_say : (zone : Zone)
       → In c (filter_map (zone_claim zone notes) partitions) ↔ SaysZone notes (zone_reason zone) zone c
@@ -109,15 +108,13 @@ module _ (notes : List NoteParts) (content : IsContent notes) (c : Claim) where
       elim (e.0.offset == 0) as (λ b. (e.0.offset == 0) ≡ b
       → cond b None (Some (place_claim Entry (Some r.offset) e.0.offset)) ≡ Some c → SaysEntry notes c) [
         | true ↦ λ _ u. absurd (cc (u))
-        | false ↦ λ t u.
-            (r, view, (e, k.1, (λ z. let q = eq-eqb _ _ z in cc (q, t)), sym (same_Some _ _ u)))
+        | false ↦ λ t u. (r, view, (e, k.1, (λ z. let q = eq-eqb _ _ z in cc (q, t)), sym (same_Some _ _ u)))
       ] refl (ap (entry_claim r.offset) (sym k.2) ∙ s.2)
 
   entry_some : (offset : ℕ) (e : RipEntry) → e.offset ≢ 0
       → entry_claim offset e ≡ Some (place_claim Entry (Some offset) e.offset)
   unfolding entry_claim
-  entry_some offset e some =
-      elim (e.offset == 0) as (λ b. (e.offset == 0) ≡ b
+  entry_some offset e some = elim (e.offset == 0) as (λ b. (e.offset == 0) ≡ b
       → cond b None (Some (place_claim Entry (Some offset) e.offset))
       ≡ Some (place_claim Entry (Some offset) e.offset)) [
         | true ↦ λ t. absurd (some (eqb-true _ _ t))
@@ -182,8 +179,7 @@ module _ (notes : List NoteParts) (content : IsContent notes) (c : Claim) where
           | Footer ↦ λ k. inr (footers.1 (inl (footer_says.1 k)))
           | Metadata ↦ λ k. inr (footers.1 (inr (metadata.1 (inl ((zones_say zones.Metadata).1 k)))))
           | Index ↦ λ k. inr (footers.1 (inr (metadata.1 (inr (index.1 (inl ((zones_say zones.Index).1 k)))))))
-          | Entry ↦ λ k.
-              inr (footers.1 (inr (metadata.1 (inr (index.1 (inr (entries.1 (inl (entries_say.1 k)))))))))
+          | Entry ↦ λ k. inr (footers.1 (inr (metadata.1 (inr (index.1 (inr (entries.1 (inl (entries_say.1 k)))))))))
           | Previous ↦ λ k.
               inr (footers.1 (inr (metadata.1 (inr (index.1 (inr (entries.1 (inr (previous_says.1 k)))))))))
           | Gap ↦ λ k. absurd k

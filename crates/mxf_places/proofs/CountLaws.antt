@@ -10,8 +10,7 @@ use Rattle.mxf_places.specs.AtHand.{has_offset, outside_below}
 use Rattle.mxf_places.proofs.AtHandLaws.{has_offset-says}
 
 -- What passes a test, where it passes exactly one of two others.
-range-sum : (p a b : ℕ → Bool) (s n : ℕ)
-    → ((x : ℕ) → s ≤ x → x < s + n → tally (p x) ≡ tally (a x) + tally (b x))
+range-sum : (p a b : ℕ → Bool) (s n : ℕ) → ((x : ℕ) → s ≤ x → x < s + n → tally (p x) ≡ tally (a x) + tally (b x))
     → count_by p (range_with_len s n) ≡ count_by a (range_with_len s n) + count_by b (range_with_len s n)
 range-sum p a b s zero f = refl
 range-sum p a b s (suc n) f =
@@ -24,8 +23,7 @@ range-sum p a b s (suc n) f =
 -- What passes a test passes another too, or doesn't.
 with_other : (p q : ℕ → Bool) (s n : ℕ) → count_by p (range_with_len s n)
     ≡ count_by (λ x. q x && p x) (range_with_len s n) + count_by (λ x. p x && not (q x)) (range_with_len s n)
-with_other p q s n =
-    range-sum p (λ x. q x && p x) (λ x. p x && not (q x)) s n (λ x l h. by (p x) (q x))
+with_other p q s n = range-sum p (λ x. q x && p x) (λ x. p x && not (q x)) s n (λ x l h. by (p x) (q x))
   where
     by : (a b : Bool) → tally a ≡ tally (b && a) + tally (a && not b)
     by true true = refl
@@ -64,8 +62,7 @@ run_counted q r s e =
     ]
   where
     out : (x : ℕ) → (r.start ≤ x → x < r.end → ⊥) → (in_run r x && q x) ≡ false
-    out x f =
-        and_left (in_run r x) (q x) (false_from_ne_true (in_run r x) (λ t.
+    out x f = and_left (in_run r x) (q x) (false_from_ne_true (in_run r x) (λ t.
         let u = and_parts (nat_le r.start x) (nat_lt x r.end) t in f (leb-true _ _ u.0) (ltb-true _ _ u.1)))
 
     inside : (x : ℕ) → r.start ≤ x → x < r.end → (in_run r x && q x) ≡ q x
@@ -117,16 +114,14 @@ within-passing (r ∷ runs) s e =
 
 pub within_counted : (low : ℕ) (runs : List Run) → AreMaximal low runs → (s e : ℕ)
     → within runs s e ≡ count_by (has_offset runs) (range_with_len s (e - s))
-within_counted low runs m s e =
-    within-passing runs s e ∙ passing_counted (λ x. true) low runs m s e
+within_counted low runs m s e = within-passing runs s e ∙ passing_counted (λ x. true) low runs m s e
     ∙ range-same (λ x. has_offset runs x && true) (has_offset runs) s (e - s) (λ x l h. and_true (has_offset runs x))
   where
     and_true : (b : Bool) → (b && true) ≡ b
     and_true true = refl
     and_true false = refl
 
-pub within-between : (runs : List Run) (s e : ℕ)
-    → within (filter (is_between s (Some e)) runs) s e ≡ within runs s e
+pub within-between : (runs : List Run) (s e : ℕ) → within (filter (is_between s (Some e)) runs) s e ≡ within runs s e
 within-between [] s e = refl
 within-between (r ∷ runs) s e =
     let ih = within-between runs s e in

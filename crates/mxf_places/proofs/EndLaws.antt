@@ -29,8 +29,7 @@ module _ (notes : List NoteParts) where
               let first = covers_first s.0 in
               let from : s.0.offset ≤ covered_end s.0 - 1 = omega (arith, first) in
               let before : covered_end s.0 - 1 + 1 ≤ covered_end s.0 = omega (arith, first) in
-              absurd (f (covered_end s.0 - 1) (omega (arith, past))
-              (s.0, s.1, record { from = from; before = before }))
+              absurd (f (covered_end s.0 - 1) (omega (arith, past)) (s.0, s.1, record { from = from; before = before }))
         ] refl,
       )
 
@@ -62,8 +61,7 @@ module _ (notes : List NoteParts) where
   ends_by end Absent view e = absurd (cc (e))
   ends_by end Several view e = absurd (cc (e))
   ends_by end (Unreadable offset) view e = absurd (cc (e))
-  ends_by end (One r) view e =
-      elim (find (λ m. m.offset == r.offset) (clear_notes notes)) as (λ o.
+  ends_by end (One r) view e = elim (find (λ m. m.offset == r.offset) (clear_notes notes)) as (λ o.
       find (λ m. m.offset == r.offset) (clear_notes notes) ≡ o
       → option_and_then if_last (option_map end_of o) ≡ Some end → IsEndOfFile notes end) [
         | None ↦ λ _ u. absurd (cc (u))
@@ -78,8 +76,7 @@ module _ (notes : List NoteParts) where
         let r = k.only.0 in
         ap (λ v. option_and_then if_last (rip_end_by notes v)) k.only.1
         ∙ ap (λ (o : Option NoteParts). option_and_then if_last (option_map end_of o))
-        (clear_at-found r.offset notes k.pack k.clear (sym k.only.2))
-        ∙ ap (λ b. cond b None (Some (end_of k.pack)))
+        (clear_at-found r.offset notes k.pack k.clear (sym k.only.2)) ∙ ap (λ b. cond b None (Some (end_of k.pack)))
         ((none_past (end_of k.pack)).1 (λ x l. k.last x (omega (arith, k.end_is, l))))
         ∙ ap (λ (e : ℕ). Some e) (sym k.end_is),
   )

@@ -10,8 +10,7 @@ use Rattle.mxf_places.specs.declared.fills.Fill.{Fill}
 pub over_among-list : (notes : List NoteParts) (x : ℕ) → over_among notes x ≡ over_list (fills_among notes) x
 unfolding fill_at
 over_among-list [] x = refl
-over_among-list (n ∷ notes) x =
-    elim (is_fill (kind_of n.key)) as (λ b. is_fill (kind_of n.key) ≡ b
+over_among-list (n ∷ notes) x = elim (is_fill (kind_of n.key)) as (λ b. is_fill (kind_of n.key) ≡ b
     → over_among (n ∷ notes) x ≡ over_list (fills_among (n ∷ notes)) x) [
       | true ↦ λ e. rw e (ap (λ b. over_among notes (cond b (end_of n) x)) (and-true (n.offset == x))
           ∙ over_among-list notes (cond (n.offset == x) (end_of n) x))
@@ -23,10 +22,8 @@ over_among-list (n ∷ notes) x =
 pub over_in-insert : (old new : BTreeMap ℕ ℕ) (fill : Fill) (fills : List Fill)
     → ((x : ℕ) → over_in old x ≡ over_list fills x)
     → ((x : ℕ) → get nat_cmp new x ≡ cond (is_at (nat_cmp fill.start) x) (Some (over_in old fill.end)) (get nat_cmp
-    old x))
-    → (x : ℕ) → over_in new x ≡ over_list (fill ∷ fills) x
-over_in-insert old new fill fills goes updates x =
-    ap (λ o. unwrap_or o x) (updates x)
+    old x)) → (x : ℕ) → over_in new x ≡ over_list (fill ∷ fills) x
+over_in-insert old new fill fills goes updates x = ap (λ o. unwrap_or o x) (updates x)
     ∙ elim (fill.start == x) as (λ b. (fill.start == x) ≡ b
     → unwrap_or (cond (is_at (nat_cmp fill.start) x) (Some (over_in old fill.end)) (get nat_cmp old x)) x
     ≡ over_list fills (cond b fill.end x)) [

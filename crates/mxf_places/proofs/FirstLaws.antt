@@ -35,8 +35,7 @@ source_of c = c.source
 -- ---- which of two goes first
 
 source_up : {s t : Option ℕ} {x y : ℕ} → s ≡ Some x → t ≡ Some y → x ≤ y → IsSourceUpTo s t
-source_up {s} {t} {x} {y} a b l =
-    subst (λ o. IsSourceUpTo o t) (sym a) (subst (λ o. IsSourceUpTo (Some x) o) (sym b) l)
+source_up {s} {t} {x} {y} a b l = subst (λ o. IsSourceUpTo o t) (sym a) (subst (λ o. IsSourceUpTo (Some x) o) (sym b) l)
 
 source_itself : (s : Option ℕ) → IsSourceUpTo s s
 source_itself None = tt
@@ -105,8 +104,7 @@ from-append rank xs ys f g c h = elim ((In-append c xs ys).0 h) [ inl k ↦ f c 
 
 -- Claims for a reason go before claims of greater ranks.
 before_all : (r : Reason) (rank : ℕ) (xs ys : List Claim) → ((c : Claim) → In c xs → c.reason ≡ r) → AreFrom rank ys
-    → reason_rank r < rank → AreInOrder xs → AreInOrder ys
-    → AreInOrder (xs ++ ys) × AreFrom (reason_rank r) (xs ++ ys)
+    → reason_rank r < rank → AreInOrder xs → AreInOrder ys → AreInOrder (xs ++ ys) × AreFrom (reason_rank r) (xs ++ ys)
 before_all r rank xs ys are from l first second = (
   order-append xs ys first second (λ c d h k.
       let e = ap reason_rank (are c h) in let m = from d k in inl (omega (arith, l, e, m))),
@@ -133,8 +131,7 @@ previous_for p c e =
 module _ (notes : List NoteParts) where
   zone_for : (zone : Zone) → AreFor (zone_reason zone) (zone_claim zone notes)
   unfolding zone_claim
-  zone_for zone p c e =
-      elim (zone_of zone notes p) as (λ o. option_map (stretch_claim (zone_reason zone) p) o ≡ Some c
+  zone_for zone p c e = elim (zone_of zone notes p) as (λ o. option_map (stretch_claim (zone_reason zone) p) o ≡ Some c
       → (c.reason ≡ zone_reason zone) × (c.source ≡ Some p.offset)) [
         | None ↦ λ u. absurd (cc (u))
         | Some s ↦ λ u. let t = same_Some _ _ u in (sym (ap reason_of t), sym (ap source_of t))
@@ -143,8 +140,7 @@ module _ (notes : List NoteParts) where
   abbrev found : (PartitionParts → Option Claim) → List Claim
   found f = filter_map f (partitions_of notes)
 
-  are_for : (r : Reason) (f : PartitionParts → Option Claim) → AreFor r f → (c : Claim) → In c (found f)
-      → c.reason ≡ r
+  are_for : (r : Reason) (f : PartitionParts → Option Claim) → AreFor r f → (c : Claim) → In c (found f) → c.reason ≡ r
   are_for r f says c h = let s = (In-filter_map f (partitions_of notes) c).0 h in (says s.0 c s.2).0
 
   module _ (content : IsContent notes) where
@@ -210,8 +206,7 @@ module _ (notes : List NoteParts) where
     no_later : (x : ℕ) (claims : List Claim) (c d : Claim) → AreInOrder claims → find (is_claimed x) claims ≡ Some c
         → In d claims → IsTrue (is_claimed x d) → GoesUpTo c d
     no_later x [] c d r e h t = absurd h
-    no_later x (b ∷ claims) c d r e h t =
-        elim (is_claimed x b) as (λ z. is_claimed x b ≡ z
+    no_later x (b ∷ claims) c d r e h t = elim (is_claimed x b) as (λ z. is_claimed x b ≡ z
         → (if z then Some b else find (is_claimed x) claims) ≡ Some c → GoesUpTo c d) [
           | true ↦ λ _ u. subst (λ c. GoesUpTo c d) (same_Some b c u) (elim h [
             | inl s ↦ subst (λ z. GoesUpTo b z) (sym s) (up_itself b)

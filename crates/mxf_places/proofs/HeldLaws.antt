@@ -90,20 +90,17 @@ held_end-is notes runs end covers is =
           let c = (covers offset).0 l in
           let a = f c.0 c.1 in
           let b : offset + 1 ≤ covered_end c.0 = c.2.before in omega (arith, a, b)),
-    ))
-    (held_end-bound notes)
+    )) (held_end-bound notes)
 
 -- Something is held at or above an offset exactly where the first offset above all that is held lies above it.
 pub reaches_past-is : (x : ℕ) (notes : List NoteParts) → reaches_past x notes ≡ nat_lt x (held_end notes)
 reaches_past-is x notes =
     let any = list_any-In (λ n. nat_lt x (covered_end n)) notes in
-    same_bool (reaches_past x notes) (nat_lt x (held_end notes))
-    (λ h.
+    same_bool (reaches_past x notes) (nat_lt x (held_end notes)) (λ h.
     let s = any.0 h in
     let a : x < covered_end s.0 = ltb-true _ _ s.2 in
     let b = (held_end-bound notes (held_end notes)).0 (omega arith) s.0 s.1 in
-    lt-ltb x (held_end notes) (omega (arith, a, b)))
-    (λ h.
+    lt-ltb x (held_end notes) (omega (arith, a, b))) (λ h.
     let above : x < held_end notes = ltb-true _ _ h in
     elim (reaches_past x notes) as (λ b. reaches_past x notes ≡ b → IsTrue (reaches_past x notes)) [
       | true ↦ λ e. e
@@ -128,5 +125,4 @@ disputed_runs notes x =
 pub end_of_file-by : (notes : List NoteParts) (end reached : ℕ) → rip_end_by notes (rip_view_of notes) ≡ Some end
     → reached ≡ held_end notes → end_of_file notes ≡ cond (nat_lt end reached) None (Some end)
 unfolding end_of_file
-end_of_file-by notes end reached e h =
-    grind (arith, option_and_then, cond, reaches_past, reaches_past-is, nat_lt)
+end_of_file-by notes end reached e h = grind (arith, option_and_then, cond, reaches_past, reaches_past-is, nat_lt)

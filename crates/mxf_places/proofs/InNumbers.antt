@@ -10,8 +10,7 @@ pub footers : (ps : List PartitionParts) → filter_map footer_claim (map in_num
 unfolding footer_claim
 footers ps = filter_map_mapped footer_claim in_numbers ps
 
-pub previous : (ps : List PartitionParts)
-    → filter_map previous_claim (map in_numbers ps) ≡ filter_map previous_claim ps
+pub previous : (ps : List PartitionParts) → filter_map previous_claim (map in_numbers ps) ≡ filter_map previous_claim ps
 unfolding previous_claim
 previous ps = filter_map_mapped previous_claim in_numbers ps
 

@@ -133,8 +133,7 @@ module _ (notes : List NoteParts) where
   -- ---- one comes to one offset
 
   one_alone : (m n : NoteParts) (at : ℕ) → StandsAlone notes m at → StandsAlone notes n at → m ≡ n
-  one_alone m n at s t =
-      same_Some m n (sym (undisputed_at-found at notes m (among m at s) s.offset)
+  one_alone m n at s t = same_Some m n (sym (undisputed_at-found at notes m (among m at s) s.offset)
       ∙ undisputed_at-found at notes n (among n at t) t.offset)
 
   abbrev AreFills : List NoteParts → Type 0
@@ -150,8 +149,7 @@ module _ (notes : List NoteParts) where
   ends_once : (fs gs : List NoteParts) (from to too : ℕ) → AreFills fs → Follow fs from to → NoFill to
       → AreFills gs → Follow gs from too → NoFill too → to ≡ too
   ends_once [] [] from to too f follow last g follows lasts = sym follow ∙ follows
-  ends_once [] (n ∷ gs) from to too f follow last g follows lasts =
-      absurd (goes_on n gs to last g (follows.0 ∙ follow))
+  ends_once [] (n ∷ gs) from to too f follow last g follows lasts = absurd (goes_on n gs to last g (follows.0 ∙ follow))
   ends_once (n ∷ fs) [] from to too f follow last g follows lasts =
       absurd (goes_on n fs too lasts f (follow.0 ∙ follows))
   ends_once (n ∷ fs) (m ∷ gs) from to too f follow last g follows lasts =

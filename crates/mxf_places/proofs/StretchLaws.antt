@@ -15,8 +15,7 @@ pub over_none : (notes : List NoteParts) (x : ℕ) → ((n : NoteParts) → In n
 over_none [] x f = refl
 over_none (n ∷ notes) x f =
     ap (λ b. over_among notes (cond (b && is_fill (kind_of n.key)) (end_of n) x)) (ne_eqb n.offset x (f n (inl
-    refl)))
-    ∙ over_none notes x (λ m h. f m (inr h))
+    refl))) ∙ over_none notes x (λ m h. f m (inr h))
 
 -- No stretch begins above all offsets.
 pub far_stretch : (zone : Zone) (notes : List NoteParts) (from count : ℕ) → IsCatalogue notes → greatest_end ≤ from

@@ -23,8 +23,7 @@ all_came v m none taken = omega (arith, none, taken.counted)
 
 -- a note can be made of it, where what is held is as the key and the length ask for
 pub can_note : (v : ComingValue) (width len : ℕ) (held : List ℕ) (whole : Bool) → width ≡ v.ber.width
-    → len ≡ v.ber.value
-    → CanSpell v.ber.width v.ber.value → is_gathered v.so_far ≡ whole
+    → len ≡ v.ber.value → CanSpell v.ber.width v.ber.value → is_gathered v.so_far ≡ whole
     → CanNote (note_parts v.offset v.key width len held) whole
 can_note v width len held whole same_width same_len spelled is =
     let within : v.offset + 16 + width + len ≤ greatest_end = omega (arith, same_width, same_len, v.within) in (

@@ -26,14 +26,12 @@ open_at_end at = tt
 
 next_value : (at : ℕ) (s : Option Stop) (vo : Option ComingValue) (head r : List ℕ) (v : ComingValue) → s ≡ None
     → vo ≡ Some v → head ≡ [] → HasCome at v r → 0 < v.left → IsNext at s vo head r
-next_value at s vo head r v es ev h come some =
-    subst (λ (t : Option Stop). IsNext at t vo head r) (sym es)
+next_value at s vo head r v es ev h come some = subst (λ (t : Option Stop). IsNext at t vo head r) (sym es)
     (subst (λ (w : Option ComingValue). IsNext at None w head r) (sym ev) (h, come, some))
 
 next_head : (at : ℕ) (s : Option Stop) (vo : Option ComingValue) (head r : List ℕ) → s ≡ None → vo ≡ None → head ≡ r
     → HasNoKeyAndLength r → IsOpen (stop_of at r) → IsNext at s vo head r
-next_head at s vo head r es ev h none cut =
-    subst (λ (t : Option Stop). IsNext at t vo head r) (sym es)
+next_head at s vo head r es ev h none cut = subst (λ (t : Option Stop). IsNext at t vo head r) (sym es)
     (subst (λ (w : Option ComingValue). IsNext at None w head r) (sym ev) (h, none, cut))
 
 next_stop : (at : ℕ) (s : Option Stop) (vo : Option ComingValue) (head r : List ℕ) (stop : Stop) → s ≡ Some stop
@@ -48,8 +46,7 @@ pub same_fed : (o : ℕ) (m : List ℕ) (p q : Piece) → q.notes ≡ p.notes �
     → q.value ≡ p.value → q.stop ≡ p.stop → Fed o m p → Fed o m q
 same_fed o m p q notes at head value stop fed = record {
   knows = record { notes = notes ∙ fed.knows.notes; at = at ∙ fed.knows.at };
-  next =
-      subst (λ (n : ℕ). IsNext n q.stop q.value q.head.items (rest_in o m)) (sym at)
+  next = subst (λ (n : ℕ). IsNext n q.stop q.value q.head.items (rest_in o m)) (sym at)
       (subst (λ (s : Option Stop). IsNext p.at s q.value q.head.items (rest_in o m)) (sym stop)
       (subst (λ (v : Option ComingValue). IsNext p.at p.stop v q.head.items (rest_in o m)) (sym value)
       (subst (λ (h : List ℕ). IsNext p.at p.stop p.value h (rest_in o m)) (sym head) fed.next)));
@@ -106,8 +103,7 @@ noted o m x p q v n k come none_left note notes at stop value head =
     at ∙ ap end_of is ∙ (let e : end_of (note_of here pk) ≡ here + size_of pk = omega arith in e) ∙ sym one.at in
     record {
       knows = record {
-        notes =
-            notes ∙ ap (λ (y : NoteParts). reduced_with y p.notes) is ∙ ap (reduced_with (note_of here pk)) k.notes
+        notes = notes ∙ ap (λ (y : NoteParts). reduced_with y p.notes) is ∙ ap (reduced_with (note_of here pk)) k.notes
             ∙ with_last o (notes_from o (packets_in o m)) (note_of here pk) apart ∙ sym one.notes;
         at = ends;
       };
@@ -151,8 +147,7 @@ begun o m x p v n fed stop value now is offset taken =
     let h = holds o m p fed stop value in
     record {
       after = [];
-      begins =
-          subst (λ (t : List ℕ). BeginsWithKeyAndLength (t ++ take n x) v.key v.ber []) h.head
+      begins = subst (λ (t : List ℕ). BeginsWithKeyAndLength (t ++ take n x) v.key v.ber []) h.head
           (subst (λ (j : ℕ). BeginsWithKeyAndLength (p.head.items ++ take j x) v.key v.ber []) (sym is) now.begins);
       offset = offset;
       taken = taken;
@@ -204,8 +199,7 @@ pub Feeds-none : (p : Piece) → Feeds p p []
 Feeds-none p o m fed = subst (λ (t : List ℕ). Fed o t p) (sym (append-nil m)) fed
 
 pub Feeds-trans : (p q s : Piece) (x y : List ℕ) → Feeds p q x → Feeds q s y → Feeds p s (x ++ y)
-Feeds-trans p q s x y f g o m fed =
-    subst (λ (t : List ℕ). Fed o t s) (append_assoc m x y) (g o (m ++ x) (f o m fed))
+Feeds-trans p q s x y f g o m fed = subst (λ (t : List ℕ). Fed o t s) (append_assoc m x y) (g o (m ++ x) (f o m fed))
 
 -- behind a stop nothing changes, whatever follows
 pub Feeds-stopped : (p : Piece) (x : List ℕ) (stop : Stop) → p.stop ≡ Some stop → Feeds p p x
@@ -229,8 +223,7 @@ none_fed offset p notes at head value stop =
     record {
       knows = record {
         notes = notes ∙ sym (ap (notes_from offset) packets);
-        at = at
-            ∙ sym (ap (end_after offset) packets);
+        at = at ∙ sym (ap (end_after offset) packets);
       };
       next = subst (λ (r : List ℕ). IsNext p.at p.stop p.value p.head.items r) (sym rest)
           (subst (λ (s : Option Stop). IsNext p.at s p.value p.head.items []) (sym stop)
@@ -242,8 +235,7 @@ none_fed offset p notes at head value stop =
 
 pub head_whole : (p : Piece) (x window items key : List ℕ) (count : ℕ) (l : LengthParts) (v : ComingValue) → IsFed p
     → p.stop ≡ None → p.value ≡ None → window ≡ items → items ≡ p.head.items ++ take count x
-    → IsHeadOf p.at window key l → v.key ≡ key → v.ber ≡ l
-    → IsHeadNow p.head.items x v.key v.ber
+    → IsHeadOf p.at window key l → v.key ≡ key → v.ber ≡ l → IsHeadNow p.head.items x v.key v.ber
 head_whole p x window items key count l v fed stop value win is h same spelled =
     let now : IsHeadNow p.head.items x key l =
     head_now p.head.items x key count l h.after (held_no_head p fed stop value)

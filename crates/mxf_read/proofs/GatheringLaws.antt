@@ -134,8 +134,7 @@ module _ {R : Type 0} (left : R → Option (List ℕ)) where
   joined ps qs a b (h, g, e) (k, f, d) = (
     Join h k,
     (ps, qs, refl, g, f),
-    ap (λ (t : List NoteParts). reduced_union t b) e
-        ∙ ap (reduced_union (content h)) d,
+    ap (λ (t : List NoteParts). reduced_union t b) e ∙ ap (reduced_union (content h)) d,
   )
 
   -- Each of the contents is left by some of the parts, those that follow on the ones of the content before.
@@ -193,23 +192,20 @@ module _ {R : Type 0} (left : R → Option (List ℕ)) where
       → length views < 2 ^ 64 → IsTheRun (HandedBy left parts) views
   run_left parts views (h, g, e) c fits =
       let reduced : AreReduced views = subst AreReduced (sym e) (AreReduced-content h) in
-      IsTheRun-from_set (HandedBy left parts) views
-      (λ n.
+      IsTheRun-from_set (HandedBy left parts) views (λ n.
       let held = In-content h n in
       let hands : (m : NoteParts) → Hands h m ↔ HandedBy left parts m = λ m. hands_handed h parts m g in (
         λ i.
             let l = held.0 (subst (In n) e i) in
             ((hands n).0 l.0, λ y p. l.1 y ((hands y).1 p)),
         λ l. subst (In n) (sym e) (held.1 ((hands n).1 l.0, λ y p. l.1 y ((hands y).0 p))),
-      ))
-      (_, written_file views c reduced fits (file_bytes views) refl)
+      )) (_, written_file views c reduced fits (file_bytes views) refl)
 
   pub reports_push : (number : ℕ) (ps : List (Part R)) (p : Part R) (last : ℕ) → last ≡ number + length ps
       → reports_from left number (ps ++ p ∷ []) ≡ reports_from left number ps ++ reports_in left last p
   reports_push number [] p last is =
       append-nil (reports_in left number p) ∙ ap (λ (n : ℕ). reports_in left n p) (omega (arith, is))
-  reports_push number (q ∷ ps) p last is =
-      ap (λ (t : List PieceReport). reports_in left number q ++ t)
+  reports_push number (q ∷ ps) p last is = ap (λ (t : List PieceReport). reports_in left number q ++ t)
       (reports_push (number + 1) ps p last (omega (arith, is)))
       ∙ sym (append_assoc (reports_in left number q) (reports_from left (number + 1) ps) (reports_in left last p))
 
@@ -322,6 +318,5 @@ module _ {R : Type 0} (left : R → Option (List ℕ)) where
 
   pub told : (all rest more : List (Part R)) (p : Part R) (number : ℕ) → IsPassed all number rest → rest ≡ p ∷ more
       → AllTell left all → Tells left p
-  told all rest more p number g is a =
-      all_at (Tells left) g.done more p
+  told all rest more p number g is a = all_at (Tells left) g.done more p
       (subst (AllByRecursion (Tells left)) (g.whole ∙ ap (λ (t : List (Part R)). g.done ++ t) is) a)

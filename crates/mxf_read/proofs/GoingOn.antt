@@ -39,8 +39,7 @@ from_its_start left offset bytes at e some =
 -- a packet further on
 one_further : (left noted offset : ℕ) (bytes : List ℕ) (at : ℕ) (p : PacketParts) (size : ℕ)
     → GoesOn offset bytes p size → packets_in offset bytes ≡ p ∷ packets_in (offset + size) (drop size bytes)
-    → Continues left noted (offset + size) (drop size bytes) at
-    → Continues left (suc noted) offset bytes at
+    → Continues left noted (offset + size) (drop size bytes) at → Continues left (suc noted) offset bytes at
 one_further left noted offset bytes at p size g packets r =
     let n = note_of offset p in
     let from = r.from in
@@ -53,8 +52,7 @@ one_further left noted offset bytes at p size g packets r =
     record {
       from = omega arith;
       within = omega (arith, length-drop size bytes);
-      notes = g.notes ∙ ap (λ (t : List NoteParts). n ∷ t) r.notes
-          ∙ (λ i. sym front i ++ notes_in at (rest i));
+      notes = g.notes ∙ ap (λ (t : List NoteParts). n ∷ t) r.notes ∙ (λ i. sym front i ++ notes_in at (rest i));
       count = omega (arith, ap length packets, r.count, ap (λ (t : List ℕ). length (packets_in at t)) rest);
       stop = g.stop ∙ r.stop ∙ ap (stop_in at) rest;
     }
@@ -158,8 +156,7 @@ first_stay noted offset taken more h =
     )
 
 pub completed : (old new : List NoteParts) (offset : ℕ) (taken : List ℕ) (noted at : ℕ)
-    → AddsFirst old new offset taken noted at → (more : List ℕ)
-    → CompletedBy old new offset (taken ++ more) noted at
+    → AddsFirst old new offset taken noted at → (more : List ℕ) → CompletedBy old new offset (taken ++ more) noted at
 completed old new offset taken noted at a more =
     let whole = taken ++ more in
     let s = first_stay noted offset taken more a.within in

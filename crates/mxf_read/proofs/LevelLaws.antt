@@ -14,8 +14,7 @@ balanced_last [] notes b e = (tt, tt)
 balanced_last (level ∷ []) notes b e = (e [] level refl, (tt, tt))
 balanced_last (level ∷ next ∷ levels) notes b e = (
   b.0,
-  balanced_last (next ∷ levels) notes b.1 (λ front last is. e (level ∷ front) last (ap (λ
-      (l : List _). level ∷ l) is)),
+  balanced_last (next ∷ levels) notes b.1 (λ front last is. e (level ∷ front) last (ap (λ (l : List _). level ∷ l) is)),
 )
 
 -- Those that wait are the first of the old ones, and what is merged is the others with a catalogue.
@@ -44,6 +43,5 @@ adding_last merged notes levels new old h is =
 -- all are merged
 pub adding_all : (merged : List NoteParts) (levels old : List (List NoteParts)) → IsAdding merged levels [] old
     → levels ≡ [] → merged ≡ merged_with old []
-adding_all merged levels old h none =
-    h.is ∙ ap (λ (l : List (List NoteParts)). merged_with l []) (sym (h.whole
+adding_all merged levels old h none = h.is ∙ ap (λ (l : List (List NoteParts)). merged_with l []) (sym (h.whole
     ∙ ap (λ (l : List (List NoteParts)). l ++ h.back) none))

@@ -110,16 +110,14 @@ apart_from low offset (p ∷ ps) heads h a =
     (h, apart_from (offset + 16 + p.width + length p.value) (offset + size_of p) ps heads (omega arith) a)
 
 pub apart_packets : (offset : ℕ) (ps : List PacketParts) → AreApart offset (notes_from offset ps)
-apart_packets offset ps =
-    apart_front offset (notes_from offset ps) [] (apart_from offset offset ps [] (omega arith) tt)
+apart_packets offset ps = apart_front offset (notes_from offset ps) [] (apart_from offset offset ps [] (omega arith) tt)
 
 pub alone_packets : (offset : ℕ) (ps : List PacketParts) → reduced_union [] (notes_from offset ps)
     ≡ notes_from offset ps
 alone_packets offset ps = alone offset (notes_from offset ps) (apart_packets offset ps)
 
 pub AreApart-notes_in : (offset : ℕ) (bytes : List ℕ) → AreApart offset (notes_in offset bytes)
-AreApart-notes_in offset bytes =
-    apart_from offset offset (packets_in offset bytes)
+AreApart-notes_in offset bytes = apart_from offset offset (packets_in offset bytes)
     (heads_at (end_after offset (packets_in offset bytes)) (rest_in offset bytes)) (omega arith)
     (apart_heads (end_after offset (packets_in offset bytes)) (rest_in offset bytes))
 
@@ -131,8 +129,7 @@ alone_in offset bytes = alone offset (notes_in offset bytes) (AreApart-notes_in 
 
 pub alone_first : (count offset : ℕ) (bytes : List ℕ)
     → reduced_union [] (take count (notes_in offset bytes)) ≡ take count (notes_in offset bytes)
-alone_first count offset bytes =
-    alone offset (take count (notes_in offset bytes))
+alone_first count offset bytes = alone offset (take count (notes_in offset bytes))
     (apart_take count offset (notes_in offset bytes) (AreApart-notes_in offset bytes))
 
 -- there are as many notes of packets as packets
@@ -142,18 +139,15 @@ notes_for_packets offset (p ∷ ps) = ap suc (notes_for_packets (offset + size_o
 
 -- behind a stop that no bytes lead past there is no head
 pub closed_notes : (o : ℕ) (m : List ℕ) → (IsOpen (stop_in o m) → ⊥) → notes_in o m ≡ notes_from o (packets_in o m)
-closed_notes o m final =
-    ap (λ (l : List NoteParts). notes_from o (packets_in o m) ++ l)
-    (no_heads (end_after o (packets_in o m)) (rest_in o m) final)
-    ∙ append-nil (notes_from o (packets_in o m))
+closed_notes o m final = ap (λ (l : List NoteParts). notes_from o (packets_in o m) ++ l)
+    (no_heads (end_after o (packets_in o m)) (rest_in o m) final) ∙ append-nil (notes_from o (packets_in o m))
 
 -- the first note of a piece begins at its offset
 pub first_begins : (offset : ℕ) (bytes : List ℕ) → (notes_in offset bytes ≢ [])
     → IsSomeAnd (slice_get (notes_in offset bytes) 0) (λ n. n.offset ≡ offset)
 first_begins offset bytes some = first (packets_in offset bytes) (rest_in offset bytes) some
   where
-    first : (ps : List PacketParts) (r : List ℕ)
-        → (notes_from offset ps ++ heads_at (end_after offset ps) r ≢ [])
+    first : (ps : List PacketParts) (r : List ℕ) → (notes_from offset ps ++ heads_at (end_after offset ps) r ≢ [])
         → IsSomeAnd (slice_get (notes_from offset ps ++ heads_at (end_after offset ps) r) 0) (λ n. n.offset ≡ offset)
     first [] r some =
         elim (heads_few offset r) [

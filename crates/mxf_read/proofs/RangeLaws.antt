@@ -126,8 +126,7 @@ of_range (Some all) (Some rest) chained offset start window begun f P h =
     )
 
 pub piece_noted : (old new chained : Option (List ℕ)) (offset start : ℕ) (window begun : List ℕ)
-    (notes : List NoteParts)
-    → Found old new chained offset start window begun
+    (notes : List NoteParts) → Found old new chained offset start window begun
     → IfSome chained (λ all. notes ≡ reduced_union [] (notes_in (offset + start) (take (piece_limit - start) all)))
     → IfSome old (λ all. notes ≡ reduced_union [] (range_notes offset (take piece_limit all)))
 piece_noted old new chained offset start window begun notes f h =

@@ -33,16 +33,14 @@ pub count_noted : (o : ℕ) (m : List ℕ) (p : Piece) → Knows o m p → lengt
 count_noted o m p k = ap length k.notes ∙ notes_for_packets o (packets_in o m)
 
 reported : (o : ℕ) (m : List ℕ) (p : Piece) (noted : ℕ) (stop : Stop) → Knows o m p → noted ≡ length p.notes
-    → stop ≡ stop_of p.at (rest_in o m)
-    → made noted stop ≡ report_of o m
+    → stop ≡ stop_of p.at (rest_in o m) → made noted stop ≡ report_of o m
 reported o m p noted stop k n s =
     let count : noted ≡ length (packets_in o m) = n ∙ count_noted o m p k in
     let is : stop ≡ stop_in o m = s ∙ ap (λ (a : ℕ). stop_of a (rest_in o m)) k.at in
     λ i. record { noted = count i; stop = is i }
 
 pub report_stopped : (o : ℕ) (m : List ℕ) (p : Piece) (noted : ℕ) (stop : Stop) → Fed o m p → noted ≡ length p.notes
-    → p.stop ≡ Some stop
-    → made noted stop ≡ report_of o m
+    → p.stop ≡ Some stop → made noted stop ≡ report_of o m
 report_stopped o m p noted stop fed n e =
     let next : IsNext p.at (Some stop) p.value p.head.items (rest_in o m) =
     subst (λ (s : Option Stop). IsNext p.at s p.value p.head.items (rest_in o m)) e fed.next in
@@ -57,8 +55,7 @@ nil_from [] n e t = refl
 nil_from (x ∷ xs) n e t = let zero_is : n ≡ 0 = eqb-true n 0 t in absurd (omega (arith, e, zero_is))
 
 pub report_end : (o : ℕ) (m : List ℕ) (p : Piece) (noted len : ℕ) → Fed o m p → noted ≡ length p.notes → p.stop ≡ None
-    → p.value ≡ None → len ≡ length p.head.items → nat_eq len 0 ≡ true
-    → made noted End ≡ report_of o m
+    → p.value ≡ None → len ≡ length p.head.items → nat_eq len 0 ≡ true → made noted End ≡ report_of o m
 report_end o m p noted len fed n stop value is empty =
     let h = holds o m p fed stop value in
     let nothing : rest_in o m ≡ [] = sym h.head ∙ nil_from p.head.items len is empty in
@@ -87,10 +84,8 @@ report_cut_head o m p noted len fed n stop value is some =
     let t : nat_eq len 0 ≡ true = ap (λ (k : ℕ). nat_eq k 0) zero_is in absurd (cc (t, some)))))
 
 pub report_cut_value : (o : ℕ) (m : List ℕ) (p : Piece) (noted : ℕ) → Fed o m p → noted ≡ length p.notes
-    → p.stop ≡ None → is_some p.value ≡ true
-    → made noted (Truncated p.at) ≡ report_of o m
-report_cut_value o m p noted fed n stop some =
-    elim p.value as (λ w. p.value ≡ w → is_some w ≡ true
+    → p.stop ≡ None → is_some p.value ≡ true → made noted (Truncated p.at) ≡ report_of o m
+report_cut_value o m p noted fed n stop some = elim p.value as (λ w. p.value ≡ w → is_some w ≡ true
     → made noted (Truncated p.at) ≡ report_of o m) [
       | None ↦ λ e t. absurd cc
       | Some v ↦ λ e t.
@@ -138,8 +133,7 @@ held_head o m p fed stop value = heads_at-none p.at (rest_in o m) (holds o m p f
 -- nor is there one behind a stop
 pub stopped_head : (o : ℕ) (m : List ℕ) (p : Piece) → Fed o m p → is_some p.stop ≡ true
     → heads_at p.at (rest_in o m) ≡ []
-stopped_head o m p fed some =
-    no_heads p.at (rest_in o m) (λ t. closed_next o m p fed some
+stopped_head o m p fed some = no_heads p.at (rest_in o m) (λ t. closed_next o m p fed some
     (subst (λ (a : ℕ). IsOpen (stop_of a (rest_in o m))) fed.knows.at t))
 
 pub same_with_none : (notes heads : List NoteParts) → heads ≡ [] → notes ≡ reduced_union notes heads
@@ -186,8 +180,7 @@ adds_front o m x p k =
 open_next : (o : ℕ) (m : List ℕ) (p : Piece) → Fed o m p → p.stop ≡ None → IsOpen (stop_in o m)
 open_next o m p fed stop =
     elim p.value as (λ w. p.value ≡ w → IsOpen (stop_in o m)) [
-      | None ↦ λ e.
-          subst (λ (a : ℕ). IsOpen (stop_of a (rest_in o m))) fed.knows.at (holds o m p fed stop e).cut
+      | None ↦ λ e. subst (λ (a : ℕ). IsOpen (stop_of a (rest_in o m))) fed.knows.at (holds o m p fed stop e).cut
       | Some v ↦ λ e.
           let some : is_some p.value ≡ true = ap is_some e in
           let r = report_cut_value o m p (length p.notes) fed refl stop some in
@@ -221,10 +214,8 @@ unfinished o m p q report at fed is none here =
 
 -- a stop that may be gone on behind comes where no more bytes may be taken
 pub filled_end : (o limit : ℕ) (before after : Option (List ℕ)) (p q : Piece) (notes : List NoteParts)
-    (r : Result Report AbsorbFault) → Fed o [] p
-    → ReadsAll before after p q limit (Ok tt)
-    → ((m : List ℕ) → Fed o m q → Finishes o m notes r)
-    → AbsorbsFrom [] notes before after o limit r
+    (r : Result Report AbsorbFault) → Fed o [] p → ReadsAll before after p q limit (Ok tt)
+    → ((m : List ℕ) → Fed o m q → Finishes o m notes r) → AbsorbsFrom [] notes before after o limit r
 filled_end o limit before after p q notes (Ok report) start h tells =
     let (taken, takes, feeds, ends) = h in
     let fed = feeds o [] start in
@@ -287,8 +278,7 @@ adds_first_merged old piece new o m noted at a e = record {
 
 -- what a piece's own catalogue has, joined with another
 pub from_merged : (old piece new : List NoteParts) (before after : Option (List ℕ)) (o limit : ℕ)
-    (r : Result Report AbsorbFault)
-    → AbsorbsFrom [] piece before after o limit r → new ≡ reduced_union old piece
+    (r : Result Report AbsorbFault) → AbsorbsFrom [] piece before after o limit r → new ≡ reduced_union old piece
     → AbsorbsFrom old new before after o limit r
 from_merged old piece new before after o limit (Ok report) (taken, takes, adds, ends) e =
     (taken, takes, (e ∙ ap (reduced_union old) (adds.0 ∙ alone_in o taken), adds.1), ends)
@@ -306,8 +296,7 @@ taken_of old new before after o limit (Err (OutOfMemory noted at)) h = (h.0, h.1
 
 -- where they aren't joined, none is added
 pub from_none : (old piece new : List NoteParts) (before after : Option (List ℕ)) (o limit : ℕ)
-    (r : Result Report AbsorbFault)
-    → AbsorbsFrom [] piece before after o limit r → new ≡ old
+    (r : Result Report AbsorbFault) → AbsorbsFrom [] piece before after o limit r → new ≡ old
     → AbsorbsFrom old new before after o limit (Err (OutOfMemory 0 o))
 from_none old piece new before after o limit r h e =
     let (taken, takes) = taken_of [] piece before after o limit r h in
@@ -340,8 +329,7 @@ whole_taken : (before after : Option (List ℕ)) (limit : ℕ) (taken : List ℕ
     → (length taken ≡ limit) ⊎ IsAtEnd after → IfSome before (λ all. take limit all ≡ taken)
 whole_taken None after limit taken t e = tt
 whole_taken (Some xs) None limit taken t e = absurd t.consumed
-whole_taken (Some xs) (Some ys) limit taken t (inl e) =
-    ap (take limit) t.consumed ∙ take_at taken ys limit e
+whole_taken (Some xs) (Some ys) limit taken t (inl e) = ap (take limit) t.consumed ∙ take_at taken ys limit e
 whole_taken (Some xs) (Some ys) limit taken t (inr e) =
     let all : xs ≡ taken = t.consumed ∙ ap (λ (l : List ℕ). taken ++ l) e ∙ append-nil taken in
     let within = t.within in
@@ -356,8 +344,7 @@ front_taken (Some xs) (Some ys) limit taken t =
     (take (limit - length taken) ys, ap (take limit) t.consumed ∙ take_behind taken ys limit within)
 
 pub of_stream : (old new : List NoteParts) (before after : Option (List ℕ)) (o limit : ℕ)
-    (r : Result Report AbsorbFault)
-    → AbsorbsFrom old new before after o limit r
+    (r : Result Report AbsorbFault) → AbsorbsFrom old new before after o limit r
     → IfOk r (λ report. IfSome before (λ all. Absorbs old new o (take limit all) (Ok report)))
 of_stream old new before after o limit (Err e) h = tt
 of_stream old new None after o limit (Ok report) h = tt

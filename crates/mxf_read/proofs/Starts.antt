@@ -82,8 +82,7 @@ pub record Begins (offset : ℕ) (bytes : List ℕ) : Type 0 where
 
 may_begin-true : (offset : ℕ) (bytes : List ℕ) → may_begin offset bytes ≡ true → Begins offset bytes
 unfolding may_begin
-may_begin-true offset bytes e =
-    elim (head_at bytes) as (λ o. head_at bytes ≡ o
+may_begin-true offset bytes e = elim (head_at bytes) as (λ o. head_at bytes ≡ o
     → option_map_or (λ l. is_start_key (take 16 bytes) && nat_le (end_with offset l) greatest_end
     && begins_as_label (drop (16 + l.width + l.value) bytes)) o false ≡ true → Begins offset bytes) [
       | None ↦ λ h f. absurd cc
@@ -95,22 +94,18 @@ may_begin-true offset bytes e =
 
 may_begin-from : (offset : ℕ) (bytes : List ℕ) → Begins offset bytes → may_begin offset bytes ≡ true
 unfolding may_begin
-may_begin-from offset bytes b =
-    ap (λ (o : Option LengthParts). option_map_or (λ l. is_start_key (take 16 bytes)
-    && nat_le (end_with offset l) greatest_end
-    && begins_as_label (drop (16 + l.width + l.value) bytes)) o false) b.head
+may_begin-from offset bytes b = ap (λ (o : Option LengthParts). option_map_or (λ l. is_start_key (take 16 bytes)
+    && nat_le (end_with offset l) greatest_end && begins_as_label (drop (16 + l.width + l.value) bytes)) o false) b.head
     ∙ and_from _ _ (and_from _ _ b.key (le-leb (end_with offset b.l) greatest_end b.within)) b.next
 
 -- what stands behind the packet
 past : (bytes key after : List ℕ) (l : LengthParts) (h : BeginsWithKeyAndLength bytes key l after)
     → drop (16 + l.width + l.value) bytes ≡ drop l.value after
-past bytes key after l h =
-    sym (drop-drop l.value (16 + l.width) bytes)
+past bytes key after l h = sym (drop-drop l.value (16 + l.width) bytes)
     ∙ ap (drop l.value) (sym (drop-drop l.width 16 bytes) ∙ ap (drop l.width) (head-past_key h)
     ∙ drop_at h.spelled after l.width (head-width h))
 
-key_is : (bytes key after : List ℕ) (l : LengthParts) → BeginsWithKeyAndLength bytes key l after
-    → take 16 bytes ≡ key
+key_is : (bytes key after : List ℕ) (l : LengthParts) → BeginsWithKeyAndLength bytes key l after → take 16 bytes ≡ key
 key_is bytes key after l h = ap (take 16) h.whole ∙ take_at key _ 16 h.label.0
 
 -- of a packet at the front
@@ -127,8 +122,7 @@ begins_with offset bytes key after l h k within next = record {
 
 pub may-test : (offset : ℕ) (window : List ℕ) (position : ℕ) → MayBegin offset window position
     → may_begin (offset + position) (drop position window) ≡ true
-may-test offset window position m =
-    may_begin-from (offset + position) (drop position window)
+may-test offset window position m = may_begin-from (offset + position) (drop position window)
     (begins_with (offset + position) (drop position window) m.key m.after m.length m.stands (key-test m.key m.start_key)
     m.within (begins-test (drop m.length.value m.after) m.next))
 
@@ -199,10 +193,8 @@ no_head_given offset bytes stop none = false_from_ne_true (may_begin offset byte
 pub head_given : (offset : ℕ) (bytes key : List ℕ) (l : LengthParts) → IsHeadOf offset bytes key l
     → may_begin offset bytes ≡ is_start_key key && begins_as_label (drop (16 + l.width + l.value) bytes)
 unfolding may_begin
-head_given offset bytes key l h =
-    ap (λ (o : Option LengthParts). option_map_or (λ l. is_start_key (take 16 bytes)
-    && nat_le (end_with offset l) greatest_end
-    && begins_as_label (drop (16 + l.width + l.value) bytes)) o false)
+head_given offset bytes key l h = ap (λ (o : Option LengthParts). option_map_or (λ l. is_start_key (take 16 bytes)
+    && nat_le (end_with offset l) greatest_end && begins_as_label (drop (16 + l.width + l.value) bytes)) o false)
     (head_at-head bytes key l h.after h.begins)
     ∙ ap (λ (k : List ℕ). is_start_key k && nat_le (end_with offset l) greatest_end
     && begins_as_label (drop (16 + l.width + l.value) bytes)) (key_is bytes key h.after l h.begins)
@@ -217,8 +209,7 @@ head_given offset bytes key l h =
 pub key_stands : (offset : ℕ) (bytes key : List ℕ) (l : LengthParts) (size : ℕ) (k n : Bool)
     → IsHeadOf offset bytes key l → k ≡ is_start_key key → k ≡ true → size ≡ 16 + l.width + l.value
     → n ≡ begins_as_label (drop size bytes) → n ≡ may_begin offset bytes
-key_stands offset bytes key l size k n h is t s next =
-    next ∙ ap (λ (m : ℕ). begins_as_label (drop m bytes)) s
+key_stands offset bytes key l size k n h is t s next = next ∙ ap (λ (m : ℕ). begins_as_label (drop m bytes)) s
     ∙ ap (λ (b : Bool). b && begins_as_label (drop (16 + l.width + l.value) bytes)) (sym t ∙ is)
     ∙ sym (head_given offset bytes key l h)
 
@@ -285,8 +276,7 @@ given offset (b ∷ bs) =
     elim (cases_Bool (may_begin offset (b ∷ bs))) [
       | inl e ↦ subst (IsGiven offset (b ∷ bs)) (sym (cond-true _ _ _ e))
           (λ p l. absurd (omega arith), at_front offset (b ∷ bs) ∙ e)
-      | inr e ↦
-          subst (IsGiven offset (b ∷ bs)) (sym (cond-false _ _ _ e))
+      | inr e ↦ subst (IsGiven offset (b ∷ bs)) (sym (cond-false _ _ _ e))
           (given_next offset b bs (start_in (offset + 1) bs) e (given (offset + 1) bs))
     ]
 
@@ -353,8 +343,7 @@ found_at offset window passed hay needle p is label from e =
     (ap (may_begin (offset + p)) (drop-drop (p - passed) passed window ∙ ap (λ (n : ℕ). drop n window) at) ∙ e)))
 
 pub none_found : (offset : ℕ) (window : List ℕ) (passed : ℕ) (hay needle : List ℕ) → hay ≡ drop passed window
-    → needle ≡ label_start → NoneOf offset window passed → FindsNeedle hay needle 0 None
-    → start_in offset window ≡ None
+    → needle ≡ label_start → NoneOf offset window passed → FindsNeedle hay needle 0 None → start_in offset window ≡ None
 none_found offset window passed hay needle is label before none = none_is offset window at
   where
     at : (p : ℕ) → may_begin (offset + p) (drop p window) ≡ false

@@ -27,8 +27,7 @@ union_append old (x ∷ xs) ys = union_append (reduced_with x old) xs ys
 -- a note behind all others goes behind them
 pub with_last : (low : ℕ) (notes : List NoteParts) (n : NoteParts) → AreApart low (notes ++ n ∷ [])
     → reduced_with n notes ≡ notes ++ n ∷ []
-with_last low notes n apart =
-    ap (reduced_with n) (sym (alone_front low notes (n ∷ []) apart))
+with_last low notes n apart = ap (reduced_with n) (sym (alone_front low notes (n ∷ []) apart))
     ∙ sym (union_append [] notes (n ∷ [])) ∙ alone low (notes ++ n ∷ []) apart
 
 -- Of all notes the first so many were added to the old ones, which gives the new ones, and these are left.

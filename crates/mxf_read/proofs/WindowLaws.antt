@@ -41,13 +41,10 @@ label_front n xs h =
       | inr some ↦
           let long : length (take n xs) ≡ n = omega (arith, length-take n xs) in
           elim (cases_lt 4 n) [
-            | inl more ↦ take-take 4 n xs (omega arith) ∙ h
-                ∙ take_all (length xs) label_start (omega arith)
+            | inl more ↦ take-take 4 n xs (omega arith) ∙ h ∙ take_all (length xs) label_start (omega arith)
                 ∙ sym (take_all (length (take n xs)) label_start (omega arith))
-            | inr few ↦
-                take_all 4 (take n xs) (omega arith) ∙ sym (take-take n 4 xs few) ∙ ap (take n) h
-                ∙ take-take n (length xs) label_start some
-                ∙ ap (λ (k : ℕ). take k label_start) (sym long)
+            | inr few ↦ take_all 4 (take n xs) (omega arith) ∙ sym (take-take n 4 xs few) ∙ ap (take n) h
+                ∙ take-take n (length xs) label_start some ∙ ap (λ (k : ℕ). take k label_start) (sym long)
           ]
     ]
 
@@ -70,8 +67,7 @@ begins_front bytes key after l n h long =
       label = h.label;
       width = h.width;
       whole = ap (take n) h.whole ∙ take_past key (h.spelled ++ after) 16 n h.label.0 (omega arith)
-          ∙ ap (λ (t : List ℕ). key ++ t)
-          (take_past h.spelled after l.width (n - 16) (head-width h) (omega arith));
+          ∙ ap (λ (t : List ℕ). key ++ t) (take_past h.spelled after l.width (n - 16) (head-width h) (omega arith));
     }
 
 pub seen : (n offset : ℕ) (bytes : List ℕ) (p : ℕ) → MayBegin offset bytes p → p + 25 ≤ n
@@ -145,8 +141,7 @@ no_piece offset bytes none =
 -- where a piece may begin at a position of a window, one begins there or before
 starts_by : (offset : ℕ) (window : List ℕ) (p : ℕ) → MayBegin offset window p
     → (start : ℕ) × (start ≤ p) × IsStart offset window start
-starts_by offset window p m =
-    elim (start_in offset window) as (λ o. start_in offset window ≡ o
+starts_by offset window p m = elim (start_in offset window) as (λ o. start_in offset window ≡ o
     → (start : ℕ) × (start ≤ p) × IsStart offset window start) [
       | None ↦ λ e. absurd ((no_start_is offset window).0 e p m)
       | Some start ↦ λ e.
@@ -159,8 +154,7 @@ starts_by offset window p m =
 
 pub start_found : (offset : ℕ) (bytes : List ℕ) (p : ℕ) → MayBegin offset bytes p → p + 25 ≤ 33554432
     → (start : ℕ) × (start ≤ p) × IsStart offset (take 33554432 bytes) start
-start_found offset bytes p m fits =
-    starts_by offset (take 33554432 bytes) p (seen 33554432 offset bytes p m fits)
+start_found offset bytes p m fits = starts_by offset (take 33554432 bytes) p (seen 33554432 offset bytes p m fits)
 
 pub first_begins : (offset : ℕ) (bytes : List ℕ) (start : ℕ) → IsStart offset bytes start → start + 25 ≤ 33554432
     → ShowsNextBefore start offset (take 33554432 bytes) 33554432 → piece_offset offset bytes ≡ offset + start

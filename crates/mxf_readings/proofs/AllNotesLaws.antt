@@ -52,22 +52,19 @@ parts_joined a b c r d s =
     let x = all_notes a in
     let y = all_notes b in
     one_reduced (all_notes (a ++ b)) (reduced_union x y) c (IsContent-reduced_union x y d) r
-    (AreReduced-reduced_union x y s)
-    (λ n.
+    (AreReduced-reduced_union x y s) (λ n.
     let p = has_parts n a b in
     let q = has-reduced_union n x y in (λ h. q.1 (p.0 h), λ h. p.1 (q.0 h)))
 
 pub all_parts : (a b : List (List NoteParts)) → AllByRecursion IsContent a → AllByRecursion AreReduced a
     → AllByRecursion IsContent b → AllByRecursion AreReduced b
     → all_notes (a ++ b) ≡ reduced_union (all_notes a) (all_notes b)
-all_parts a b c r d s =
-    parts_joined a b (all_content (a ++ b) (all_append IsContent a b c d))
+all_parts a b c r d s = parts_joined a b (all_content (a ++ b) (all_append IsContent a b c d))
     (all_reduced (a ++ b) (all_append AreReduced a b r s)) (all_content a c) (all_reduced a r)
 
 -- Some content has it, or one of which it is the head.
 abbrev Knows : List (List NoteParts) → NoteParts → Type 0
-Knows contents n =
-    (i : ℕ) × has_note (get_or contents i []) n
+Knows contents n = (i : ℕ) × has_note (get_or contents i []) n
 
 has_some : (n : NoteParts) (contents : List (List NoteParts)) → has_note (all_notes contents) n ↔ Knows contents n
 has_some n [] = (λ h. absurd (has_none n h), λ s. absurd (has_none n s.1))
@@ -83,12 +80,10 @@ has_some n (c ∷ contents) =
     back others zero h = inl h
     back others (suc i) h = inr (others (i, h))
 
-held_at : (n : NoteParts) (contents : List (List NoteParts)) (i : ℕ) → In n (get_or contents i [])
-    → IsHeld contents n
+held_at : (n : NoteParts) (contents : List (List NoteParts)) (i : ℕ) → In n (get_or contents i []) → IsHeld contents n
 held_at n contents i h = (1 + i, (at_number (1 + i) n contents).0 (i, refl, h))
 
-at_held : (n : NoteParts) (contents : List (List NoteParts)) → IsHeld contents n
-    → (i : ℕ) × In n (get_or contents i [])
+at_held : (n : NoteParts) (contents : List (List NoteParts)) → IsHeld contents n → (i : ℕ) × In n (get_or contents i [])
 at_held n contents s = let t = (at_number s.0 n contents).1 s.1 in (t.0, t.2)
 
 known : (n : NoteParts) (contents : List (List NoteParts))

@@ -51,8 +51,7 @@ first_less Equal b e f = absurd cc
 first_less Greater b e f = absurd cc
 
 note_less : (g h : HoldingParts) → g.source ≡ h.source → holding_cmp g h ≡ Less → note_cmp g.note h.note ≡ Less
-note_less g h e l =
-    first_less (note_cmp g.note h.note) (nat_cmp g.source h.source)
+note_less g h e l = first_less (note_cmp g.note h.note) (nat_cmp g.source h.source)
     (subst (λ (k : ℕ). nat_cmp g.source k ≡ Equal) e (tied_itself nat_cmp_total g.source)) l
 
 -- The holdings of a source are of its notes.
@@ -63,12 +62,10 @@ of_source number contents hs are rise =
     let fs = filter (λ (h : HoldingParts). h.source == number) hs in
     let kept = In-filter (λ (h : HoldingParts). h.source == number) hs in
     same_from_members note_total note_cmp-IsAntisymmetric (map (λ (h : HoldingParts). h.note) fs)
-    (content_of number contents)
-    (rises_mapped holding_cmp note_cmp (λ h. h.note) fs
+    (content_of number contents) (rises_mapped holding_cmp note_cmp (λ h. h.note) fs
     (rising-filter holding_cmp (λ h. h.source == number) hs are.rising)
     (λ g h i k l. note_less g h (eqb-true _ _ ((kept g).0 i).1 ∙ sym (eqb-true _ _ ((kept h).0 k).1)) l))
-    rise
-    (λ n.
+    rise (λ n.
     let mapped = In-map (λ (h : HoldingParts). h.note) fs n in (
       λ k.
           let s = mapped.0 k in
@@ -89,8 +86,7 @@ and-turned a b = grind arith
 alone-test : (contents : List (List NoteParts)) (hs : List HoldingParts) (all : List NoteParts)
     → AreHoldings contents hs → all ≡ all_notes contents → (h : HoldingParts)
     → (is_only hs h && is_held h.note all) ≡ is_alone contents h.note
-alone-test contents hs all are is h =
-    ap (λ k. (k == 1) && is_held h.note all) (run_length h.note contents hs are)
+alone-test contents hs all are is h = ap (λ k. (k == 1) && is_held h.note all) (run_length h.note contents hs are)
     ∙ ap (λ l. (length (sources_of h.note contents) == 1) && is_held h.note l) is
     ∙ and-turned (length (sources_of h.note contents) == 1) (is_held h.note (all_notes contents))
 
@@ -103,8 +99,7 @@ alone-count number contents hs all sources are is rise a =
     let t : HoldingParts → Bool = λ h. is_only hs h && is_held h.note all in
     let s : HoldingParts → Bool = λ h. h.source == number in
     sum_by-IsPermutation (λ k. cond (k == number) 1 0) (sources_alone all hs) sources a.members
-    ∙ count_mapped (λ k. k == number) (λ (h : HoldingParts). h.source) (filter t hs)
-    ∙ count-filter s t hs
+    ∙ count_mapped (λ k. k == number) (λ (h : HoldingParts). h.source) (filter t hs) ∙ count-filter s t hs
     ∙ count-alike (λ h. t h && s h) (λ h. s h && is_alone contents h.note) hs (λ h.
     and-turned (t h) (s h) ∙ ap (λ b. s h && b) (alone-test contents hs all are is h))
     ∙ sym (count-filter (λ h. is_alone contents h.note) s hs)
@@ -113,8 +108,6 @@ alone-count number contents hs all sources are is rise a =
 
 -- The note of a whole packet that some source has is one of all.
 pub whole_held : (contents : List (List NoteParts)) (hs : List HoldingParts) (all : List NoteParts)
-    → AreHoldings contents hs → all ≡ all_notes contents
-    → AllByRecursion (λ h. IsTrue h.note.whole → In h.note all) hs
-whole_held contents hs all are is =
-    all_from_In (λ (h : HoldingParts). IsTrue h.note.whole → In h.note all) hs (λ h k w.
+    → AreHoldings contents hs → all ≡ all_notes contents → AllByRecursion (λ h. IsTrue h.note.whole → In h.note all) hs
+whole_held contents hs all are is = all_from_In (λ (h : HoldingParts). IsTrue h.note.whole → In h.note all) hs (λ h k w.
     subst (In h.note) (sym is) (whole_joined h.source h.note contents w ((are.members h).0 k)))

@@ -66,6 +66,5 @@ count-alike p q xs f = λ i. count_by (λ x. f x i) xs
 pub count_mapped : {A B : Type 0} (t : B → Bool) (f : A → B) (xs : List A)
     → count_by t (map f xs) ≡ count_by (λ x. t (f x)) xs
 count_mapped t f [] = refl
-count_mapped t f (x ∷ xs) =
-    count_by-cons t (f x) (map f xs) ∙ ap (λ n. tally (t (f x)) + n) (count_mapped t f xs)
+count_mapped t f (x ∷ xs) = count_by-cons t (f x) (map f xs) ∙ ap (λ n. tally (t (f x)) + n) (count_mapped t f xs)
     ∙ sym (count_by-cons (λ x. t (f x)) x xs)

@@ -25,8 +25,7 @@ same_holding : (h : HoldingParts) (first : ℕ) → h.source ≡ first → h ≡
 same_holding h first e = λ i. record { note = h.note; source = e i }
 
 pub from_members : (h : HoldingParts) (first : ℕ) (contents : List (List NoteParts))
-    → In h (holdings_from first contents)
-    ↔ ((i : ℕ) × (h.source ≡ first + i) × In h.note (get_or contents i []))
+    → In h (holdings_from first contents) ↔ ((i : ℕ) × (h.source ≡ first + i) × In h.note (get_or contents i []))
 from_members h first [] = (λ k. absurd k, λ s. absurd s.2)
 from_members h first (c ∷ contents) =
     let ih = from_members h (first + 1) contents in
@@ -38,8 +37,7 @@ from_members h first (c ∷ contents) =
             let e : h.source ≡ first = ap (λ (g : HoldingParts). g.source) s.2 in (
               zero,
               omega (arith, e),
-              subst (λ (n : NoteParts). In n c)
-                  (sym (ap (λ (g : HoldingParts). g.note) s.2)) s.1,
+              subst (λ (n : NoteParts). In n c) (sym (ap (λ (g : HoldingParts). g.note) s.2)) s.1,
             )
         | inr m ↦
             let s = ih.0 m in
@@ -53,8 +51,7 @@ from_members h first (c ∷ contents) =
         → In h (holdings_from (first + 1) contents)) → (i : ℕ) → h.source ≡ first + i
         → In h.note (get_or (c ∷ contents) i [])
         → In h (map (holding first) c) ⊎ In h (holdings_from (first + 1) contents)
-    back others zero e k =
-        inl ((In-map (holding first) c h).1 (h.note, k, same_holding h first (omega (arith, e))))
+    back others zero e k = inl ((In-map (holding first) c h).1 (h.note, k, same_holding h first (omega (arith, e))))
     back others (suc i) e k = inr (others (i, omega (arith, e), k))
 
 -- Sorted, and each once, they say which source has which note.
@@ -96,8 +93,7 @@ passing_part p (x ∷ xs) (suc a) (suc b) o l f g h = rw (f 0 x (omega arith) (o
     (λ k d n m. g (suc k) d (omega arith) (omega arith)) (λ k d n m. h (suc k) d (omega arith) (omega arith)))
 
 pub rising_places : {K : Type 0} {R : K → K → Ordering} (o : IsTotalOrder R) (xs : List K) (i j : ℕ) (d : K)
-    → IsRising R xs
-    → i < j → j < length xs → R (get_or xs i d) (get_or xs j d) ≡ Less
+    → IsRising R xs → i < j → j < length xs → R (get_or xs i d) (get_or xs j d) ≡ Less
 rising_places o [] i j d r h l = absurd (omega arith)
 rising_places o (x ∷ xs) i zero d r h l = absurd (omega arith)
 rising_places o (x ∷ xs) zero (suc j) d r h l = less_in o x (get_or xs j d) xs r.0 (In-at xs j d (omega arith))
@@ -105,8 +101,7 @@ rising_places o (x ∷ xs) (suc i) (suc j) d r h l = rising_places o xs i j d r.
 
 -- The same of what the elements are mapped to.
 pub rising_mapped : {X K : Type 0} {R : K → K → Ordering} (o : IsTotalOrder R) (f : X → K) (xs : List X) (i j : ℕ)
-    (d : X)
-    → IsRising R (map f xs) → i < j → j < length xs → R (f (get_or xs i d)) (f (get_or xs j d)) ≡ Less
+    (d : X) → IsRising R (map f xs) → i < j → j < length xs → R (f (get_or xs i d)) (f (get_or xs j d)) ≡ Less
 rising_mapped {R = R} o f xs i j d r l h =
     subst (λ x. R x (f (get_or xs j d)) ≡ Less) (get_or-map f xs i d (f d) (omega arith))
     (subst (λ y. R (get_or (map f xs) i (f d)) y ≡ Less) (get_or-map f xs j d (f d) h)
@@ -124,8 +119,7 @@ not_back g h l =
       | Greater ↦ λ e. refl
     ] refl
 
-by_note : (hs : List HoldingParts) → IsRising holding_cmp hs
-    → IsSortedByKey (λ (h : HoldingParts). h.note) note_cmp hs
+by_note : (hs : List HoldingParts) → IsRising holding_cmp hs → IsSortedByKey (λ (h : HoldingParts). h.note) note_cmp hs
 by_note hs r k d l h =
     not_back (get_or hs k d) (get_or hs (k + 1) d) (rising_places holding_total hs k (k + 1) d r (omega arith) h)
 
@@ -160,10 +154,8 @@ module _ (n : NoteParts) (hs : List HoldingParts) (a b : ℕ) where
       → AllWithin (λ h. 1 ≤ side n h) hs a (length hs)
       → AllWithin (λ h. side n h < 2) hs 0 b → AllWithin (λ h. 2 ≤ side n h) hs b (length hs)
       → drop a (take b hs) ≡ filter (is_of n) hs
-  run_is order within below from up_to above =
-      passing_part (is_of n) hs a b order within
-      (λ k d l h. beside_note n (get_or hs k d) (λ e. let low = below k d l h in omega (arith, low, e)))
-      (λ k d l h.
+  run_is order within below from up_to above = passing_part (is_of n) hs a b order within
+      (λ k d l h. beside_note n (get_or hs k d) (λ e. let low = below k d l h in omega (arith, low, e))) (λ k d l h.
       let low = from k d l (omega arith) in
       let high = up_to k d (omega arith) h in at_note n (get_or hs k d) (omega (arith, low, high)))
       (λ k d l h. beside_note n (get_or hs k d) (λ e. let high = above k d l h in omega (arith, high, e)))
@@ -222,8 +214,7 @@ module _ (hs : List HoldingParts) (at : ℕ) (d : HoldingParts) (r : IsRising ho
       (λ k c l h. beside_note own (get_or hs k c) (λ e.
       let up = sides_rise own hs r k (at - 1) d (omega arith) (omega arith) in
       let next = sides_rise own hs r (at - 1) at d (omega arith) here in
-      other (at - 1) (ahead (omega arith)) (omega (arith, up, next, own_side, e, moved k c (omega arith)))))
-      (λ k c l h.
+      other (at - 1) (ahead (omega arith)) (omega (arith, up, next, own_side, e, moved k c (omega arith))))) (λ k c l h.
       let same : k ≡ at = omega arith in
       at_note own (get_or hs k c) (moved k c (omega arith) ∙ ap (λ j. side own (get_or hs j d)) same ∙ own_side))
       (λ k c l h. beside_note own (get_or hs k c) (λ e.
@@ -241,14 +232,12 @@ of_note : (n : NoteParts) (h : HoldingParts) → IsTrue (is_of n h) → h.note �
 of_note n h t = (is_same-Decides note_total note_cmp-IsAntisymmetric h.note n).0 t
 
 source_less : (g h : HoldingParts) → g.note ≡ h.note → holding_cmp g h ≡ Less → nat_cmp g.source h.source ≡ Less
-source_less g h e l =
-    then_less (note_cmp g.note h.note) (nat_cmp g.source h.source)
+source_less g h e l = then_less (note_cmp g.note h.note) (nat_cmp g.source h.source)
     (subst (λ (m : NoteParts). note_cmp g.note m ≡ Equal) e (tied_itself note_total g.note)) l
 
 -- What elements are mapped to rises where it does for each two of them.
 pub rises_mapped : {X Y : Type 0} (R : X → X → Ordering) (S : Y → Y → Ordering) (f : X → Y) (xs : List X)
-    → IsRising R xs
-    → ((x y : X) → In x xs → In y xs → R x y ≡ Less → S (f x) (f y) ≡ Less) → IsRising S (map f xs)
+    → IsRising R xs → ((x y : X) → In x xs → In y xs → R x y ≡ Less → S (f x) (f y) ≡ Less) → IsRising S (map f xs)
 rises_mapped R S f [] r less = tt
 rises_mapped R S f (x ∷ xs) r less = (
   all_from_In (λ z. S (f x) z ≡ Less) (map f xs) (λ z k.
@@ -257,8 +246,7 @@ rises_mapped R S f (x ∷ xs) r less = (
   rises_mapped R S f xs r.1 (λ y z i k. less y z (inr i) (inr k)),
 )
 
-pub run_sources : (n : NoteParts) (contents : List (List NoteParts)) (hs : List HoldingParts)
-    → AreHoldings contents hs
+pub run_sources : (n : NoteParts) (contents : List (List NoteParts)) (hs : List HoldingParts) → AreHoldings contents hs
     → map (λ (h : HoldingParts). h.source) (filter (is_of n) hs) ≡ sources_of n contents
 run_sources n contents hs are =
     let fs = filter (is_of n) hs in
@@ -268,8 +256,7 @@ run_sources n contents hs are =
     (sources_of n contents)
     (rises_mapped holding_cmp nat_cmp (λ h. h.source) fs (rising-filter holding_cmp (is_of n) hs are.rising)
     (λ g h i k l. source_less g h (of_note n g ((kept g).0 i).1 ∙ sym (of_note n h ((kept h).0 k).1)) l))
-    (sources_rise n contents)
-    (λ number.
+    (sources_rise n contents) (λ number.
     let says = sources_say number n contents in (
       λ k.
           let s = (mapped number).0 k in

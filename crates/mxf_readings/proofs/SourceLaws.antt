@@ -21,8 +21,7 @@ held_says n notes =
 
 -- The sources that have a note, among those that are numbered from a first on.
 pub from_says : (number first : ℕ) (n : NoteParts) (contents : List (List NoteParts))
-    → In number (sources_from first n contents)
-    ↔ ((i : ℕ) × (number ≡ first + i) × In n (get_or contents i []))
+    → In number (sources_from first n contents) ↔ ((i : ℕ) × (number ≡ first + i) × In n (get_or contents i []))
 from_says number first n [] = (λ h. absurd h, λ s. absurd s.2)
 from_says number first n (c ∷ contents) =
     let ih = from_says number (first + 1) n contents in
@@ -78,8 +77,7 @@ from_rise first n (c ∷ contents) =
     elim (is_held n c) as (λ b. IsRising nat_cmp
     (cond b (first ∷ sources_from (first + 1) n contents) (sources_from (first + 1) n contents))) [
       | true ↦ (
-        all_from_In (λ (m : ℕ). nat_cmp first m ≡ Less) (sources_from (first + 1) n contents)
-            (λ m h.
+        all_from_In (λ (m : ℕ). nat_cmp first m ≡ Less) (sources_from (first + 1) n contents) (λ m h.
             let s = (from_says m (first + 1) n contents).0 h in
             let e : m ≡ first + 1 + s.0 = s.1 in
             less_from_lt first m (omega (arith, e))),
@@ -118,9 +116,7 @@ alone_says number n contents h =
           let p = and_parts (is_held n (all_notes contents)) (count == 1) t in record {
             held = h;
             joined = all.0 p.0;
-            alone =
-                λ other k. only (sources_of n contents) number other (eqb-true count 1 p.1) here
-                ((says other).1 k);
+            alone = λ other k. only (sources_of n contents) number other (eqb-true count 1 p.1) here ((says other).1 k);
           },
       λ a. and_from (is_held n (all_notes contents)) (count == 1) (all.1 a.joined)
           (eq-eqb count 1 (one (sources_of n contents) number (sources_rise n contents) here

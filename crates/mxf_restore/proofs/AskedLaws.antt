@@ -45,8 +45,7 @@ above_top (m ∷ notes) x =
     )
 
 -- The greatest end is that of a note, or 0 where there is none.
-top_there : (notes : List NoteParts)
-    → (top_of notes ≡ 0) ⊎ ((n : NoteParts) × In n notes × (end_of n ≡ top_of notes))
+top_there : (notes : List NoteParts) → (top_of notes ≡ 0) ⊎ ((n : NoteParts) × In n notes × (end_of n ≡ top_of notes))
 top_there [] = inl refl
 top_there (m ∷ notes) = elim (cases_lt (end_of m) (top_of notes)) [
   | inl l ↦ elim (top_there notes) [
@@ -136,8 +135,7 @@ module _ (at : AtHandParts) (notes : List NoteParts) (content : IsContent notes)
         | inr k ↦ (
             let r = (reaches_says x).1 k.1 in
             ap (λ o. if is_some o then o else (if reaches then Some (edge_of at notes) else None)) k.0
-            ∙ ap (λ b. if b then Some (edge_of at notes) else None) r.0
-            ∙ ap (λ (y : ℕ). Some y) r.1)
+            ∙ ap (λ b. if b then Some (edge_of at notes) else None) r.0 ∙ ap (λ (y : ℕ). Some y) r.1)
       ],
     )
     section_end_says None = (
@@ -152,8 +150,7 @@ module _ (at : AtHandParts) (notes : List NoteParts) (content : IsContent notes)
                   let h = ap (λ b. if b then Some (edge_of at notes) else None) (sym t) ∙ g in cc (h),
             )
           ] refl e,
-      λ h.
-          ap (λ o. if is_some o then o else (if reaches then Some (edge_of at notes) else None)) h.0
+      λ h. ap (λ o. if is_some o then o else (if reaches then Some (edge_of at notes) else None)) h.0
           ∙ elim (cases_Bool reaches) [
             | inl t ↦ absurd (h.1 (edge_of at notes) ((reaches_says (edge_of at notes)).0 (t, refl)))
             | inr t ↦ ap (λ b. if b then Some (edge_of at notes) else None) t
@@ -286,8 +283,7 @@ module _ (at : AtHandParts) (notes : List NoteParts) (content : IsContent notes)
           let f = (none_speaks notes o.start content).1 k.0 in
           let end = (asked_end_says cover p o.start None f o.end).1 a.end in
           let s = some_is o.end (a.some k.1) in
-          ap (asked_by at notes p o.start) f
-          ∙ ap (option_map (gap o.start)) (end ∙ s.1)
+          ap (asked_by at notes p o.start) f ∙ ap (option_map (gap o.start)) (end ∙ s.1)
           ∙ (λ i. Some (record {
             reason = sym k.1 i;
             start = o.start;

@@ -13,8 +13,7 @@ unseen seen disputed_places = filter (λ d. not (list_any (is_at (nat_cmp d.plac
 filtered : {K : Type 0} (p q r : K → Bool) (xs : List K) → ((x : K) → (q x && p x) ≡ r x)
     → filter p (filter q xs) ≡ filter r xs
 filtered p q r [] f = refl
-filtered p q r (x ∷ xs) f =
-    elim (q x) as (λ b. (b && p x) ≡ r x → filter p (cond b (x ∷ filter q xs) (filter q xs))
+filtered p q r (x ∷ xs) f = elim (q x) as (λ b. (b && p x) ≡ r x → filter p (cond b (x ∷ filter q xs) (filter q xs))
     ≡ cond (r x) (x ∷ filter r xs) (filter r xs)) [
       | true ↦ λ e. (λ i. cond (e i) (x ∷ filtered p q r xs f i) (filtered p q r xs f i))
       | false ↦ λ e. filtered p q r xs f ∙ ap (λ b. cond b (x ∷ filter r xs) (filter r xs)) e

@@ -30,8 +30,7 @@ module _ (f : Claim → Option DisputedPlace) (x : ℕ) where
     pub first : (c : Claim) (e : DisputedPlace) → In c claims → f c ≡ Some e → IsTrue (e.place == x) → GoesUpTo by c
 
   not_here : (b : Claim) (claims : List Claim) (d : DisputedPlace)
-      → ((e : DisputedPlace) → f b ≡ Some e → IsTrue (e.place == x) → ⊥) → IsToldBy claims d
-      → IsToldBy (b ∷ claims) d
+      → ((e : DisputedPlace) → f b ≡ Some e → IsTrue (e.place == x) → ⊥) → IsToldBy claims d → IsToldBy (b ∷ claims) d
   not_here b claims d none t = record {
     by = t.by;
     there = inr t.there;
@@ -49,8 +48,7 @@ module _ (f : Claim → Option DisputedPlace) (x : ℕ) where
       elim (f b) as (λ o. f b ≡ o → find (λ e. e.place == x) (cons_option o (filter_map f claims)) ≡ Some d
       → IsToldBy (b ∷ claims) d) [
         | None ↦ λ n u. not_here b claims d (λ e k _. absurd (let g = n in cc (g, k))) (told_by claims d up r.1 u)
-        | Some g ↦ λ n u.
-            elim (g.place == x) as (λ z. (g.place == x) ≡ z
+        | Some g ↦ λ n u. elim (g.place == x) as (λ z. (g.place == x) ≡ z
             → (if z then Some g else find (λ e. e.place == x) (filter_map f claims)) ≡ Some d
             → IsToldBy (b ∷ claims) d) [
               | true ↦ λ _ v. record {
@@ -62,8 +60,7 @@ module _ (f : Claim → Option DisputedPlace) (x : ℕ) where
                   | inr i ↦ all-In (GoesUpTo b) claims c r.0 i
                 ];
               }
-              | false ↦ λ other v. not_here b claims d
-                  (λ e k same. let q = same_Some g e (sym n ∙ k) in
+              | false ↦ λ other v. not_here b claims d (λ e k same. let q = same_Some g e (sym n ∙ k) in
                   let w = ap (λ (y : DisputedPlace). y.place == x) q in absurd (cc (w, other, same)))
                   (told_by claims d up r.1 v)
             ] refl u

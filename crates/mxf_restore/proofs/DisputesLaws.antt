@@ -12,8 +12,7 @@ listed : (notes : List NoteParts) (d : DisputedParts) → In d (disputed_notes n
 listed notes d i =
     let n : In d.note (map (λ (x : DisputedParts). x.note) (disputed_notes notes)) =
     (In-map (λ (x : DisputedParts). x.note) (disputed_notes notes) d.note).1 (d, i, refl) in
-    let p = (In-filter (λ m. is_disputed m notes) notes d.note).0
-    (subst (In d.note) (notes-disputed_notes notes) n) in
+    let p = (In-filter (λ m. is_disputed m notes) notes d.note).0 (subst (In d.note) (notes-disputed_notes notes) n) in
     record { held = p.0; disputed = (is_disputed-IsDisputed d.note notes).0 p.1 }
 
 lists : (notes : List NoteParts) (n : NoteParts) → IsDisputedIn notes n
@@ -79,13 +78,11 @@ greatest-one x (d ∷ ds) =
 -- the first itself is one of all
 first-least : (d : DisputedParts) (ds : List DisputedParts)
     → (e : DisputedParts) × In e (d ∷ ds) × (e.note.offset ≡ least_start d.note.offset (d ∷ ds))
-first-least d ds =
-    elim (least-one d.note.offset (d ∷ ds)) [ inl e ↦ (d, inl refl, sym e) | inr s ↦ s ]
+first-least d ds = elim (least-one d.note.offset (d ∷ ds)) [ inl e ↦ (d, inl refl, sym e) | inr s ↦ s ]
 
 first-greatest : (d : DisputedParts) (ds : List DisputedParts)
     → (e : DisputedParts) × In e (d ∷ ds) × (covered_end e.note ≡ greatest_end (covered_end d.note) (d ∷ ds))
-first-greatest d ds =
-    elim (greatest-one (covered_end d.note) (d ∷ ds)) [ inl e ↦ (d, inl refl, sym e) | inr s ↦ s ]
+first-greatest d ds = elim (greatest-one (covered_end d.note) (d ∷ ds)) [ inl e ↦ (d, inl refl, sym e) | inr s ↦ s ]
 
 -- ---- laws
 

@@ -91,8 +91,7 @@ module _ (at : AtHandParts) (notes : List NoteParts) (p : Section) where
         | inr j ↦ (let above = rise_above (r.start + 1) later q rise.1 j in omega (arith, above))
       ]
 
-  found_first : IsCover at.hand → (a : Order) (r : OffsetRange) → IsLookedFor at notes p a
-      → IsPart at p a r.start r.end
+  found_first : IsCover at.hand → (a : Order) (r : OffsetRange) → IsLookedFor at notes p a → IsPart at p a r.start r.end
       → ((start : ℕ) (end : Option ℕ) → IsPart at p a start end → r.start ≤ start)
       → slice_get (parts_of at p a) 0 ≡ Some r
   found_first hand a r is_asked is_part first =
@@ -166,7 +165,6 @@ module _ (at : AtHandParts) (notes : List NoteParts) (p : Section) where
         λ f.
             let same : a ≡ f.asked = (looked content cover f.asked).1 f.is_asked in
             let first = found_first hand f.asked f.part f.is_asked f.is_part f.first in
-            ap (front_by at p) same
-            ∙ ap (option_map (λ (r : OffsetRange). part_order at f.asked (front_range r))) first
+            ap (front_by at p) same ∙ ap (option_map (λ (r : OffsetRange). part_order at f.asked (front_range r))) first
             ∙ ap (λ (y : Order). Some y) (front_is cover o f),
       )

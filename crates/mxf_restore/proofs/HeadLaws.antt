@@ -20,8 +20,7 @@ AreTold heads left notes = (x : ℕ) → told_after (lookup (is_at (nat_cmp x)) 
 -- ---- what is told of all notes
 
 -- Further heads to an offset, behind the first one.
-told_on : (head : Head) (notes : List NoteParts) (x : ℕ)
-    → told_after (Some head) notes x
+told_on : (head : Head) (notes : List NoteParts) (x : ℕ) → told_after (Some head) notes x
     ≡ Some (record { offset = head.offset; needed = max head.needed (needed_of notes head.offset x) })
 told_on head [] x = ap (λ m. Some (record { offset = head.offset; needed = m })) (sym (max_zero head.needed))
   where

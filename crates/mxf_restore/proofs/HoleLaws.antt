@@ -218,8 +218,7 @@ module _ (notes : List NoteParts) where
         (r, kept, λ i. record { start = a i; end = Some (b i) })))
 
     pub from_hole : (h : OffsetRange) → IsHole notes h → In h (holes_of notes)
-    from_hole h is =
-        elim h.end as (λ o. IsHole notes (record { start = h.start; end = o })
+    from_hole h is = elim h.end as (λ o. IsHole notes (record { start = h.start; end = o })
         → In (record { start = h.start; end = o }) (holes_of notes)) [
           | None ↦ from_open h.start
           | Some e ↦ from_closed h.start e

@@ -27,11 +27,9 @@ pub record IsWithin (start : ℕ) (end : Option ℕ) (g : OffsetRange) : Type 0 
   pub between : (x : ℕ) → LiesInRange g x → LiesBetween start end x
 
 some_within : (start : ℕ) (end : Option ℕ) (g : OffsetRange) → In g (some_range start end) → IsWithin start end g
-some_within start None g (inl e) =
-    subst (IsWithin start None) (sym e) (record { some = inl refl; between = λ x l. l })
+some_within start None g (inl e) = subst (IsWithin start None) (sym e) (record { some = inl refl; between = λ x l. l })
 some_within start None g (inr k) = absurd k
-some_within start (Some d) g k =
-    elim (nat_lt start d) as (λ b. nat_lt start d ≡ b
+some_within start (Some d) g k = elim (nat_lt start d) as (λ b. nat_lt start d ≡ b
     → In g (if b then record { start = start; end = Some d } ∷ [] else []) → IsWithin start (Some d) g) [
       | true ↦ λ t h. elim h [
         | inl e ↦ subst (IsWithin start (Some d)) (sym e)

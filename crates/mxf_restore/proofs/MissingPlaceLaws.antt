@@ -23,8 +23,7 @@ module _ (notes : List NoteParts) (x : ℕ) where
                   let k = found-In (λ (n : NoteParts). n.offset == x) (undisputed_notes notes) n f in
                   (n, moved notes n n.offset x (alone notes n k.0) (eqb-true n.offset x k.1), no n.whole g)
             ] refl h,
-        λ b.
-            ap (λ (o : Option NoteParts). option_map_or (λ n. not n.whole) o false)
+        λ b. ap (λ (o : Option NoteParts). option_map_or (λ n. not n.whole) o false)
             (undisputed_at-found x notes b.0 (among notes b.0 x b.1) b.1.offset) ∙ ap not b.2,
       )
     where
@@ -40,8 +39,7 @@ module _ (notes : List NoteParts) (x : ℕ) where
 
   lacking : BeginsHead notes x ⊎ ¬ IsHeld notes x → IsTrue (begins_clear_head notes x || not (is_held notes x))
   lacking (inl b) = or_left (begins_clear_head notes x) (not (is_held notes x)) (head_says.1 b)
-  lacking (inr n) =
-      or_right (begins_clear_head notes x) (not (is_held notes x))
+  lacking (inr n) = or_right (begins_clear_head notes x) (not (is_held notes x))
       (not_true (is_held notes x) (λ t. n ((is_held-says notes x).0 t)))
 
   pub missing_says : IsTrue (is_missing notes x) ↔ IsMissing notes x

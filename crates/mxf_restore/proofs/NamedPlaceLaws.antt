@@ -50,8 +50,7 @@ named_says notes c n = (
   elim (is_header c.reason) as (λ b. is_header c.reason ≡ b
       → cond b None (option_and_then (missing_one notes c) (named_place c)) ≡ Some n → IsNamedBy notes c n) [
         | true ↦ λ t e. absurd cc
-        | false ↦ λ t e.
-            option_and_then_some (missing_one notes c) (named_place c) n e (λ x named told.
+        | false ↦ λ t e. option_and_then_some (missing_one notes c) (named_place c) n e (λ x named told.
             let k = cond_some (is_missing notes x) (record { place = x; source = c.source }) n told in
             let place : x ≡ n.place = ap place_in k.1 in (
               (other_than_header c.reason t, named ∙ ap (λ (y : ℕ). Some y) place),
@@ -59,8 +58,7 @@ named_says notes c n = (
               sym (ap (λ (m : NamedPlace). m.source) k.1),
             ))
       ] refl,
-  λ k.
-      ap (λ b. cond b None (option_and_then (missing_one notes c) (named_place c))) (not_header c.reason k.0.0)
+  λ k. ap (λ b. cond b None (option_and_then (missing_one notes c) (named_place c))) (not_header c.reason k.0.0)
       ∙ ap (option_and_then (missing_one notes c)) k.0.1
       ∙ ap (λ b. cond b (Some (record { place = n.place; source = c.source })) None) k.1
       ∙ (λ i. Some (record { place = n.place; source = sym k.2 i })),
@@ -115,15 +113,13 @@ module _ (notes : List NoteParts) (n : NamedPlace) where
 
   first_of : (claims : List Claim) → found_in claims ≡ Some n → IsNamedIn notes claims n
   first_of [] e = absurd cc
-  first_of (c ∷ claims) e =
-      elim (named_place_of notes c) as (λ o. named_place_of notes c ≡ o
+  first_of (c ∷ claims) e = elim (named_place_of notes c) as (λ o. named_place_of notes c ≡ o
       → find (stands_at n.place) (cons_option o (filter_map (named_place_of notes) claims)) ≡ Some n
       → IsNamedIn notes (c ∷ claims) n) [
         | None ↦ λ o f.
             let k = first_of claims f in
             behind c claims k (λ names. none_some (named_place_of notes c) _ o (told_of c names k.missing))
-        | Some m ↦ λ o f.
-            elim (m.place == n.place) as (λ b. (m.place == n.place) ≡ b
+        | Some m ↦ λ o f. elim (m.place == n.place) as (λ b. (m.place == n.place) ≡ b
             → cond b (Some m) (found_in claims) ≡ Some n → IsNamedIn notes (c ∷ claims) n) [
               | true ↦ λ t g. here c claims ((named_says notes c n).0 (o ∙ g))
               | false ↦ λ t g.
@@ -149,8 +145,7 @@ module _ (notes : List NoteParts) (n : NamedPlace) where
       → ((c : Claim) → In c before → ¬ NamesPlace c n.place) → found_in (before ++ (by ∷ later)) ≡ Some n
   found_by [] by later k first =
       ap (λ o. find (stands_at n.place) (cons_option o (filter_map (named_place_of notes) later)))
-      ((named_says notes by n).1 k)
-      ∙ ap (λ b. cond b (Some n) (found_in later)) (eq-eqb n.place n.place refl)
+      ((named_says notes by n).1 k) ∙ ap (λ b. cond b (Some n) (found_in later)) (eq-eqb n.place n.place refl)
   found_by (c ∷ before) by later k first =
       let rest = before ++ (by ∷ later) in
       let ih = found_by before by later k (λ d h. first d (inr h)) in
@@ -217,8 +212,7 @@ abbrev pub places_of : List (ℕ × Option ℕ) → List NamedPlace
 places_of entries = map entry_place entries
 
 above : (x : ℕ) (entries : List (ℕ × Option ℕ)) (n : NamedPlace)
-    → AllByRecursion (λ y. nat_cmp x y ≡ Less) (keys_of entries) → In n (places_of entries)
-    → nat_cmp x n.place ≡ Less
+    → AllByRecursion (λ y. nat_cmp x y ≡ Less) (keys_of entries) → In n (places_of entries) → nat_cmp x n.place ≡ Less
 above x [] n all h = absurd h
 above x (e ∷ entries) n all (inl q) = ap (λ (m : NamedPlace). nat_cmp x m.place) q ∙ all.0
 above x (e ∷ entries) n all (inr h) = above x entries n all.1 h
@@ -244,8 +238,7 @@ places_say (e ∷ entries) n s =
     let rest = lookup (is_at (nat_cmp n.place)) entries in
     let ih = places_say entries n (sorted_tail nat_cmp e.0 (keys_of entries) s) in (
       λ h. elim h [
-        | inl q ↦
-            ap (λ b. cond b (Some e.1) rest) (at_equal n.place e.0 (ap place_in q))
+        | inl q ↦ ap (λ b. cond b (Some e.1) rest) (at_equal n.place e.0 (ap place_in q))
             ∙ ap (λ (o : Option ℕ). Some o) (sym (ap (λ (m : NamedPlace). m.source) q))
         | inr j ↦
             let less = lt_from_less e.0 n.place (above e.0 entries n (sorted_head nat_cmp e.0 (keys_of entries) s) j) in
@@ -260,20 +253,15 @@ places_say (e ∷ entries) n s =
                 sym (same_Some e.1 n.source
                 (ap (λ b. cond b (Some e.1) rest) (sym (at_equal n.place e.0 place)) ∙ told)) in
                 inl (λ i. record { place = place i; source = source i })
-            | false ↦ λ t.
-                inr (ih.1 (ap (λ b. cond b (Some e.1) rest) (sym (at_other n.place e.0 t)) ∙ told))
+            | false ↦ λ t. inr (ih.1 (ap (λ b. cond b (Some e.1) rest) (sym (at_other n.place e.0 t)) ∙ told))
           ] refl,
     )
 
 -- A table with one more place before those that it was made of.
 pub first_sources-insert : (places : List NamedPlace) (n : NamedPlace) (old new : List (ℕ × Option ℕ))
-    → AreFirst places old
-    → ((x : ℕ) → lookup (is_at (nat_cmp x)) new
-    ≡ cond (is_at (nat_cmp n.place) x) (Some n.source) (lookup (is_at (nat_cmp x)) old))
-    → AreFirst (n ∷ places) new
-first_sources-insert places n old new told updates x =
-    updates x
-    ∙ elim (n.place == x) as (λ b. (n.place == x) ≡ b
+    → AreFirst places old → ((x : ℕ) → lookup (is_at (nat_cmp x)) new
+    ≡ cond (is_at (nat_cmp n.place) x) (Some n.source) (lookup (is_at (nat_cmp x)) old)) → AreFirst (n ∷ places) new
+first_sources-insert places n old new told updates x = updates x ∙ elim (n.place == x) as (λ b. (n.place == x) ≡ b
     → cond (is_at (nat_cmp n.place) x) (Some n.source) (lookup (is_at (nat_cmp x)) old)
     ≡ option_map (λ (m : NamedPlace). m.source) (cond b (Some n) (find (stands_at x) places))) [
       | true ↦ λ t. ap (λ b. cond b (Some n.source) (lookup (is_at (nat_cmp x)) old))

@@ -34,8 +34,7 @@ module _ (notes : List NoteParts) where
   rip_end_held Absent end e = absurd cc
   rip_end_held Several end e = absurd cc
   rip_end_held (Unreadable offset) end e = absurd cc
-  rip_end_held (One r) end e =
-      elim (find (λ n. n.offset == r.offset) (clear_notes notes))
+  rip_end_held (One r) end e = elim (find (λ n. n.offset == r.offset) (clear_notes notes))
       as (λ o. find (λ n. n.offset == r.offset) (clear_notes notes) ≡ o → option_map end_of o ≡ Some end
       → end ≤ held_end notes) [
         | None ↦ λ f g. absurd cc
@@ -50,8 +49,7 @@ module _ (notes : List NoteParts) where
 
   end_held : (end : ℕ) → end_of_file notes ≡ Some end → end ≤ held_end notes
   unfolding end_of_file
-  end_held end e = elim (rip_end_by notes (rip_view_of notes))
-      as (λ o. rip_end_by notes (rip_view_of notes) ≡ o
+  end_held end e = elim (rip_end_by notes (rip_view_of notes)) as (λ o. rip_end_by notes (rip_view_of notes) ≡ o
       → option_and_then (λ x. if reaches_past x notes then None else Some x) o ≡ Some end → end ≤ held_end notes) [
         | None ↦ λ f g. absurd cc
         | Some x ↦ λ f g. elim (reaches_past x notes)
@@ -120,8 +118,7 @@ module _ (notes : List NoteParts) where
   -- ---- what is ordered of its section
 
   pub start_below : (first : ℕ) → start_of notes first ≤ first
-  start_below first =
-      elim (find (is_head_to first) notes) as (λ o. find (is_head_to first) notes ≡ o
+  start_below first = elim (find (is_head_to first) notes) as (λ o. find (is_head_to first) notes ≡ o
       → option_map_or (λ n. n.offset) o first ≤ first) [
         | None ↦ λ e. omega arith
         | Some n ↦ λ e.
@@ -135,8 +132,7 @@ module _ (notes : List NoteParts) where
     reaches = nat_lt p.first (top_of notes) || nat_le (p.first + 25) (edge_of at notes)
 
     ends : (claim : Option Claim) (e : ℕ) → end_by at notes p claim ≡ Some e → x < e
-    ends claim e q = elim p.end as (λ o. ((o ≡ None) ⊎ ((d : ℕ) × (o ≡ Some d) × (x < d)))
-        → (if is_some o then o
+    ends claim e q = elim p.end as (λ o. ((o ≡ None) ⊎ ((d : ℕ) × (o ≡ Some d) × (x < d))) → (if is_some o then o
         else (if reaches && not (option_map_or (λ c. c.is_open) claim false)
         then Some (edge_of at notes) else None)) ≡ Some e → x < e) [
           | None ↦ λ l q. elim (reaches && not (option_map_or (λ c. c.is_open) claim false))
@@ -235,8 +231,7 @@ module _ (notes : List NoteParts) where
         inl refl,
         (
           omega (arith, low, from),
-          subst (λ (r : OffsetRange).
-              (r.end ≡ None) ⊎ ((e : ℕ) × (r.end ≡ Some e) × (x < e))) e l.1,
+          subst (λ (r : OffsetRange). (r.end ≡ None) ⊎ ((e : ℕ) × (r.end ≡ Some e) × (x < e))) e l.1,
         ),
       )
       begun (h ∷ ranges) g (inr k) l = (g, inr k, l)

@@ -65,8 +65,7 @@ module _ (at : AtHandParts) (cover : IsCover at.hand) (p : Section) (o : Order) 
 
   among_rise : (ranges : List OffsetRange) → Rise p.first ranges → Rise o.start (parts_among at p o ranges)
   among_rise [] r = (omega arith, tt)
-  among_rise (g ∷ ranges) r =
-      elim (is_whole_needed at p o.start) as (λ b. Rise o.start
+  among_rise (g ∷ ranges) r = elim (is_whole_needed at p o.start) as (λ b. Rise o.start
       (filter before_next (if b then begun_at o.start (g ∷ ranges) else g ∷ ranges))) [
         | true ↦ filter_rise before_next o.start (begun_at o.start (g ∷ ranges)) (begun_rise (g ∷ ranges) r)
         | false ↦ filter_rise before_next o.start (g ∷ ranges) (rise_from o.start p.first (g ∷ ranges) low r)
@@ -74,8 +73,7 @@ module _ (at : AtHandParts) (cover : IsCover at.hand) (p : Section) (o : Order) 
 
   pub parts_rise : Rise o.start (parts_of at p o)
   unfolding parts_of
-  parts_rise =
-      among_rise (lacking at.hand p.first o.end) (lacking_rise 0 at.hand cover.maximal p.first o.end)
+  parts_rise = among_rise (lacking at.hand p.first o.end) (lacking_rise 0 at.hand cover.maximal p.first o.end)
 
   -- A part begins where what is asked for does, or in the section.
   abbrev Begins : OffsetRange → Type 0
@@ -96,15 +94,13 @@ module _ (at : AtHandParts) (cover : IsCover at.hand) (p : Section) (o : Order) 
       → (r.start ≡ o.start) ⊎ (p.first ≤ r.start)
   begun_in [] r rise k = absurd k
   begun_in (g ∷ ranges) r rise (inl e) = inl (ap (λ (x : OffsetRange). x.start) e)
-  begun_in (g ∷ ranges) r rise (inr k) =
-      inr (rise_above p.first (g ∷ ranges) r rise (inr k))
+  begun_in (g ∷ ranges) r rise (inr k) = inr (rise_above p.first (g ∷ ranges) r rise (inr k))
 
   among_begin : (ranges : List OffsetRange) (r : OffsetRange) → Rise p.first ranges
       → In r (parts_among at p o ranges) → Begins r
   among_begin [] r rise (inl e) = inl (ap (λ (x : OffsetRange). x.start) e)
   among_begin [] r rise (inr k) = absurd k
-  among_begin (g ∷ ranges) r rise k =
-      elim (is_whole_needed at p o.start) as (λ b. In r
+  among_begin (g ∷ ranges) r rise k = elim (is_whole_needed at p o.start) as (λ b. In r
       (filter before_next (if b then begun_at o.start (g ∷ ranges) else g ∷ ranges)) → Begins r) [
         | true ↦ λ h.
             let s = (In-filter before_next (begun_at o.start (g ∷ ranges)) r).0 h in
@@ -119,8 +115,7 @@ module _ (at : AtHandParts) (cover : IsCover at.hand) (p : Section) (o : Order) 
 
   parts_begin : (r : OffsetRange) → In r (parts_of at p o) → Begins r
   unfolding parts_of
-  parts_begin r k =
-      among_begin (lacking at.hand p.first o.end) r (lacking_rise 0 at.hand cover.maximal p.first o.end) k
+  parts_begin r k = among_begin (lacking at.hand p.first o.end) r (lacking_rise 0 at.hand cover.maximal p.first o.end) k
 
 -- ---- and of all
 
@@ -149,8 +144,7 @@ module _ (at : AtHandParts) (notes : List NoteParts) where
   -- Where a section begins: at a head whose key and length end at its first byte, or there.
   begins_at : (first : ℕ) → ((n : NoteParts) × In n notes × (n.offset ≡ start_of notes first) × (covered_end n ≡ first))
       ⊎ (first ≡ start_of notes first)
-  begins_at first =
-      elim (find (is_head_to first) notes) as (λ o. find (is_head_to first) notes ≡ o
+  begins_at first = elim (find (is_head_to first) notes) as (λ o. find (is_head_to first) notes ≡ o
       → ((n : NoteParts) × In n notes × (n.offset ≡ option_map_or (λ m. m.offset) o first) × (covered_end n ≡ first))
       ⊎ (first ≡ option_map_or (λ m. m.offset) o first)) [
         | None ↦ λ e. inr refl
@@ -288,8 +282,7 @@ module _ (at : AtHandParts) (notes : List NoteParts) (content : IsContent notes)
   end_above claim e q =
       let open_end : Bool = option_map_or (λ c. c.is_open) claim false in
       let edge = edge_of at notes in
-      elim p.end as (λ o. p.end ≡ o → (o ≡ None) ⊎ ((d : ℕ) × (o ≡ Some d) × (p.first < d))
-      → (if is_some o then o
+      elim p.end as (λ o. p.end ≡ o → (o ≡ None) ⊎ ((d : ℕ) × (o ≡ Some d) × (p.first < d)) → (if is_some o then o
       else (if (nat_lt p.first (top_of notes) || nat_le (p.first + 25) edge) && not open_end
       then Some edge else None)) ≡ Some e → p.first < e) [
         | Some d ↦ λ n l h. elim l [

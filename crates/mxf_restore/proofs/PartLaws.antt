@@ -72,8 +72,7 @@ module _ (at : AtHandParts) where
       -- The range is a part, wherever the section ends: it goes up to the end of one that lacks, and begins where it
       -- has to.
       abbrev IsLackingPart : OffsetRange → Type 0
-      IsLackingPart r =
-          (q : OffsetRange) × IsLackingIn at p o q × (r.end ≡ q.end)
+      IsLackingPart r = (q : OffsetRange) × IsLackingIn at p o q × (r.end ≡ q.end)
           × ((IsFirstLacking at p o q × IsWholeNeeded at p o.start × (r.start ≡ o.start))
           ⊎ (((IsFirstLacking at p o q × IsWholeNeeded at p o.start) → ⊥) × (r.start ≡ q.start)))
 
@@ -158,8 +157,7 @@ module _ (at : AtHandParts) where
 
     pub parts_say : IsCover at.hand → (r : OffsetRange) → In r (parts_of at p o) ↔ IsPart at p o r.start r.end
     unfolding parts_of
-    parts_say cover r =
-        among_say (lacking at.hand p.first o.end) (lacking_rise 0 at.hand cover.maximal p.first o.end)
+    parts_say cover r = among_say (lacking at.hand p.first o.end) (lacking_rise 0 at.hand cover.maximal p.first o.end)
         (λ q. members at.hand p.first o.end q cover) r
 
   -- ---- orders

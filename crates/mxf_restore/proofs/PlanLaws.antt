@@ -36,11 +36,9 @@ same_ranks reasons.Unit reasons.Unit = refl
 same_ranks reasons.Unit _ = refl
 
 pub orders : (a b : Order) → (order_ord.ghosts).cmp a b ≡ order_cmp a b
-orders a b =
-    ap (λ r. ordering_then r (ordering_then (nat_cmp a.start b.start)
+orders a b = ap (λ r. ordering_then r (ordering_then (nat_cmp a.start b.start)
     (ordering_then (option_cmp nat_cmp a.end b.end) (ordering_then (option_cmp nat_cmp a.source b.source)
-    (ordering_then (bool_cmp a.inside b.inside) (bool_cmp a.again b.again))))))
-    (same_ranks a.reason b.reason)
+    (ordering_then (bool_cmp a.inside b.inside) (bool_cmp a.again b.again)))))) (same_ranks a.reason b.reason)
 
 pub disputed_places : (a b : DisputedPlace) → (disputed_place_ord.ghosts).cmp a b ≡ disputed_place_cmp a b
 disputed_places a b =
@@ -133,14 +131,12 @@ bool_total = record { antisymm = flip; trans = trans; congr = alike } where
   alike false true z e = absurd cc
 
 pub order_total : IsTotalOrder order_cmp
-order_total =
-    then_total (on_total (λ o. reason_rank o.reason) nat_cmp_total)
+order_total = then_total (on_total (λ o. reason_rank o.reason) nat_cmp_total)
     (then_total (on_total (λ o. o.start) nat_cmp_total)
     (then_total (on_total (λ o. o.end) (options_total nat_cmp_total))
     (then_total (on_total (λ o. o.source) (options_total nat_cmp_total))
     (then_total (on_total (λ o. o.inside) bool_total) (on_total (λ o. o.again) bool_total)))))
 
 pub disputed_place_total : IsTotalOrder disputed_place_cmp
-disputed_place_total =
-    then_total (on_total (λ d. reason_rank d.reason) nat_cmp_total)
+disputed_place_total = then_total (on_total (λ d. reason_rank d.reason) nat_cmp_total)
     (then_total (on_total (λ d. d.place) nat_cmp_total) (on_total (λ d. d.source) (options_total nat_cmp_total)))

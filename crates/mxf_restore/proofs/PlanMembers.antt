@@ -41,8 +41,7 @@ module _ (at : AtHandParts) (notes : List NoteParts) where
 
   pub gap_ordered : (x : ℕ) → IsContent notes → IsGap notes x → x < edge_of at notes
       → LiesIn at.hand x ⊎ ((o : Order) × In o (plan_of at notes).orders × LiesInOrder o x)
-  gap_ordered x content g edge =
-      elim (has_offset at.hand x) as (λ b. has_offset at.hand x ≡ b
+  gap_ordered x content g edge = elim (has_offset at.hand x) as (λ b. has_offset at.hand x ≡ b
       → LiesIn at.hand x ⊎ ((o : Order) × In o (plan_of at notes).orders × LiesInOrder o x)) [
         | true ↦ λ e. inl ((has_offset-says at.hand x).0 e)
         | false ↦ λ e.

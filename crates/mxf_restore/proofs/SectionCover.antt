@@ -203,14 +203,12 @@ one_hole notes h k x a b u v =
 
 -- Where a claim cuts.
 cuts_say : (c : Claim) (x : ℕ) → (cut_of c ≡ Some x) ↔ CutsAt c x
-cuts_say c x =
-    named_says c (if c.is_open then None else Some c.end) x false (c.end ≡ x) (closed_says c.is_open c.end x)
+cuts_say c x = named_says c (if c.is_open then None else Some c.end) x false (c.end ≡ x) (closed_says c.is_open c.end x)
 
 module _ (notes : List NoteParts) (content : IsContent notes) where
   rising : IsRisingBy (λ x. x) (cuts_of notes)
   unfolding cuts_of
-  rising =
-      by_itself (cuts_of notes) (IsRising-union nat_cmp_total nat_cmp-IsAntisymmetric []
+  rising = by_itself (cuts_of notes) (IsRising-union nat_cmp_total nat_cmp-IsAntisymmetric []
       (filter (λ x. is_in_file notes x && not (is_held notes x)) (filter_map cut_of (claims_of notes))) tt)
 
   pub is_cut : (x : ℕ) → In x (cuts_of notes) ↔ IsCut notes x
@@ -239,8 +237,7 @@ module _ (notes : List NoteParts) (content : IsContent notes) where
       )
 
   cuts_in : (h : OffsetRange) → IsHole notes h → Cuts h h.start (filter (is_inside h) (cuts_of notes))
-  cuts_in h is =
-      are_cuts h h.start (filter (is_inside h) (cuts_of notes)) is.some.1
+  cuts_in h is = are_cuts h h.start (filter (is_inside h) (cuts_of notes)) is.some.1
       (rises-filter (λ x. x) (is_inside h) (cuts_of notes) rising)
       (λ c k. (inside h c).0 ((In-filter (is_inside h) (cuts_of notes) c).0 k).1)
 
@@ -261,8 +258,7 @@ module _ (notes : List NoteParts) (content : IsContent notes) where
 
   one_there : (h k : OffsetRange) (p q : Section) (x : ℕ) → IsHole notes k → h ≡ k → IsPieceOf h p → IsPieceOf k q
       → LiesInSection p x → LiesInSection q x → p ≡ q
-  one_there h k p q x is e i j a b =
-      one_piece k k.start (filter (is_inside k) (cuts_of notes)) p q x (cuts_in k is)
+  one_there h k p q x is e i j a b = one_piece k k.start (filter (is_inside k) (cuts_of notes)) p q x (cuts_in k is)
       (subst (λ o. IsPieceOf o p) e i) j a b
 
   pub are_sections : AreSections notes (sections_of notes)

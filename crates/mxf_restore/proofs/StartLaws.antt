@@ -56,8 +56,7 @@ module _ (notes : List NoteParts) where
       )
 
   pub start_is : IsContent notes → (first : ℕ) → IsStartOf notes first (start_of notes first)
-  start_is content first =
-      elim (find (is_head_to first) notes) as (λ o. find (is_head_to first) notes ≡ o
+  start_is content first = elim (find (is_head_to first) notes) as (λ o. find (is_head_to first) notes ≡ o
       → IsStartOf notes first (option_map_or (λ n. n.offset) o first)) [
         | None ↦ λ e. inr (
           refl,

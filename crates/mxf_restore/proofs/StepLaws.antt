@@ -51,8 +51,7 @@ module _ (x : ℕ) where
       ] refl
 
   pub value-overlay : (u : Option Claim) (above : List Step) (l : Option Claim) (below : List Step)
-      → value_from (option_or u l) (overlay u above l below) x
-      ≡ option_or (value_from u above x) (value_from l below x)
+      → value_from (option_or u l) (overlay u above l below) x ≡ option_or (value_from u above x) (value_from l below x)
   value-overlay u [] l [] = refl
   value-overlay u [] l (b ∷ below) =
       elim (nat_le b.from x) as (λ t. (if t then value_from (option_or u b.claim) (overlay u [] b.claim below) x
@@ -72,8 +71,7 @@ never-with : (low : ℕ) (u : Option Claim) (a : Step) (above : List Step)
     → NeverFall a.from (overlay a.claim above l below)) → (l : Option Claim) (below : List Step) → low ≤ a.from
     → NeverFall low below → NeverFall low (overlay_with (overlay a.claim above) u a l below)
 never-with low u a above ih l [] h r = (h, ih l [] tt)
-never-with low u a above ih l (b ∷ below) h r =
-    elim (nat_le a.from b.from) as (λ t. nat_le a.from b.from ≡ t
+never-with low u a above ih l (b ∷ below) h r = elim (nat_le a.from b.from) as (λ t. nat_le a.from b.from ≡ t
     → NeverFall low (if t then step a.from a.claim l ∷ overlay a.claim above l (b ∷ below)
     else step b.from u b.claim ∷ overlay_with (overlay a.claim above) u a b.claim below)) [
       | true ↦ λ e. (h, ih l (b ∷ below) (leb-true a.from b.from e, r.1))
@@ -131,8 +129,7 @@ value_passed v (s ∷ steps) x zero d h below above =
 value_passed v (s ∷ steps) x (suc k) d h below above =
     let l : s.from ≤ x = below 0 d (omega arith) (omega arith) in
     let e : nat_le s.from x ≡ true = le-leb s.from x l in
-    ap (λ t. if t then value_from s.claim steps x else v) e
-    ∙ value_passed s.claim steps x k d (omega arith)
+    ap (λ t. if t then value_from s.claim steps x else v) e ∙ value_passed s.claim steps x k d (omega arith)
     (λ j z m n. below (suc j) z (omega arith) (omega arith)) (λ j z m n. above (suc j) z (omega arith) (omega arith))
     ∙ same s steps d k
   where

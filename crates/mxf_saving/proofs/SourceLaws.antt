@@ -64,8 +64,7 @@ one_place : (text : List ℕ) (p q : ℕ × List ℕ) → ReadsPlace text (Ok p)
 one_place text (m, x) (n, y) (p, (a, u)) (q, (b, v)) = grind (arith, same_split text a b x y m n u v)
 
 place_or_fault : (text : List ℕ) (p : ℕ × List ℕ) (d : SourceWordFault) → ReadsPlace text (Ok p)
-    → ReadsPlace text (Err d)
-    → ⊥
+    → ReadsPlace text (Err d) → ⊥
 place_or_fault text (m, x) NoScheme p q = q
 place_or_fault text (m, x) BadOffset (p, (a, u)) q = q a x m u
 place_or_fault text (m, x) NoPath (p, (a, u)) (b, n, v) =
@@ -89,8 +88,7 @@ placed_or_fault text r p NoPath at u (inr (s, f, v)) =
     place_or_fault r p NoPath u (subst (λ (t : List ℕ). ReadsPlace t (Err NoPath)) (same_placed text r s at f) v)
 
 one_or_fault : (text : List ℕ) (y : SourceParts) (d : SourceWordFault) → ReadsSource text (Ok y)
-    → ReadsSource text (Err d)
-    → ⊥
+    → ReadsSource text (Err d) → ⊥
 one_or_fault text (Piece m x) d (r, e, u) q = placed_or_fault text r (m, x) d (inl e) u q
 one_or_fault text (Range m x) d (r, e, u) q = placed_or_fault text r (m, x) d (inr e) u q
 one_or_fault text (Saved x) NoScheme p q = (q x).1 p.0
@@ -129,8 +127,7 @@ one_source text (Err d) (Ok y) p q = absurd (one_or_fault text y d q p)
 one_source text (Err d) (Err e) p q = ap (λ (f : SourceWordFault). Err f) (one_fault d e p q) where
   not_both : (s t : List ℕ) → IsPlaced text s → IsPlaced text t → ReadsPlace s (Err BadOffset)
       → ReadsPlace t (Err NoPath) → ⊥
-  not_both s t e f u (b, n, v) =
-      u b [] n (subst (λ (l : List ℕ). SplitsSource l b [] n) (same_placed text s t e f) v)
+  not_both s t e f u (b, n, v) = u b [] n (subst (λ (l : List ℕ). SplitsSource l b [] n) (same_placed text s t e f) v)
 
   one_fault : (d e : SourceWordFault) → ReadsSource text (Err d) → ReadsSource text (Err e) → d ≡ e
   one_fault NoScheme NoScheme p q = refl

@@ -56,8 +56,7 @@ In-sized_items (suc count) size bytes item (inr k) =
     let at : size + place * size ≡ suc place * size = omega arith in (
       suc place,
       omega (arith, r.1),
-      r.2 ∙ ap (take size)
-          (drop-drop (place * size) size bytes ∙ ap (λ (k : ℕ). drop k bytes) at),
+      r.2 ∙ ap (take size) (drop-drop (place * size) size bytes ∙ ap (λ (k : ℕ). drop k bytes) at),
     )
 
 sized_items-In : (count size place : ℕ) (bytes : List ℕ) → place < count
@@ -105,8 +104,7 @@ only_label tag b label = (
       let there = In-sized_items b.count b.size b.items some.0 some.1 in
       record {
         some = (there.0, there.1, ap (big_number 2) (sym there.2) ∙ some.2);
-        each = λ place room is. says.1 (label_at b place)
-            (labels_among-In tag (batch_items b) (item_in b place)
+        each = λ place room is. says.1 (label_at b place) (labels_among-In tag (batch_items b) (item_in b place)
             (sized_items-In b.count b.size place b.items room) is);
       },
   λ only.

@@ -67,8 +67,7 @@ number_there n at bytes room h =
 -- the eleven numbers at their places, and what follows them
 numbers_there : (bytes : List ℕ) → 64 ≤ length bytes → AreBytes bytes → bytes ≡ numbers_bytes (numbers_in bytes)
     ++ drop 64 bytes
-numbers_there bytes room h =
-    number_here 2 bytes (omega arith) h
+numbers_there bytes room h = number_here 2 bytes (omega arith) h
     ∙ ap (λ (t : List ℕ). big_bytes 2 (big_number 2 bytes) ++ t) (number_there 2 2 bytes (omega arith) h
     ∙ ap (λ (t : List ℕ). big_bytes 2 (big_number 2 (drop 2 bytes)) ++ t) (number_there 4 4 bytes (omega arith) h
     ∙ ap (λ (t : List ℕ). big_bytes 4 (big_number 4 (drop 4 bytes)) ++ t) (number_there 8 8 bytes (omega arith) h

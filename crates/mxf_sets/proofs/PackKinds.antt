@@ -11,8 +11,7 @@ use Rattle.mxf_sets.specs.declared.pack.part.PackPart.TheVariants.{Body, Footer,
 use Rattle.mxf_klv.specs.declared.kinds.Kind.TheVariants as kinds
 use Rattle.mxf_sets.specs.declared.pack.PackFault.TheVariants as faults
 
-pub pack_kind_tells : (part : PackPart) → (s : Status)
-    → is_some (part_and_status (pack_kind part s)) ≡ true
+pub pack_kind_tells : (part : PackPart) → (s : Status) → is_some (part_and_status (pack_kind part s)) ≡ true
 pack_kind_tells Header s = refl
 pack_kind_tells Body s = refl
 pack_kind_tells Footer s = refl
@@ -29,8 +28,7 @@ kind_tells k s = ap (λ (x : Kind). is_some (part_and_status x)) s.2 ∙ pack_ki
 -- The part and the status of a pack are those that its key tells.
 pub part_is : (key : PackPart × Status) (v : List ℕ) (pack : PartitionPackParts)
     → result_ok (pack_under (Some key) v) ≡ Some pack → (pack.part ≡ key.0) × (pack.status ≡ key.1)
-part_is key v pack e =
-    elim (nat_le 88 (length v)) as (λ b.
+part_is key v pack e = elim (nat_le 88 (length v)) as (λ b.
     result_ok (cond b (cond (is_batch 16 (drop 80 v)) (Ok (pack_in key v)) (Err faults.BadBatch)) (Err faults.Short))
     ≡ Some pack → (pack.part ≡ key.0) × (pack.status ≡ key.1)) [
       | true ↦ elim (is_batch 16 (drop 80 v)) as (λ b.

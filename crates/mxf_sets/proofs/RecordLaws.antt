@@ -113,8 +113,7 @@ meets_checked fields items x h =
 
 pub read_meets : (fields : List Field) (bytes : List ℕ) (items : List ItemParts) → AreBytes bytes
     → fields_at fields bytes ≡ Ok items → AreItems bytes items × AllByRecursion (Meets items) fields
-read_meets fields bytes items h r =
-    elim (length (left_of bytes) == 0) as (λ b. (length (left_of bytes) == 0) ≡ b
+read_meets fields bytes items h r = elim (length (left_of bytes) == 0) as (λ b. (length (left_of bytes) == 0) ≡ b
     → cond b (checked fields (items_of bytes) (items_of bytes)) (Err (Set (length bytes - length (left_of bytes))))
     ≡ Ok items → AreItems bytes items × AllByRecursion (Meets items) fields) [
       | true ↦ λ e q.

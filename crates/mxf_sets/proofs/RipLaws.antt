@@ -19,8 +19,7 @@ length-entries_by zero xs = refl
 length-entries_by (suc n) xs = ap suc (length-entries_by n (drop 12 xs))
 
 pub number_here : (n : ℕ) (xs : List ℕ) → n ≤ length xs → AreBytes xs → xs ≡ big_bytes n (big_number n xs) ++ drop n xs
-number_here n xs room h =
-    number_in_front n (big_number n xs) xs (take n xs) (drop n xs) refl refl
+number_here n xs room h = number_in_front n (big_number n xs) xs (take n xs) (drop n xs) refl refl
     (sym (big_from-take 0 n n xs (omega arith))) room (AreBytes-take n xs h)
 
 entry_here : (xs : List ℕ) → 12 ≤ length xs → AreBytes xs → xs ≡ entry_bytes (entry_in xs) ++ drop 12 xs
@@ -71,8 +70,7 @@ pub same_entry : (a b : RipEntry) → a.body_sid ≡ b.body_sid → a.offset ≡
 same_entry a b e f i = record { body_sid = e i; offset = f i }
 
 same_entries : (es fs : List RipEntry) (xs ys : List ℕ) → length es ≡ length fs → AllByRecursion IsEntry es
-    → AllByRecursion IsEntry fs
-    → flat_map entry_bytes es ++ xs ≡ flat_map entry_bytes fs ++ ys → (es ≡ fs) × (xs ≡ ys)
+    → AllByRecursion IsEntry fs → flat_map entry_bytes es ++ xs ≡ flat_map entry_bytes fs ++ ys → (es ≡ fs) × (xs ≡ ys)
 same_entries [] [] xs ys len p q e = (refl, e)
 same_entries [] (b ∷ fs) xs ys len p q e = absurd (omega arith)
 same_entries (a ∷ es) [] xs ys len p q e = absurd (omega arith)

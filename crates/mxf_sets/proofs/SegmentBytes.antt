@@ -14,8 +14,7 @@ use Rattle.mxf_sets.specs.Segment.{segment_bytes}
 
 -- the item of the entries by the parts that are written
 pub entry_parts : (s : SegmentParts) (e : List ℕ) (size : ℕ) → e ≡ s.entries → size ≡ entry_size s.numbers
-    → item_bytes (entry_item s)
-    ≡ (to_be_bytes w16 ENTRIES ++ to_be_bytes w16 (8 + length e))
+    → item_bytes (entry_item s) ≡ (to_be_bytes w16 ENTRIES ++ to_be_bytes w16 (8 + length e))
     ++ ((big_bytes 4 (length e / size) ++ big_bytes 4 size) ++ e)
 entry_parts s e size same sized =
     let head = big_bytes 4 (entry_count s) ++ big_bytes 4 (entry_size s.numbers) in
@@ -29,8 +28,7 @@ entry_parts s e size same sized =
 pub entry_written : (s : SegmentParts) (e : List ℕ) (size : ℕ) (first second : List ℕ) → e ≡ s.entries
     → size ≡ entry_size s.numbers → first ≡ to_be_bytes w16 ENTRIES ++ to_be_bytes w16 (8 + length e)
     → second ≡ big_bytes 4 (length e / size) ++ big_bytes 4 size → item_bytes (entry_item s) ≡ first ++ (second ++ e)
-entry_written s e size first second same sized is1 is2 =
-    entry_parts s e size same sized
+entry_written s e size first second same sized is1 is2 = entry_parts s e size same sized
     ∙ ap (λ (t : List ℕ). t ++ ((big_bytes 4 (length e / size) ++ big_bytes 4 size) ++ e)) (sym is1)
     ∙ ap (λ (t : List ℕ). first ++ (t ++ e)) (sym is2)
 
@@ -38,8 +36,7 @@ entry_written s e size first second same sized is1 is2 =
 pub numbers_written : (n : SegmentNumbers) (rate start duration unit_bytes index_sid body_sid : List ℕ)
     → rate ≡ big_bytes 4 (cast_unsigned w32 n.edit_rate.0) ++ big_bytes 4 (cast_unsigned w32 n.edit_rate.1)
     → start ≡ big_bytes 8 (cast_unsigned w64 n.start) → duration ≡ big_bytes 8 (cast_unsigned w64 n.duration)
-    → unit_bytes ≡ big_bytes 4 n.unit_bytes → index_sid ≡ big_bytes 4 n.index_sid
-    → body_sid ≡ big_bytes 4 n.body_sid
+    → unit_bytes ≡ big_bytes 4 n.unit_bytes → index_sid ≡ big_bytes 4 n.index_sid → body_sid ≡ big_bytes 4 n.body_sid
     → item EDIT_RATE rate ∷ item START start ∷ item DURATION duration ∷ item UNIT_BYTES unit_bytes
     ∷ item INDEX_SID index_sid ∷ item BODY_SID body_sid
     ∷ item SLICES (n.slices ∷ []) ∷ item POSITIONS (n.positions ∷ []) ∷ [] ≡ number_items n
@@ -54,8 +51,7 @@ pub constant_bytes : (s : SegmentParts) (n : SegmentNumbers) → n ≡ s.numbers
     → segment_bytes s ≡ flat_map item_bytes (number_items n)
 constant_bytes s n is h =
     let some : 0 < s.numbers.unit_bytes = subst (λ (m : SegmentNumbers). 0 < m.unit_bytes) is h in
-    by_parts s s.numbers refl
-    ∙ ap (λ (b : Bool). flat_map item_bytes (number_items s.numbers)
+    by_parts s s.numbers refl ∙ ap (λ (b : Bool). flat_map item_bytes (number_items s.numbers)
     ++ flat_map item_bytes (cond b [] (entry_item s ∷ []))) (lt-ltb 0 s.numbers.unit_bytes some)
     ∙ append-nil (flat_map item_bytes (number_items s.numbers))
     ∙ ap (λ (m : SegmentNumbers). flat_map item_bytes (number_items m)) (sym is)
@@ -64,8 +60,7 @@ pub entries_bytes : (s : SegmentParts) (n : SegmentNumbers) → n ≡ s.numbers 
     → segment_bytes s ≡ flat_map item_bytes (number_items n) ++ item_bytes (entry_item s)
 entries_bytes s n is h =
     let none : s.numbers.unit_bytes ≤ 0 = subst (λ (m : SegmentNumbers). m.unit_bytes ≤ 0) is h in
-    by_parts s s.numbers refl
-    ∙ ap (λ (b : Bool). flat_map item_bytes (number_items s.numbers)
+    by_parts s s.numbers refl ∙ ap (λ (b : Bool). flat_map item_bytes (number_items s.numbers)
     ++ flat_map item_bytes (cond b [] (entry_item s ∷ []))) (le-ltb 0 s.numbers.unit_bytes none)
     ∙ ap (λ (t : List ℕ). flat_map item_bytes (number_items s.numbers) ++ t) (append-nil (item_bytes (entry_item s)))
     ∙ ap (λ (m : SegmentNumbers). flat_map item_bytes (number_items m) ++ item_bytes (entry_item s)) (sym is)

@@ -39,8 +39,7 @@ byte_back : (x : ℕ) → x * 256 ^ 0 + 0 ≡ x
 byte_back x = omega arith
 
 same_numbers : (n : SegmentNumbers) (a b s d : ℤ) (u i o l p : ℕ) → a ≡ n.edit_rate.0 → b ≡ n.edit_rate.1 → s ≡ n.start
-    → d ≡ n.duration → u ≡ n.unit_bytes → i ≡ n.index_sid → o ≡ n.body_sid
-    → l ≡ n.slices → p ≡ n.positions
+    → d ≡ n.duration → u ≡ n.unit_bytes → i ≡ n.index_sid → o ≡ n.body_sid → l ≡ n.slices → p ≡ n.positions
     → record {
       edit_rate = (a, b);
       start = s;
@@ -75,8 +74,7 @@ fields_back items each c =
     let o = only_items items each in
     let b = flat_map item_bytes items in
     ap (λ (l : List ℕ). cond (length l == 0) (checked segment_fields (items_of b) (items_of b))
-    (Err (Set (length b - length l)))) o.1
-    ∙ ap (λ (it : List ItemParts). checked segment_fields it it) o.0 ∙ c
+    (Err (Set (length b - length l)))) o.1 ∙ ap (λ (it : List ItemParts). checked segment_fields it it) o.0 ∙ c
 
 is_item : (tag : ℕ) (value : List ℕ) → tag < 65536 → length value < 65536 → IsItem (item tag value)
 is_item tag value t v = record { tag = t; value = v }
@@ -127,11 +125,9 @@ read_entries s are is none =
     let last : IsItem (entry_item s) =
     is_item ENTRIES ((big_bytes 4 (entry_count s) ++ big_bytes 4 (entry_size n)) ++ s.entries) (omega arith)
     (omega (arith, room, length-append (big_bytes 4 (entry_count s) ++ big_bytes 4 (entry_size n)) s.entries)) in
-    ap segment_at bytes
-    ∙ ap (then_segment segment_of)
+    ap segment_at bytes ∙ ap (then_segment segment_of)
     (fields_back (number_items n ++ (entry_item s ∷ [])) (are_number_items n (entry_item s ∷ []) (last, tt))
-    (checked_entries n (entry_item s).value))
-    ∙ sym (segment_made (number_items n ++ (entry_item s ∷ [])) n s.entries
+    (checked_entries n (entry_item s).value)) ∙ sym (segment_made (number_items n ++ (entry_item s ∷ [])) n s.entries
     (sym (numbers_back n (entry_item s ∷ []) are)) (entries_back s are is none) (not_negative n.start is.start)
     (not_negative n.duration is.duration))
 

@@ -27,16 +27,14 @@ differing : (labels : List (List ℕ)) → with_labels (Some None) labels ≡ So
 differing [] = refl
 differing (label ∷ labels) = differing labels
 
-following_by : (own : List ℕ) (labels : List (List ℕ)) (same : Bool)
-    → with_labels (Some (Some own)) labels
+following_by : (own : List ℕ) (labels : List (List ℕ)) (same : Bool) → with_labels (Some (Some own)) labels
     ≡ Some (if list_all (λ other. bytes_eq own other) labels then Some own else None)
     → with_labels (Some (if same then Some own else None)) labels
     ≡ Some (if same && list_all (λ other. bytes_eq own other) labels then Some own else None)
 following_by own labels true rest = rest
 following_by own labels false rest = differing labels
 
-following : (own : List ℕ) (labels : List (List ℕ))
-    → with_labels (Some (Some own)) labels
+following : (own : List ℕ) (labels : List (List ℕ)) → with_labels (Some (Some own)) labels
     ≡ Some (if list_all (λ other. bytes_eq own other) labels then Some own else None)
 following own [] = refl
 following own (label ∷ labels) = following_by own labels (bytes_eq own label) (following own labels)
@@ -51,13 +49,11 @@ IsTold table left all = (tag : ℕ)
     → with_labels (lookup (is_at (nat_cmp tag)) table) (labels_among tag left) ≡ with_labels None (labels_among tag all)
 
 abbrev labels_first : Bool → ℕ → List ℕ → List (List ℕ) → List (List ℕ)
-labels_first has tag entry left =
-    map (λ x. drop 2 x) (if has then entry ∷ filter (λ x. big_number 2 x == tag) left
+labels_first has tag entry left = map (λ x. drop 2 x) (if has then entry ∷ filter (λ x. big_number 2 x == tag) left
     else filter (λ x. big_number 2 x == tag) left)
 
 told_by : (old new : List (ℕ × Option (List ℕ))) (entry : List ℕ) (left all : List (List ℕ)) (agreed : Option (List ℕ))
-    (tag : ℕ) (has : Bool)
-    → (big_number 2 entry == tag) ≡ has
+    (tag : ℕ) (has : Bool) → (big_number 2 entry == tag) ≡ has
     → Some agreed ≡ with_label (lookup (is_at (nat_cmp (big_number 2 entry))) old) (drop 2 entry)
     → lookup (is_at (nat_cmp tag)) new
     ≡ cond (is_at (nat_cmp (big_number 2 entry)) tag) (Some agreed) (lookup (is_at (nat_cmp tag)) old)
@@ -71,15 +67,13 @@ told_by old new entry left all agreed tag true same told updates before =
     let own = subst (λ (t : ℕ). Some agreed ≡ with_label (lookup (is_at (nat_cmp t)) old) (drop 2 entry)) at told in
     let first = ap (λ (b : Bool). with_labels (lookup (is_at (nat_cmp tag)) old)
     (labels_first b tag entry left)) same in
-    ap (λ (t : Option (Option (List ℕ))). with_labels t (labels_among tag left)) (here ∙ own)
-    ∙ sym first ∙ before
+    ap (λ (t : Option (Option (List ℕ))). with_labels t (labels_among tag left)) (here ∙ own) ∙ sym first ∙ before
 told_by old new entry left all agreed tag false other told updates before =
     let there = updates ∙ ap (λ (b : Bool). cond b (Some agreed) (lookup (is_at (nat_cmp tag)) old))
     (at_other (big_number 2 entry) tag other) in
     let first = ap (λ (b : Bool). with_labels (lookup (is_at (nat_cmp tag)) old)
     (labels_first b tag entry left)) other in
-    ap (λ (t : Option (Option (List ℕ))). with_labels t (labels_among tag left)) there
-    ∙ sym first ∙ before
+    ap (λ (t : Option (Option (List ℕ))). with_labels t (labels_among tag left)) there ∙ sym first ∙ before
 
 -- The label of one more entry stands in the table.
 pub told_with : (old new : List (ℕ × Option (List ℕ))) (entry : List ℕ) (left all : List (List ℕ))
@@ -99,6 +93,5 @@ told_all table entries told tag = ap agreed_in (told tag) ∙ agreed_told (label
 -- A table without an entry tells nothing yet.
 pub told_none : (table : List (ℕ × Option (List ℕ))) (entries : BatchParts) → table ≡ []
     → IsTold table (batch_items entries) (batch_items entries)
-told_none table entries empty tag =
-    ap (λ (t : List (ℕ × Option (List ℕ))). with_labels (lookup (is_at (nat_cmp tag)) t)
+told_none table entries empty tag = ap (λ (t : List (ℕ × Option (List ℕ))). with_labels (lookup (is_at (nat_cmp tag)) t)
     (labels_among tag (batch_items entries))) empty

@@ -41,8 +41,7 @@ within-is zone offset f limit x is has =
 
 is-within : (zone : EssenceZone) (offset : ℕ) → zone.body_offset ≤ offset → IsWithin zone offset
     → is_behind zone offset ≡ false
-is-within zone offset low within =
-    elim zone.limit as (λ (o : Option ℕ). zone.limit ≡ o
+is-within zone offset low within = elim zone.limit as (λ (o : Option ℕ). zone.limit ≡ o
     → option_map_or (λ l. nat_lt l (file_offset zone offset)) o false ≡ false) [
       | None ↦ λ e. refl
       | Some limit ↦ λ e. le-ltb limit (file_offset zone offset)
@@ -74,8 +73,7 @@ module _ (notes : List NoteParts) (index_sid unit : ℕ) where
     λ h.
         let s = and_parts (nat_lt (unit + 1) (2 ^ 64)) (is_given p (unit + 1) segments) h in
         (ltb-true _ _ s.0, (given-says p).0 s.1),
-    λ o. and_from (nat_lt (unit + 1) (2 ^ 64)) (is_given p (unit + 1) segments) (lt-ltb _ _ o.0)
-        ((given-says p).1 o.1),
+    λ o. and_from (nat_lt (unit + 1) (2 ^ 64)) (is_given p (unit + 1) segments) (lt-ltb _ _ o.0) ((given-says p).1 o.1),
   )
 
   module _ (body_sid offset : ℕ) (zone : EssenceZone) where
@@ -170,14 +168,11 @@ module _ (notes : List NoteParts) (index_sid unit : ℕ) where
 
     says_end : (end : Option ℕ) → zone.body_offset ≤ offset → Ends end
         → (extent_in zone offset (end_place segments zone unit body_sid offset)).end ≡ end
-    says_end (Some end) low (inl n) =
-        ap (λ o. (extent_in zone offset o).end) ((end_place-is (Some n.0) low).1 n.1)
+    says_end (Some end) low (inl n) = ap (λ o. (extent_in zone offset o).end) ((end_place-is (Some n.0) low).1 n.1)
         ∙ ap (λ (x : ℕ). Some x) (offset_is zone n.0 end n.2)
-    says_end (Some end) low (inr last) =
-        ap (λ o. (extent_in zone offset o).end) ((end_place-is None low).1 last.0)
+    says_end (Some end) low (inr last) = ap (λ o. (extent_in zone offset o).end) ((end_place-is None low).1 last.0)
         ∙ ap (λ b. if b then zone.limit else None) last.1 ∙ last.2
-    says_end None low last =
-        ap (λ o. (extent_in zone offset o).end) ((end_place-is None low).1 last.0)
+    says_end None low last = ap (λ o. (extent_in zone offset o).end) ((end_place-is None low).1 last.0)
         ∙ no_limit zone.is_sure zone.limit last.1
 
     pub extent_end-is : (end : Option ℕ) → zone.body_offset ≤ offset

@@ -25,8 +25,7 @@ module _ (notes : List NoteParts) (index_sid unit : ℕ) where
   listed = filter_map entry_in (segments_for notes index_sid)
 
   In-listed : (e : IndexEntry) → Lists notes index_sid unit e → In e listed
-  In-listed e l =
-      (In-filter_map entry_in (segments_for notes index_sid) e).1
+  In-listed e l = (In-filter_map entry_in (segments_for notes index_sid) e).1
       (l.by, (of_index notes index_sid l.by).1 (l.held, l.index), l.entry)
 
   listed-In : (e : IndexEntry) → In e listed → Lists notes index_sid unit e
@@ -93,8 +92,7 @@ before unit n false fits e = λ key at below.
     let high = leb-false (suc n) unit e in omega (arith, ints, at, high)
 
 key_by-is : (unit : ℕ) (d : ℤ) → unit < 2 ^ 64 → IsKeyFrame unit d (key_by unit d)
-key_by-is unit (pos n) fits =
-    grind (arith, nat_le, nat_lt, false_from_ne_true, ltb-true, pos, after)
+key_by-is unit (pos n) fits = grind (arith, nat_le, nat_lt, false_from_ne_true, ltb-true, pos, after)
 key_by-is unit (negsuc n) fits = before unit n (nat_le (suc n) unit) fits refl
 
 -- ---- what the unit says

@@ -157,8 +157,7 @@ module _ (known : KnownParts) (index_sid unit : ℕ) where
       let low : zone.body_offset ≤ place.offset = omega (arith, at, from) in
       subst (IsExtentOf known.notes index_sid unit) (same_Some _ _ g.1)
       (extent-of known.notes index_sid unit place.body_sid place.offset zone low l.extent
-      (in_zone zone place.offset low)
-      (extent_end-told known.notes index_sid unit place.body_sid place.offset zone low)
+      (in_zone zone place.offset low) (extent_end-told known.notes index_sid unit place.body_sid place.offset zone low)
       (told-within known zone l.extent (standing_in known l) (standing-says known l) g.0) only is)
 
   by-place : (place : Result StreamPlace UnitStanding) (e : Extent) → IsPlacing known.notes index_sid unit place
@@ -167,12 +166,10 @@ module _ (known : KnownParts) (index_sid unit : ℕ) where
       (location_at (parts_of known.notes) (segments_for known.notes index_sid) unit place) ≡ Some e
       → IsExtentOf known.notes index_sid unit e
   by-place (Err w) e is h = absurd cc
-  by-place (Ok p) e is h =
-      by-zone p (zone_at (parts_of known.notes) p.body_sid p.offset) e is
+  by-place (Ok p) e is h = by-zone p (zone_at (parts_of known.notes) p.body_sid p.offset) e is
       (zone-says known.notes p.body_sid p.offset) h
 
   pub extent-is : (e : Extent) → (unit_of known index_sid unit).extent ≡ Some e
       → IsExtentOf known.notes index_sid unit e
   unfolding unit_of location_of
-  extent-is e h =
-      by-place (place_of (segments_for known.notes index_sid) unit) e (placing known.notes index_sid unit) h
+  extent-is e h = by-place (place_of (segments_for known.notes index_sid) unit) e (placing known.notes index_sid unit) h

@@ -73,9 +73,7 @@ location-untold notes index_sid unit v e =
 
 -- ---- held, or held or at hand
 
-last_tests : (a b c d e f : Bool) (w : UnitStanding)
-    → (if a then standings.Elsewhere
-    else (if b then standings.Unsure
+last_tests : (a b c d e f : Bool) (w : UnitStanding) → (if a then standings.Elsewhere else (if b then standings.Unsure
     else (if c then standings.Disputed
     else (if d then standings.Missing
     else (if e then standings.Held else (if f then standings.Hand else standings.Part)))))) ≡ w
@@ -91,8 +89,7 @@ last_tests false false false false false false w h = (λ g. absurd (cc (h, g)), 
 asked_is : (e : Extent) (end : ℕ) → e.end ≡ Some end → asked_end e ≡ end
 asked_is e end some = ap (λ (o : Option ℕ). unwrap_or o (e.start + 1)) some
 
-held-in : (known : KnownParts) (l : Location) → standing_in known l ≡ standings.Held
-    → IsHeldWhole known.notes l.extent
+held-in : (known : KnownParts) (l : Location) → standing_in known l ≡ standings.Held → IsHeldWhole known.notes l.extent
 held-in known l h =
     let end = asked_end l.extent in
     let s = and_parts (is_some l.extent.end) (are_all_held known.notes l.extent.start end)
@@ -130,16 +127,14 @@ told-by known w P told f (Ok l) g h = (
   f l h,
 )
 
-pub held_units : (known : KnownParts) (index_sid unit : ℕ)
-    → (unit_of known index_sid unit).standing ≡ standings.Held
+pub held_units : (known : KnownParts) (index_sid unit : ℕ) → (unit_of known index_sid unit).standing ≡ standings.Held
     → (e : Extent) × ((unit_of known index_sid unit).extent ≡ Some e) × IsHeldWhole known.notes e
 unfolding unit_of
 held_units known index_sid unit h =
     told-by known standings.Held (IsHeldWhole known.notes) refl (held-in known) (location_of known.notes index_sid unit)
     (location-untold known.notes index_sid unit) h
 
-pub known_units : (known : KnownParts) (index_sid unit : ℕ)
-    → (unit_of known index_sid unit).standing ≡ standings.Hand
+pub known_units : (known : KnownParts) (index_sid unit : ℕ) → (unit_of known index_sid unit).standing ≡ standings.Hand
     → (e : Extent) × ((unit_of known index_sid unit).extent ≡ Some e) × IsKnownWhole known e
 unfolding unit_of
 known_units known index_sid unit h =

@@ -99,8 +99,7 @@ module _ {K : Type 0} (first end : K → ℕ) where
           let t = length-take begun xs in omega (arith, e, t)
 
       subst_front : AllByRecursion (λ x. end x < at) (take k xs) → AllByRecursion (λ x. end x < at) (take k front)
-      subst_front a =
-          subst (λ (ys : List K). AllByRecursion (λ x. end x < at) ys)
+      subst_front a = subst (λ (ys : List K). AllByRecursion (λ x. end x < at) ys)
           (sym (take-take k begun xs fits) ∙ ap (take k) (sym is_front)) a
 
       subst_above : AllByRecursion (λ x. at < first x) (drop begun xs) → AllByRecursion (λ x. at < first x) above
@@ -120,10 +119,8 @@ pub near_alone : {K L : Type 0} (first end : K → ℕ) (f : K → Option L) (at
 near_alone {K} {L} first end f at all near above is below behind =
     let front : filter_map f is.ended ≡ [] = none_of f is.ended (each (λ x. end x < at) is.ended below is.below) in
     let back : filter_map f above ≡ [] = none_of f above (each (λ x. at < first x) above behind is.behind) in
-    sym (append-nil (filter_map f near))
-    ∙ ap (λ (ys : List L). filter_map f near ++ ys) (sym back)
-    ∙ sym (filter_map-append f near above)
-    ∙ ap (λ (ys : List L). ys ++ filter_map f (near ++ above)) (sym front)
+    sym (append-nil (filter_map f near)) ∙ ap (λ (ys : List L). filter_map f near ++ ys) (sym back)
+    ∙ sym (filter_map-append f near above) ∙ ap (λ (ys : List L). ys ++ filter_map f (near ++ above)) (sym front)
     ∙ sym (filter_map-append f is.ended (near ++ above)) ∙ ap (filter_map f) (sym is.parts)
   where
     each : (P : K → Type 0) (xs : List K) → ((x : K) → P x → f x ≡ None) → AllByRecursion P xs

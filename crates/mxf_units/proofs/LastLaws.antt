@@ -29,8 +29,7 @@ by_size s unit e =
     let entry = if covers_entry s unit then Some (entry_offset s place) else None in
     ap (λ b. if b then size else entry) e
 
-by_entry : (s : SegmentParts) (unit : ℕ) → is_constant s.numbers ≡ false
-    → stream_offset s unit
+by_entry : (s : SegmentParts) (unit : ℕ) → is_constant s.numbers ≡ false → stream_offset s unit
     ≡ (if covers_entry s unit then Some (entry_offset s (unit - unsigned_abs s.numbers.start)) else None)
 by_entry s unit e =
     let size = if covers_constant s unit then Some (s.numbers.unit_bytes * unit) else None in
@@ -54,8 +53,7 @@ small_number (negsuc n) low fits = absurd (omega (arith, low))
 
 -- So many units, from the start on.
 abbrev pub AreUnits : SegmentParts → ℕ → Type 0
-AreUnits s count =
-    (unit : ℕ) → GivesPlace s unit
+AreUnits s count = (unit : ℕ) → GivesPlace s unit
     ↔ ((unsigned_abs s.numbers.start ≤ unit) × (unit < unsigned_abs s.numbers.start + count))
 
 pub units-constant : (s : SegmentParts) → ¬ IsEndless s → 0 < s.numbers.unit_bytes
@@ -131,8 +129,7 @@ last-of s count are some small =
     }
 
 pub none-of : (s : SegmentParts) (count : ℕ) → AreUnits s count → count ≡ 0 → NoneWith (GivesPlace s)
-none-of s count are none =
-    λ unit l g. let h = (are unit).0 g in let a = h.0 in let b = h.1 in omega (arith, a, b, none)
+none-of s count are none = λ unit l g. let h = (are unit).0 g in let a = h.0 in let b = h.1 in omega (arith, a, b, none)
 
 -- ---- the units of several segments
 
@@ -294,8 +291,7 @@ module _ (all before rest : List SegmentAtParts) (s : SegmentAtParts) (index_sid
             (λ u. (
               λ h. (among-more was.passed s index_sid u).1 (elim h [ inl g ↦ inl g | inr p ↦ inr (same, p) ]),
               λ g. elim ((among-more was.passed s index_sid u).0 g) [ inl h ↦ inl h | inr p ↦ inr p.1 ],
-            ))
-            (last-either (IsAmong was.passed index_sid) (GivesPlace s.segment) last unit was.found is);
+            )) (last-either (IsAmong was.passed index_sid) (GivesPlace s.segment) last unit was.found is);
       }
 
   -- It is endless.
@@ -305,8 +301,7 @@ module _ (all before rest : List SegmentAtParts) (s : SegmentAtParts) (index_sid
       record {
         by = s;
         segment = (segments_are notes s).0 (subst (λ (l : List SegmentAtParts). In s l) are
-            (subst (λ (l : List SegmentAtParts). In s l) was.whole
-            ((In-append s was.passed before).1
+            (subst (λ (l : List SegmentAtParts). In s l) was.whole ((In-append s was.passed before).1
             (inr (subst (λ (l : List SegmentAtParts). In s l) (sym next) (inl refl))))));
         index = same;
         endless = endless;

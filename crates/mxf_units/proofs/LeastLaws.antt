@@ -52,8 +52,7 @@ lesser_step low x xs (Some m) above is =
           )
     ]
 
-skip_step : (low x : ℕ) (xs : List ℕ) (rest : Option ℕ) → x ≤ low → IsLeast low xs rest
-    → IsLeast low (x ∷ xs) rest
+skip_step : (low x : ℕ) (xs : List ℕ) (rest : Option ℕ) → x ≤ low → IsLeast low xs rest → IsLeast low (x ∷ xs) rest
 skip_step low x xs None far is = λ y h. elim h [ inl e ↦ omega (arith, e, far) | inr k ↦ is y k ]
 skip_step low x xs (Some m) far is = (
   inr is.0,
@@ -92,8 +91,7 @@ least-members low xs ys (Some m) same is = ((same m).0 is.0, is.1, λ x h l. is.
 
 -- It is by the members of the list alone.
 pub least-same : (low : ℕ) (xs ys : List ℕ) → SameMembers xs ys → least_above low xs ≡ least_above low ys
-least-same low xs ys same =
-    one_least low ys (least_above low xs) (least_above low ys)
+least-same low xs ys same = one_least low ys (least_above low xs) (least_above low ys)
     (least-members low xs ys (least_above low xs) same (least-is low xs)) (least-is low ys)
 
 -- That of two lists is the lesser one.
@@ -107,8 +105,7 @@ lesser_assoc (Some x) (Some y) (Some z) =
 pub least-append : (low : ℕ) (xs ys : List ℕ)
     → least_above low (xs ++ ys) ≡ lesser (least_above low xs) (least_above low ys)
 least-append low [] ys = refl
-least-append low (x ∷ xs) ys =
-    ap (lesser (if nat_lt low x then Some x else None)) (least-append low xs ys)
+least-append low (x ∷ xs) ys = ap (lesser (if nat_lt low x then Some x else None)) (least-append low xs ys)
     ∙ sym (lesser_assoc (if nat_lt low x then Some x else None) (least_above low xs) (least_above low ys))
 
 -- ---- of rising numbers
@@ -128,8 +125,7 @@ least-first low (x ∷ xs) zero h r below above =
         | inl e ↦ omega (arith, e)
         | inr i ↦ let b : x < y = lt_from_less x y (less_in nat_cmp_total x y xs r.0 i) in omega (arith, b)
       ],
-    )
-    (least-is low (x ∷ xs))
+    ) (least-is low (x ∷ xs))
 least-first low (x ∷ xs) (suc k) h r below above =
     let a : x ≤ low = below 0 x (omega arith) (omega arith) in
     least-first low xs k (omega arith) r.1 (λ j d l m. below (suc j) d (omega arith) (omega arith))
@@ -140,13 +136,11 @@ least-first low (x ∷ xs) (suc k) h r below above =
 
 -- The place isn't behind an offset of a stream.
 abbrev pub is_up_to : ℕ → ℕ → StreamPlace → Bool
-is_up_to body_sid offset p =
-    nat_lt p.body_sid body_sid || ((p.body_sid == body_sid) && nat_le p.offset offset)
+is_up_to body_sid offset p = nat_lt p.body_sid body_sid || ((p.body_sid == body_sid) && nat_le p.offset offset)
 
 up_to-says : (body_sid offset : ℕ) (p : StreamPlace) → is_up_to body_sid offset p ≡ true
     → (p.body_sid < body_sid) ⊎ ((p.body_sid ≡ body_sid) × (p.offset ≤ offset))
-up_to-says body_sid offset p e =
-    elim (nat_lt p.body_sid body_sid) as (λ a. nat_lt p.body_sid body_sid ≡ a
+up_to-says body_sid offset p e = elim (nat_lt p.body_sid body_sid) as (λ a. nat_lt p.body_sid body_sid ≡ a
     → (a || ((p.body_sid == body_sid) && nat_le p.offset offset)) ≡ true
     → (p.body_sid < body_sid) ⊎ ((p.body_sid ≡ body_sid) × (p.offset ≤ offset))) [
       | true ↦ λ f g. inl (ltb-true _ _ f)
@@ -201,8 +195,7 @@ pub parted : (body_sid offset : ℕ) (xs : List StreamPlace) → IsRising place_
     → IsPartitionedBy (is_up_to body_sid offset) xs
 parted body_sid offset [] r i j d l h e = absurd (omega arith)
 parted body_sid offset (x ∷ xs) r zero zero d l h e = e
-parted body_sid offset (x ∷ xs) r zero (suc j) d l h e =
-    earlier body_sid offset x (get_or xs j d)
+parted body_sid offset (x ∷ xs) r zero (suc j) d l h e = earlier body_sid offset x (get_or xs j d)
     (below_from x (get_or xs j d) (less_in place_total x (get_or xs j d) xs r.0 (In-at xs j d (omega arith)))) e
 parted body_sid offset (x ∷ xs) r (suc i) zero d l h e = absurd (omega arith)
 parted body_sid offset (x ∷ xs) r (suc i) (suc j) d l h e =
@@ -210,8 +203,7 @@ parted body_sid offset (x ∷ xs) r (suc i) (suc j) d l h e =
 
 pub offset_in-says : (body_sid y : ℕ) (q : StreamPlace) → offset_in body_sid q ≡ Some y
     → (q.body_sid ≡ body_sid) × (q.offset ≡ y)
-offset_in-says body_sid y q e =
-    elim (q.body_sid == body_sid) as (λ b. (q.body_sid == body_sid) ≡ b
+offset_in-says body_sid y q e = elim (q.body_sid == body_sid) as (λ b. (q.body_sid == body_sid) ≡ b
     → (if b then Some q.offset else None) ≡ Some y → (q.body_sid ≡ body_sid) × (q.offset ≡ y)) [
       | true ↦ λ f g. (eqb-true _ _ f, cc)
       | false ↦ λ f g. absurd cc
@@ -252,22 +244,18 @@ first-found body_sid offset (x ∷ xs) zero h r below above =
               | inl f ↦ omega (arith, f)
               | inr i ↦ let m = (offsets-after body_sid x xs y r.0 i).1 same in omega (arith, m)
             ],
-          )
-          (least-is offset (x.offset ∷ offsets_in body_sid xs))
-      | false ↦ λ e.
-          one_least offset (offsets_in body_sid xs) None (least_above offset (offsets_in body_sid xs))
+          ) (least-is offset (x.offset ∷ offsets_in body_sid xs))
+      | false ↦ λ e. one_least offset (offsets_in body_sid xs) None (least_above offset (offsets_in body_sid xs))
           (λ y i.
           let m = (offsets-after body_sid x xs y r.0 i).0 in
           absurd (elim far [
             | inl l ↦ omega (arith, l, m)
             | inr s ↦ let t = eq-eqb x.body_sid body_sid s.0 in cc (t, e)
-          ]))
-          (least-is offset (offsets_in body_sid xs))
+          ])) (least-is offset (offsets_in body_sid xs))
     ] refl
 first-found body_sid offset (x ∷ xs) (suc k) h r below above =
     let near = up_to-says body_sid offset x (below 0 x (omega arith) (omega arith)) in
-    let ih = first-found body_sid offset xs k (omega arith) r.1
-    (λ j d l m. below (suc j) d (omega arith) (omega arith))
+    let ih = first-found body_sid offset xs k (omega arith) r.1 (λ j d l m. below (suc j) d (omega arith) (omega arith))
     (λ j d l m. above (suc j) d (omega arith) (omega arith)) in
     elim (x.body_sid == body_sid) as (λ b. (x.body_sid == body_sid) ≡ b
     → option_and_then (offset_in body_sid) (slice_get (drop k xs) 0)
@@ -283,8 +271,7 @@ first-found body_sid offset (x ∷ xs) (suc k) h r below above =
 -- The order of places doesn't matter.
 pub least-in_order : (body_sid offset : ℕ) (xs : List StreamPlace)
     → least_above offset (offsets_in body_sid (in_order xs)) ≡ least_above offset (offsets_in body_sid xs)
-least-in_order body_sid offset xs =
-    least-same offset (offsets_in body_sid (in_order xs)) (offsets_in body_sid xs) (λ y.
+least-in_order body_sid offset xs = least-same offset (offsets_in body_sid (in_order xs)) (offsets_in body_sid xs) (λ y.
     let a = In-filter_map (offset_in body_sid) (in_order xs) y in
     let b = In-filter_map (offset_in body_sid) xs y in (
       λ h.
@@ -292,8 +279,7 @@ least-in_order body_sid offset xs =
           b.1 (
             s.0,
             elim ((In-union place_total place_cmp-IsAntisymmetric s.0 [] xs).0 s.1) [
-              | inl k ↦
-                  absurd k
+              | inl k ↦ absurd k
               | inr k ↦ k
             ],
             s.2,
@@ -320,11 +306,9 @@ next-parts body_sid offset listed sized =
 -- ---- small places
 
 pub small-in_order : (xs : List StreamPlace) → AllByRecursion IsSmall xs → AllByRecursion IsSmall (in_order xs)
-small-in_order xs a =
-    all_from_In IsSmall (in_order xs) (λ p h.
+small-in_order xs a = all_from_In IsSmall (in_order xs) (λ p h.
     all-In IsSmall xs p a (elim ((In-union place_total place_cmp-IsAntisymmetric p [] xs).0 h) [
-      | inl k ↦
-          absurd k
+      | inl k ↦ absurd k
       | inr k ↦ k
     ]))
 

@@ -68,8 +68,7 @@ guarded false x y e = absurd cc
 
 essence-says : (notes : List NoteParts) (x : ℕ) (n : NoteParts) → essence_at notes x ≡ Some n
     → IsAlone notes n × (n.offset ≡ x) × ((kind_of n.key ≡ kinds.Essence) ⊎ (kind_of n.key ≡ kinds.Other))
-essence-says notes x n e =
-    elim (find (λ m. m.offset == x) (undisputed_notes notes)) as (λ (o : Option NoteParts).
+essence-says notes x n e = elim (find (λ m. m.offset == x) (undisputed_notes notes)) as (λ (o : Option NoteParts).
     find (λ m. m.offset == x) (undisputed_notes notes) ≡ o
     → option_and_then (λ m. if may_be_essence (kind_of m.key) then Some m else None) o ≡ Some n
     → IsAlone notes n × (n.offset ≡ x) × ((kind_of n.key ≡ kinds.Essence) ⊎ (kind_of n.key ≡ kinds.Other))) [
@@ -96,8 +95,7 @@ module _ (notes : List NoteParts) (content : IsContent notes) (p : PartitionPart
   index-end : (x : ℕ) (o : Option Stretch) → index_of notes p ≡ o → option_and_then known_end o ≡ Some x
       → (s : Stretch) × AreSegments notes p s × (s.is_open ≡ false) × (x ≡ s.end)
   index-end x None f e = absurd cc
-  index-end x (Some s) f e =
-      elim s.is_open as (λ b. s.is_open ≡ b → (if b then None else Some s.end) ≡ Some x
+  index-end x (Some s) f e = elim s.is_open as (λ b. s.is_open ≡ b → (if b then None else Some s.end) ≡ Some x
       → (s : Stretch) × AreSegments notes p s × (s.is_open ≡ false) × (x ≡ s.end)) [
         | true ↦ λ _ g. absurd cc
         | false ↦ λ closed g. (s, (zone_says notes content p zones.Index s).0 f, closed, cc)
@@ -140,8 +138,7 @@ module _ (notes : List NoteParts) (content : IsContent notes) (p : PartitionPart
               }
         ] refl e,
     λ i. ap (λ (o : Option ℕ). option_and_then (λ x. essence_at notes (over_fills notes x)) o)
-        ((behind-says i.from).1 i.behind)
-        ∙ says-essence notes (over_fills notes i.from) n i.alone
+        ((behind-says i.from).1 i.behind) ∙ says-essence notes (over_fills notes i.from) n i.alone
         (sym ((over_says notes content i.from n.offset).1 i.begins)) i.kind,
   )
 
@@ -191,8 +188,7 @@ clip-says notes p n =
           let l = c.inside in
           and_from first (begins_inside n second)
           (and_from (is_essence (kind_of n.key)) (p.pack.numbers.body_offset == 0) (ap is_essence c.kind)
-          (eq-eqb _ _ c.begins))
-          (ap (begins_inside n) e ∙ lt-ltb c.second (end_of n - n.offset) (omega (arith, l))),
+          (eq-eqb _ _ c.begins)) (ap (begins_inside n) e ∙ lt-ltb c.second (end_of n - n.offset) (omega (arith, l))),
     )
 
 -- ---- limits
@@ -207,10 +203,8 @@ head-says notes x =
                 let k = found-In (λ (n : NoteParts). n.offset == x) (undisputed_notes notes) n f in
                 (n, (alone-says notes n).0 k.0, no n.whole g, eqb-true n.offset x k.1)
           ] refl h,
-      λ b.
-          ap (λ (o : Option NoteParts). option_map_or (λ n. not n.whole) o false)
-          (undisputed_at-found x notes b.0 ((alone-says notes b.0).1 b.1) b.3)
-          ∙ ap not b.2,
+      λ b. ap (λ (o : Option NoteParts). option_map_or (λ n. not n.whole) o false)
+          (undisputed_at-found x notes b.0 ((alone-says notes b.0).1 b.1) b.3) ∙ ap not b.2,
     )
   where
     no : (b : Bool) → not b ≡ true → b ≡ false
@@ -248,8 +242,7 @@ unknown-says notes x = (
 place-says : (notes : List NoteParts) (c : Claim) (x : ℕ) → open_place notes c ≡ Some x
     → (named_place c ≡ Some x) × IsTrue (is_open_place notes x)
 unfolding open_place
-place-says notes c x e =
-    elim (named_place c) as (λ (o : Option ℕ).
+place-says notes c x e = elim (named_place c) as (λ (o : Option ℕ).
     option_and_then (λ y. if is_open_place notes y then Some y else None) o ≡ Some x
     → (o ≡ Some x) × IsTrue (is_open_place notes x)) [
       | None ↦ λ f. absurd cc
@@ -315,10 +308,8 @@ rip-says notes x (One r) e f =
 
 says-rip : (notes : List NoteParts) (x : ℕ) → IsRipPlace notes x
     → rip_place_by (end_of_file notes) (rip_view_of notes) ≡ Some x
-says-rip notes x r =
-    ap (rip_place_by (end_of_file notes)) r.only
-    ∙ ap (λ b. if b then Some r.rip.offset else None) r.ended
-    ∙ ap (λ (n : ℕ). Some n) r.offset
+says-rip notes x r = ap (rip_place_by (end_of_file notes)) r.only
+    ∙ ap (λ b. if b then Some r.rip.offset else None) r.ended ∙ ap (λ (n : ℕ). Some n) r.offset
 
 by_least : (notes : List NoteParts) (p : PartitionParts) (least rip : Option ℕ)
     → IsLeast p.offset (bounds_of notes) least → rip_place_by (end_of_file notes) (rip_view_of notes) ≡ rip
@@ -357,8 +348,7 @@ names-says notes x before =
           ] refl h,
       λ s.
           let e : found ≡ Some s.0 = find-only (λ (q : PartitionParts). q.offset == x) (partitions_of notes) s.0 s.1
-          (eq-eqb s.0.offset x s.2)
-          (λ q k t. one_partition notes q s.0 k s.1 (eqb-true q.offset x t ∙ sym s.2)) in
+          (eq-eqb s.0.offset x s.2) (λ q k t. one_partition notes q s.0 k s.1 (eqb-true q.offset x t ∙ sym s.2)) in
           ap (λ (o : Option PartitionParts). option_map_or (λ q. previous_of q == before) o false) e
           ∙ eq-eqb (previous_of s.0) before s.3,
     )
@@ -391,8 +381,7 @@ pub zone-by : (notes : List NoteParts) (p : PartitionParts) (n : NoteParts)
 zone-by notes p n =
     let clip = clip-says notes p n in
     let limit = limit_of notes p in
-    elim (is_clip_wrapped notes p n) as (λ b. is_clip_wrapped notes p n ≡ b → IsEssenceZone notes p n
-    (if b
+    elim (is_clip_wrapped notes p n) as (λ b. is_clip_wrapped notes p n ≡ b → IsEssenceZone notes p n (if b
     then record { body_offset = 0; origin = n.offset + 16 + n.width; limit = Some (end_of n); is_sure = true }
     else record {
       body_offset = p.pack.numbers.body_offset;

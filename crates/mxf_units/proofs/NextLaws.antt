@@ -167,8 +167,7 @@ sized-reached segments low s unit x h constant e above =
     let covers = covered s.segment unit first g.0 late early in
     let offset : stream_offset s.segment first ≡ Some (bytes * first) =
     ap (λ b. if b then (if covers_constant s.segment first then Some (bytes * first) else None) else by_entry first)
-    constant
-    ∙ ap (λ b. if b then Some (bytes * first) else None) covers in
+    constant ∙ ap (λ b. if b then Some (bytes * first) else None) covers in
     let sized : sized_above low s ≡ Some (in_stream s (bytes * first)) =
     ap (λ b. if b then place_in first s else None) constant ∙ in_place s first (bytes * first) offset in
     let less = mul-le-mul_left bytes early in (
@@ -212,8 +211,7 @@ told segments body_sid low (Some next) is =
     let t = offset_in-says body_sid next s.0 s.2 in
     let g = above-given segments low s.0 s.1 in
     record {
-      given = subst (λ b. IsStreamPlace segments b next) t.0
-          (subst (λ o. IsStreamPlace segments s.0.body_sid o) t.1 g);
+      given = subst (λ b. IsStreamPlace segments b next) t.0 (subst (λ o. IsStreamPlace segments s.0.body_sid o) t.1 g);
       above = is.1;
       least = λ x p above.
           let q = reached segments body_sid low x p above in
@@ -224,8 +222,7 @@ told segments body_sid low (Some next) is =
 
 pub next-told : (segments : List SegmentAtParts) (body_sid low : ℕ)
     → IsNextOf segments body_sid low (next_of segments body_sid low)
-next-told segments body_sid low =
-    told segments body_sid low (next_of segments body_sid low)
+next-told segments body_sid low = told segments body_sid low (next_of segments body_sid low)
     (least-is low (offsets_in body_sid (places_above low segments)))
 
 -- It is the only answer.

@@ -26,8 +26,7 @@ use Rattle.mxf_units.proofs.NextLaws.{begins_behind, first_behind}
 -- A list in another order has the same members.
 pub permuted : {K : Type 0} (xs ys : List K) → IsPermutation xs ys → SameMembers ys xs
 permuted xs ys p x = (
-  λ h. In-from_Contains x xs
-      (Contains-permutation ys xs x (IsPermutation-sym xs ys p) (Contains-from_In x ys h)),
+  λ h. In-from_Contains x xs (Contains-permutation ys xs x (IsPermutation-sym xs ys p) (Contains-from_In x ys h)),
   λ h. In-from_Contains x ys (Contains-permutation xs ys x p (Contains-from_In x xs h)),
 )
 
@@ -53,8 +52,7 @@ all_around {K} first end P at all near above around holds = (
 )
   where
     behind : (x : K) → In x (near ++ above) → P x
-    behind x h =
-        all-In P all x holds
+    behind x h = all-In P all x holds
         (subst (In x) (sym around.parts) ((In-append x around.ended (near ++ above)).1 (inr h)))
 
 -- ---- units of one size as those of a segment
@@ -91,14 +89,11 @@ module _ (offset : ℕ) (s : SegmentAtParts) where
 
   pub sized_units : sized_above offset s ≡ option_and_then (place_above offset) (constant_units s)
   unfolding sized_above
-  sized_units =
-      elim (is_constant n) as (λ b. is_constant n ≡ b → (if b then place_in unit s else None)
+  sized_units = elim (is_constant n) as (λ b. is_constant n ≡ b → (if b then place_in unit s else None)
       ≡ option_and_then (place_above offset) (if b then Some own_units else None)) [
-        | true ↦ λ e.
-            ap (λ b. option_map (in_stream s) (if b then by_size else by_entry)) e
+        | true ↦ λ e. ap (λ b. option_map (in_stream s) (if b then by_size else by_entry)) e
             ∙ ap (λ b. option_map (in_stream s) (if b && goes_on_there then Some (n.unit_bytes * unit) else None))
-            (le-leb start unit (omega arith))
-            ∙ one_form goes_on_there
+            (le-leb start unit (omega arith)) ∙ one_form goes_on_there
         | false ↦ λ e. refl
       ] refl
 
@@ -119,8 +114,7 @@ units-places offset (s ∷ segments) =
 -- The next place of segments, by what they list and by their units of one size in any order.
 pub next-of_segments : (segments : List SegmentAtParts) (listed : List StreamPlace) (units sorted : List ConstantUnits)
     → listed ≡ in_order (flat_map listed_in segments) → units ≡ filter_map constant_units segments
-    → IsPermutation units sorted
-    → AreNextPlaces segments (record { listed = listed; units = sorted })
+    → IsPermutation units sorted → AreNextPlaces segments (record { listed = listed; units = sorted })
 next-of_segments segments listed units sorted is_listed are p body offset =
     let least = λ (ps : List StreamPlace). least_above offset (offsets_in body ps) in
     let f = place_above offset in
@@ -170,8 +164,7 @@ module _ (body offset : ℕ) (low : offset < 2 ^ 96) where
   -- Units that end below it have no offset above it.
   ended_no : (c : ConstantUnits) → AreSized c → end_number c < number_of body offset → c.body_sid ≡ body
       → goes_on c ≡ true → ⊥
-  ended_no c sized ended same on =
-      elim (c.duration == 0) as (λ b. ((c.body_sid * 2 ^ 96)
+  ended_no c sized ended same on = elim (c.duration == 0) as (λ b. ((c.body_sid * 2 ^ 96)
       + (if b then greatest_offset else min (c.unit_bytes * (c.start + c.duration)) greatest_offset)
       < number_of body offset) → (b || nat_lt (unit_of c) (c.start + c.duration)) ≡ true → ⊥) [
         | true ↦ λ e t. omega (arith, e, same, low)
@@ -202,16 +195,13 @@ module _ (body offset : ℕ) (low : offset < 2 ^ 96) where
       let ended = around.ended in
       let ended_sized = all_from_In AreSized ended (λ c h.
       all-In AreSized all c sized (subst (In c) (sym around.parts) ((In-append c ended (near ++ above)).1 (inl h)))) in
-      sym (least-append offset (Offsets near) (Offsets above))
-      ∙ ap (least_above offset) (sym (split near above))
+      sym (least-append offset (Offsets near) (Offsets above)) ∙ ap (least_above offset) (sym (split near above))
       ∙ ap (λ (xs : List ℕ). least_above offset (xs ++ Offsets (near ++ above)))
-      (sym (ended_none ended ended_sized around.below))
-      ∙ ap (least_above offset) (sym (split ended (near ++ above)))
+      (sym (ended_none ended ended_sized around.below)) ∙ ap (least_above offset) (sym (split ended (near ++ above)))
       ∙ ap (λ cs. least_above offset (Offsets cs)) (sym around.parts)
     where
       split : (xs ys : List ConstantUnits) → Offsets (xs ++ ys) ≡ Offsets xs ++ Offsets ys
-      split xs ys =
-          ap (offsets_in body) (filter_map-append (place_above offset) xs ys)
+      split xs ys = ap (offsets_in body) (filter_map-append (place_above offset) xs ys)
           ∙ filter_map-append (offset_in body) (filter_map (place_above offset) xs) (filter_map (place_above offset) ys)
 
   -- ---- those that begin above it
@@ -224,8 +214,7 @@ module _ (body offset : ℕ) (low : offset < 2 ^ 96) where
       → AllByRecursion (λ c. number_of body offset < first_number c) cs → IsNonDecreasingBy first_number cs
       → IsLeast offset (Offsets cs) (first_of cs)
   first-least [] sized behind rising = λ x h. absurd h
-  first-least (c ∷ cs) sized behind rising =
-      elim (c.body_sid == body) as (λ b. (c.body_sid == body) ≡ b
+  first-least (c ∷ cs) sized behind rising = elim (c.body_sid == body) as (λ b. (c.body_sid == body) ≡ b
       → IsLeast offset (Offsets (c ∷ cs)) (first_of (c ∷ cs))) [
         | true ↦ λ e.
             let same = eqb-true c.body_sid body e in
@@ -288,22 +277,18 @@ module _ (body offset : ℕ) (low : offset < 2 ^ 96) where
           → place_above offset c ≡ Some (record { body_sid = c.body_sid; offset = c.unit_bytes * c.start })
       own_place c own =
           ap (λ b. if b then Some (record { body_sid = c.body_sid; offset = c.unit_bytes * unit_of c }) else None)
-          (goes c own)
-          ∙ ap (λ u. Some (record { body_sid = c.body_sid; offset = c.unit_bytes * u })) own
+          (goes c own) ∙ ap (λ u. Some (record { body_sid = c.body_sid; offset = c.unit_bytes * u })) own
 
       own_first : (c : ConstantUnits) → unit_of c ≡ c.start → (c.body_sid == body) ≡ true
           → offset < c.unit_bytes * c.start
           → option_and_then (offset_above body offset) (place_above offset c) ≡ Some (c.unit_bytes * c.start)
-      own_first c own e above =
-          ap (option_and_then (offset_above body offset)) (own_place c own)
+      own_first c own e above = ap (option_and_then (offset_above body offset)) (own_place c own)
           ∙ ap (λ b. if b then (if c.body_sid == body then Some (c.unit_bytes * c.start) else None) else None)
-          (lt-ltb offset (c.unit_bytes * c.start) above)
-          ∙ ap (λ b. if b then Some (c.unit_bytes * c.start) else None) e
+          (lt-ltb offset (c.unit_bytes * c.start) above) ∙ ap (λ b. if b then Some (c.unit_bytes * c.start) else None) e
 
       no_first : (c : ConstantUnits) → (c.body_sid == body) ≡ false
           → option_and_then (offset_above body offset) (place_above offset c) ≡ None
-      no_first c e =
-          elim (goes_on c) as (λ g. option_and_then (offset_above body offset)
+      no_first c e = elim (goes_on c) as (λ g. option_and_then (offset_above body offset)
           (if g then Some (record { body_sid = c.body_sid; offset = c.unit_bytes * unit_of c }) else None) ≡ None) [
             | true ↦ grind (arith, nat_lt)
             | false ↦ refl
@@ -322,6 +307,5 @@ module _ (body offset : ℕ) (low : offset < 2 ^ 96) where
   pub first-is : (cs : List ConstantUnits) → AllByRecursion AreSized cs
       → AllByRecursion (λ c. number_of body offset < first_number c) cs → IsNonDecreasingBy first_number cs
       → first_of cs ≡ least_above offset (Offsets cs)
-  first-is cs sized behind rising =
-      one_least offset (Offsets cs) (first_of cs) (least_above offset (Offsets cs))
+  first-is cs sized behind rising = one_least offset (Offsets cs) (first_of cs) (least_above offset (Offsets cs))
       (first-least cs sized behind rising) (least-is offset (Offsets cs))

@@ -23,8 +23,7 @@ module _ (notes : List NoteParts) (body_sid offset : ℕ) where
 
   -- The cases, each with what it says.
   abbrev Zones : Result EssenceZone UnitStanding → Type 0
-  Zones r =
-      ((z : EssenceZone) × (r ≡ Ok z) × IsIn (Ok z))
+  Zones r = ((z : EssenceZone) × (r ≡ Ok z) × IsIn (Ok z))
       ⊎ (((r ≡ Err standings.NoPartition) × IsIn (Err standings.NoPartition))
       ⊎ (((r ≡ Err standings.Unknown) × IsIn (Err standings.Unknown))
       ⊎ ((r ≡ Err standings.Several) × IsIn (Err standings.Several))))
@@ -76,8 +75,7 @@ module _ (notes : List NoteParts) (body_sid offset : ℕ) where
   unknown_several a b = b.4 (a.3 b.0 b.2 ∙ sym (a.3 b.1 b.3))
 
   both_zones : (r q : Result EssenceZone UnitStanding) → Zones r → Zones q → r ≡ q
-  both_zones r q (inl a) (inl b) =
-      a.1 ∙ ap (λ (z : EssenceZone). Ok z) (one_of_two a.0 b.0 a.2 b.2) ∙ sym b.1
+  both_zones r q (inl a) (inl b) = a.1 ∙ ap (λ (z : EssenceZone). Ok z) (one_of_two a.0 b.0 a.2 b.2) ∙ sym b.1
   both_zones r q (inl a) (inr (inl b)) = absurd (b.1 a.2.0 a.2.1.begins)
   both_zones r q (inl a) (inr (inr (inl b))) = absurd (zone_unknown a.0 a.2 b.1)
   both_zones r q (inl a) (inr (inr (inr b))) = absurd (zone_several a.0 a.2 b.1)
@@ -131,18 +129,15 @@ module _ (known : KnownParts) (index_sid unit : ℕ) where
   NoneGiven = (p : StreamPlace) → ¬ IsGiven (segments_of known.notes) index_sid unit p
 
   abbrev TwoGiven : Type 0
-  TwoGiven =
-      (p : StreamPlace) × (q : StreamPlace) × IsGiven (segments_of known.notes) index_sid unit p
+  TwoGiven = (p : StreamPlace) × (q : StreamPlace) × IsGiven (segments_of known.notes) index_sid unit p
       × IsGiven (segments_of known.notes) index_sid unit q × (p ≢ q)
 
   abbrev AtPlace : UnitStanding → Type 0
-  AtPlace w =
-      (body_sid : ℕ) × (offset : ℕ) × IsOnlyPlace (segments_of known.notes) index_sid unit body_sid offset
+  AtPlace w = (body_sid : ℕ) × (offset : ℕ) × IsOnlyPlace (segments_of known.notes) index_sid unit body_sid offset
       × IsStandingAt known index_sid unit body_sid offset w
 
   abbrev Standings : UnitStanding → Type 0
-  Standings w =
-      ((w ≡ standings.NotIndexed) × NoneGiven) ⊎ (((w ≡ standings.Ambiguous) × TwoGiven) ⊎ AtPlace w)
+  Standings w = ((w ≡ standings.NotIndexed) × NoneGiven) ⊎ (((w ≡ standings.Ambiguous) × TwoGiven) ⊎ AtPlace w)
 
   stands : (w : UnitStanding) → IsStanding known index_sid unit w → Standings w
   stands standings.NotIndexed h = inl (refl, h)
@@ -171,8 +166,7 @@ module _ (known : KnownParts) (index_sid unit : ℕ) where
   both_at : (v w : UnitStanding) → AtPlace v → AtPlace w → v ≡ w
   both_at v w s t =
       let same = t.2.only record { body_sid = s.0; offset = s.1 } s.2.given in
-      one-at known index_sid unit t.0 t.1 v w
-      (subst (λ x. IsStandingAt known index_sid unit t.0 x v) same.1
+      one-at known index_sid unit t.0 t.1 v w (subst (λ x. IsStandingAt known index_sid unit t.0 x v) same.1
       (subst (λ x. IsStandingAt known index_sid unit x s.1 v) same.0 s.3)) t.3
 
   both : (v w : UnitStanding) → Standings v → Standings w → v ≡ w

@@ -46,14 +46,12 @@ one_part a b e =
     λ i. record { body_sid = body i; body_offset = offset i; zone = zone i; partition = partition i }
 
 zone_total : IsTotalOrder zone_cmp
-zone_total =
-    then_total (on_total (λ z. z.body_offset) nat_cmp_total)
+zone_total = then_total (on_total (λ z. z.body_offset) nat_cmp_total)
     (then_total (on_total (λ z. z.origin) nat_cmp_total)
     (then_total (on_total (λ z. z.limit) (options_total nat_cmp_total)) (on_total (λ z. z.is_sure) bool_cmp_total)))
 
 pub part_total : IsTotalOrder part_cmp
-part_total =
-    then_total (on_total (λ p. p.body_sid) nat_cmp_total)
+part_total = then_total (on_total (λ p. p.body_sid) nat_cmp_total)
     (then_total (on_total (λ p. p.body_offset) nat_cmp_total)
     (then_total (on_total (λ p. p.zone) (options_total zone_total)) (on_total (λ p. p.partition) nat_cmp_total)))
 

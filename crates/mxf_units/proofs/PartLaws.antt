@@ -28,22 +28,19 @@ falls-push (y ∷ ys) x f a = (all_push (λ q. part_cmp q y ≡ Less) ys x f.0 a
 
 falls-reverse : (xs : List StreamPart) → IsRising part_cmp xs → IsFalling (reverse xs)
 falls-reverse [] r = tt
-falls-reverse (x ∷ xs) r =
-    subst IsFalling (sym (reverse-cons x xs))
+falls-reverse (x ∷ xs) r = subst IsFalling (sym (reverse-cons x xs))
     (falls-push (reverse xs) x (falls-reverse xs r.1) (all-reverse (λ y. part_cmp x y ≡ Less) xs r.0))
 
 pub parts-fall : (notes : List NoteParts) → IsFalling (parts_of notes)
 unfolding parts_of
-parts-fall notes =
-    falls-reverse (union part_cmp [] (map (part_of notes) (partitions_of notes)))
+parts-fall notes = falls-reverse (union part_cmp [] (map (part_of notes) (partitions_of notes)))
     (IsRising-union part_total one_part [] (map (part_of notes) (partitions_of notes)) tt)
 
 -- ---- where one is found
 
 -- The part begins behind an offset of a stream, or in a later stream.
 abbrev pub is_behind : ℕ → ℕ → StreamPart → Bool
-is_behind body_sid offset p =
-    nat_lt body_sid p.body_sid || ((p.body_sid == body_sid) && nat_lt offset p.body_offset)
+is_behind body_sid offset p = nat_lt body_sid p.body_sid || ((p.body_sid == body_sid) && nat_lt offset p.body_offset)
 
 abbrev Behind : ℕ → ℕ → StreamPart → Type 0
 Behind body_sid offset p = (body_sid < p.body_sid) ⊎ ((p.body_sid ≡ body_sid) × (offset < p.body_offset))
@@ -54,8 +51,7 @@ says-behind body_sid offset p (inr s) =
     either _ _ (inr (and_from (p.body_sid == body_sid) (nat_lt offset p.body_offset) (eq-eqb _ _ s.0) (lt-ltb _ _ s.1)))
 
 behind-says : (body_sid offset : ℕ) (p : StreamPart) → is_behind body_sid offset p ≡ true → Behind body_sid offset p
-behind-says body_sid offset p e =
-    elim (nat_lt body_sid p.body_sid) as (λ a. nat_lt body_sid p.body_sid ≡ a
+behind-says body_sid offset p e = elim (nat_lt body_sid p.body_sid) as (λ a. nat_lt body_sid p.body_sid ≡ a
     → (a || ((p.body_sid == body_sid) && nat_lt offset p.body_offset)) ≡ true → Behind body_sid offset p) [
       | true ↦ λ f g. inl (ltb-true _ _ f)
       | false ↦ λ f g.
@@ -94,8 +90,7 @@ three Greater b c e = absurd cc
 -- A part comes behind another.
 pub follows : (q p : StreamPart) → part_cmp q p ≡ Less
     → (q.body_sid < p.body_sid) ⊎ ((q.body_sid ≡ p.body_sid) × (q.body_offset ≤ p.body_offset))
-follows q p e =
-    elim (three (nat_cmp q.body_sid p.body_sid) (nat_cmp q.body_offset p.body_offset)
+follows q p e = elim (three (nat_cmp q.body_sid p.body_sid) (nat_cmp q.body_offset p.body_offset)
     (ordering_then (option_cmp zone_cmp q.zone p.zone) (nat_cmp q.partition p.partition)) e) [
       | inl l ↦ inl (lt_from_less q.body_sid p.body_sid l)
       | inr s ↦ inr (
@@ -128,8 +123,7 @@ pub parted : (body_sid offset : ℕ) (xs : List StreamPart) → IsFalling xs
     → IsPartitionedBy (is_behind body_sid offset) xs
 parted body_sid offset [] r i j d l h e = absurd (omega arith)
 parted body_sid offset (x ∷ xs) r zero zero d l h e = e
-parted body_sid offset (x ∷ xs) r zero (suc j) d l h e =
-    later body_sid offset (get_or xs j d) x
+parted body_sid offset (x ∷ xs) r zero (suc j) d l h e = later body_sid offset (get_or xs j d) x
     (all-In (λ q. part_cmp q x ≡ Less) xs (get_or xs j d) r.0 (In-at xs j d (omega arith))) e
 parted body_sid offset (x ∷ xs) r (suc i) zero d l h e = absurd (omega arith)
 parted body_sid offset (x ∷ xs) r (suc i) (suc j) d l h e =
@@ -167,8 +161,7 @@ settled body_sid offset (x ∷ xs) zero h f below above = record {
 }
 settled body_sid offset (x ∷ xs) (suc k) h f below above =
     let far = behind-says body_sid offset x (below 0 x (omega arith) (omega arith)) in
-    let ih = settled body_sid offset xs k (omega arith) f.1
-    (λ j d l m. below (suc j) d (omega arith) (omega arith))
+    let ih = settled body_sid offset xs k (omega arith) f.1 (λ j d l m. below (suc j) d (omega arith) (omega arith))
     (λ j d l m. above (suc j) d (omega arith) (omega arith)) in
     record {
       left = ap (λ b. cond b (x ∷ filter (begins_up_to body_sid offset) xs) (filter (begins_up_to body_sid offset) xs))
@@ -180,8 +173,7 @@ settled body_sid offset (x ∷ xs) (suc k) h f below above =
 -- None is in the stream, where the first is in an earlier one.
 none : (body_sid offset : ℕ) (p : StreamPart) (parts : List StreamPart) → IsFalling (p ∷ parts) → p.body_sid < body_sid
     → filter (begins_up_to body_sid offset) (p ∷ parts) ≡ []
-none body_sid offset p parts f l =
-    filter_none (begins_up_to body_sid offset) (p ∷ parts) (λ q h e.
+none body_sid offset p parts f l = filter_none (begins_up_to body_sid offset) (p ∷ parts) (λ q h e.
     let s = and_parts (q.body_sid == body_sid) (nat_le q.body_offset offset) e in
     let same = eqb-true q.body_sid body_sid s.0 in
     elim h [
@@ -212,23 +204,20 @@ second body_sid offset p (q ∷ parts) f same l =
           (λ e. let t = eqb-true p.body_sid q.body_sid e in omega (arith, m, t)) in
           ap (λ b. if (b && (p.body_offset == q.body_offset))
           then (if is_some q.zone then Err standings.Several else ok_or p.zone standings.Several)
-          else ok_or p.zone standings.Unknown) other
-          ∙ ap (λ parts. chosen (p ∷ parts)) (sym none_left)
+          else ok_or p.zone standings.Unknown) other ∙ ap (λ parts. chosen (p ∷ parts)) (sym none_left)
       | inr u ↦
           let at = u.0 in
           let m = u.1 in
           let alike : (p.body_sid == q.body_sid) ≡ true = eq-eqb p.body_sid q.body_sid (sym at) in
           ap (λ b. if (b && (p.body_offset == q.body_offset))
           then (if is_some q.zone then Err standings.Several else ok_or p.zone standings.Several)
-          else ok_or p.zone standings.Unknown) alike
-          ∙ by_offset (p.body_offset == q.body_offset)
+          else ok_or p.zone standings.Unknown) alike ∙ by_offset (p.body_offset == q.body_offset)
           ∙ ap (λ parts. chosen (p ∷ parts)) (sym (passes body_sid offset q parts (at ∙ same) (omega (arith, m, l))))
     ]
   where
     by_offset : (b : Bool)
         → (if b then (if is_some q.zone then Err standings.Several else ok_or p.zone standings.Several)
-        else ok_or p.zone standings.Unknown)
-        ≡ (if not b then ok_or p.zone standings.Unknown
+        else ok_or p.zone standings.Unknown) ≡ (if not b then ok_or p.zone standings.Unknown
         else (if is_some q.zone then Err standings.Several else ok_or p.zone standings.Several))
     by_offset true = refl
     by_offset false = refl
@@ -243,8 +232,7 @@ first body_sid offset (p ∷ parts) f (inl l) =
     ∙ ap chosen (sym (none body_sid offset p parts f l))
 first body_sid offset (p ∷ parts) f (inr u) =
     ap (λ b. if b then by_second p parts else Err standings.NoPartition) (eq-eqb p.body_sid body_sid u.0)
-    ∙ second body_sid offset p parts f u.0 u.1
-    ∙ ap chosen (sym (passes body_sid offset p parts u.0 u.1))
+    ∙ second body_sid offset p parts f u.0 u.1 ∙ ap chosen (sym (passes body_sid offset p parts u.0 u.1))
 
 -- What is found behind the parts that begin behind an offset.
 pub found : (body_sid offset : ℕ) (xs ys : List StreamPart) (k : ℕ) → Settled body_sid offset xs k → ys ≡ drop k xs

@@ -17,14 +17,12 @@ either-says false b e = inr e
 all-range : (p : ℕ → Bool) (a n : ℕ)
     → (list_all p (range_with_len a n) ≡ true) ↔ ((x : ℕ) → a ≤ x → x < a + n → p x ≡ true)
 all-range p a zero = (λ h x l r. absurd (omega arith), λ f. refl)
-all-range p a (suc n) =
-    grind (arith, and_parts, list_all, range_with_len, cases_lt, and_from, all-range p (a + 1) n)
+all-range p a (suc n) = grind (arith, and_parts, list_all, range_with_len, cases_lt, and_from, all-range p (a + 1) n)
 
 any-range : (p : ℕ → Bool) (a n : ℕ)
     → (list_any p (range_with_len a n) ≡ true) ↔ ((x : ℕ) × (p x ≡ true) × (a ≤ x) × (x < a + n))
 any-range p a zero = (λ h. absurd cc, λ s. let l = s.2 in let r = s.3 in absurd (omega (arith, l, r)))
-any-range p a (suc n) =
-    grind (arith, list_any, range_with_len, cases_lt, either, any-range p (a + 1) n)
+any-range p a (suc n) = grind (arith, list_any, range_with_len, cases_lt, either, any-range p (a + 1) n)
 
 pub all-says : (p : ℕ → Bool) (P : ℕ → Type 0) → ((x : ℕ) → IsTrue (p x) ↔ P x) → (from to : ℕ)
     → IsTrue (list_all p (range_with_len from (to - from))) ↔ ((x : ℕ) → from ≤ x → x < to → P x)
@@ -46,8 +44,7 @@ any_disputed-says notes from to =
     any-says (is_disputed_at notes) (IsDisputedAt notes) (is_disputed_at-says notes) from to
 
 is_known-says : (known : KnownParts) (x : ℕ) → IsTrue (is_known known x) ↔ IsKnown known x
-is_known-says known x =
-    grind (arith, is_held-says, has_offset-says, either-says, is_held, has_offset, either)
+is_known-says known x = grind (arith, is_held-says, has_offset-says, either-says, is_held, has_offset, either)
 
 pub all_known-says : (known : KnownParts) (from to : ℕ)
     → IsTrue (are_all_known known from to) ↔ ((x : ℕ) → from ≤ x → x < to → IsKnown known x)
@@ -79,8 +76,7 @@ module _ (P : ℕ → Type 0) (from to : ℕ) where
   pub all-empty : (t : Bool) → IsTrue t ↔ All → to ≤ from → t ≡ true
   all-empty t says h = says.1 (λ x l r. absurd (omega (arith, l, r, h)))
 
-  pub all-past : (t : Bool) (end : ℕ) → IsTrue t ↔ All → ((x : ℕ) → P x → x < end) → from < to → end < to
-      → t ≡ false
+  pub all-past : (t : Bool) (end : ℕ) → IsTrue t ↔ All → ((x : ℕ) → P x → x < end) → from < to → end < to → t ≡ false
   all-past t end says below some past = grind (arith, false_from_ne_true)
 
   pub any-past : (t : Bool) (end : ℕ) → IsTrue t ↔ Any to → ((x : ℕ) → P x → x < end) → end ≤ from → t ≡ false
@@ -101,11 +97,9 @@ range-first a b l = let e : b - a ≡ suc (b - (a + 1)) = omega arith in ap (ran
 pub placed-step : {K : Type 0} (f : ℕ → Option K) (xs whole : List K) (a b : ℕ) (p : K) → a < b → Some p ≡ f a
     → xs ++ filter_map f (range_with_len a (b - a)) ≡ whole
     → (xs ++ p ∷ []) ++ filter_map f (range_with_len (a + 1) (b - (a + 1))) ≡ whole
-placed-step f xs whole a b p l e h =
-    grind (arith, filter_map, range_with_len, append_assoc, cons_option, range-first)
+placed-step f xs whole a b p l e h = grind (arith, filter_map, range_with_len, append_assoc, cons_option, range-first)
 
 pub skipped-step : {K : Type 0} (f : ℕ → Option K) (xs whole : List K) (a b : ℕ) → a < b → None ≡ f a
     → xs ++ filter_map f (range_with_len a (b - a)) ≡ whole
     → xs ++ filter_map f (range_with_len (a + 1) (b - (a + 1))) ≡ whole
-skipped-step f xs whole a b l e h =
-    grind (arith, filter_map, range_with_len, cons_option, range-first)
+skipped-step f xs whole a b l e h = grind (arith, filter_map, range_with_len, cons_option, range-first)

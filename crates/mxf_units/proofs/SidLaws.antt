@@ -31,8 +31,7 @@ sids-of notes sid =
 
 pub sids-rise : (notes : List NoteParts) → IsRising nat_cmp (index_sids_of notes)
 unfolding index_sids_of
-sids-rise notes =
-    IsRising-union nat_cmp_total nat_cmp-IsAntisymmetric [] (map sid_of (segments_of notes)) tt
+sids-rise notes = IsRising-union nat_cmp_total nat_cmp-IsAntisymmetric [] (map sid_of (segments_of notes)) tt
 
 -- ---- those that partitions name
 
@@ -100,6 +99,5 @@ named-of notes sid =
 
 pub named-rise : (notes : List NoteParts) → IsRising nat_cmp (named_index_sids_of notes)
 unfolding named_index_sids_of
-named-rise notes =
-    IsRising-union nat_cmp_total nat_cmp-IsAntisymmetric []
+named-rise notes = IsRising-union nat_cmp_total nat_cmp-IsAntisymmetric []
     (filter (λ sid. not (has_segment notes sid)) (filter_map index_sid_named (partitions_of notes))) tt

@@ -49,8 +49,7 @@ at_place known index_sid unit body_sid offset standings.Held o s = (body_sid, of
 at_place known index_sid unit body_sid offset standings.Hand o s = (body_sid, offset, o, s)
 
 by_place : (known : KnownParts) (index_sid unit : ℕ) (place : Result StreamPlace UnitStanding)
-    → IsPlacing known.notes index_sid unit place
-    → IsStanding known index_sid unit
+    → IsPlacing known.notes index_sid unit place → IsStanding known index_sid unit
     (standing_by known (location_at (parts_of known.notes) (segments_for known.notes index_sid) unit place))
 by_place known index_sid unit (Ok p) h =
     let zone = zone_at (parts_of known.notes) p.body_sid p.offset in

@@ -24,8 +24,7 @@ module _ (notes : List NoteParts) (index_sid unit : ℕ) where
         ap (option_map (in_stream g.by)) g.offset ∙ (λ i. Some record { body_sid = body i; offset = p.offset }),
       )
 
-  pub In-given : (q : StreamPlace) → In q given_places
-      → IsGiven (segments_of notes) index_sid unit q
+  pub In-given : (q : StreamPlace) → In q given_places → IsGiven (segments_of notes) index_sid unit q
   In-given q h =
       let s = (In-filter_map (place_in unit) (segments_for notes index_sid) q).0 h in
       let k = (In-filter (λ s. s.segment.numbers.index_sid == index_sid) (segments_of notes) s.0).0 s.1 in
@@ -64,8 +63,7 @@ module _ (notes : List NoteParts) (index_sid unit : ℕ) where
         let s = w.2 p (given-In p g) in
         (ap (λ (p : StreamPlace). p.body_sid) s, ap (λ (p : StreamPlace). p.offset) s);
   }
-  from_walk r (inr (inr w)) =
-      subst IsPlacing (sym w.5) (w.0, w.1, In-given w.0 w.2, In-given w.1 w.3, w.4)
+  from_walk r (inr (inr w)) = subst IsPlacing (sym w.5) (w.0, w.1, In-given w.0 w.2, In-given w.1 w.3, w.4)
 
   pub placing : IsPlacing (place_of (segments_for notes index_sid) unit)
   placing = from_walk (place_of (segments_for notes index_sid) unit) (walk_places given_places)

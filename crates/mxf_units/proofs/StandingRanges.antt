@@ -36,13 +36,11 @@ ends-says e limit h =
 says-ends : (e : Extent) (limit : ℕ) → (limit ≤ e.start) ⊎ ((end : ℕ) × (e.end ≡ Some end) × (limit < end))
     → ends_behind e limit ≡ true
 says-ends e limit (inl l) = either _ _ (inl (le-leb _ _ l))
-says-ends e limit (inr s) =
-    either (nat_le limit e.start) (option_map_or (λ x. nat_lt limit x) e.end false)
+says-ends e limit (inr s) = either (nat_le limit e.start) (option_map_or (λ x. nat_lt limit x) e.end false)
     (inr (ap (λ (o : Option ℕ). option_map_or (λ x. nat_lt limit x) o false) s.1 ∙ lt-ltb _ _ s.2))
 
 goes-says : (zone : EssenceZone) (e : Extent) → goes zone e ≡ true → GoesBehind zone e
-goes-says zone e h =
-    elim zone.limit as (λ (o : Option ℕ). zone.limit ≡ o → option_map_or (ends_behind e) o false ≡ true
+goes-says zone e h = elim zone.limit as (λ (o : Option ℕ). zone.limit ≡ o → option_map_or (ends_behind e) o false ≡ true
     → GoesBehind zone e) [
       | None ↦ λ f g. absurd cc
       | Some l ↦ λ f g. record { limit = l; limit_is = f; behind = ends-says e l g }
@@ -63,8 +61,7 @@ module _ (notes : List NoteParts) (l : Location) where
 
   says-elsewhere : LiesElsewhere notes l.zone l.extent → lies_elsewhere notes l ≡ true
   says-elsewhere (inl g) = either _ _ (inl (says-goes l.zone l.extent g))
-  says-elsewhere (inr b) =
-      either (goes l.zone l.extent) (is_beside_essence notes l.extent.start)
+  says-elsewhere (inr b) = either (goes l.zone l.extent) (is_beside_essence notes l.extent.start)
       (inr ((beside-says notes l.extent.start).1 b))
 
 denied : (P : Type 0) (b : Bool) → (P → b ≡ true) → b ≡ false → ¬ P
@@ -119,9 +116,7 @@ module _ (known : KnownParts) (l : Location) where
   hand_test = is_some e.end && are_all_known known e.start end
 
   abbrev cascade : Bool → Bool → Bool → Bool → Bool → Bool → UnitStanding
-  cascade a b c d k m =
-      if a then standings.Elsewhere
-      else (if b then standings.Unsure
+  cascade a b c d k m = if a then standings.Elsewhere else (if b then standings.Unsure
       else (if c then standings.Disputed
       else (if not d then standings.Missing
       else (if k then standings.Held else (if m then standings.Hand else standings.Part)))))
@@ -214,8 +209,7 @@ module _ (known : KnownParts) (l : Location) where
   none_of o b (inr f) = false_from_ne_true (is_some o && b) (λ t. f (and_parts (is_some o) b t).1)
 
   all_held : IsSome e.end → AllHeld known.notes e.start end → held_test ≡ true
-  all_held some all =
-      and_from (is_some e.end) (are_all_held known.notes e.start end) some
+  all_held some all = and_from (is_some e.end) (are_all_held known.notes e.start end) some
       ((all_held-says known.notes e.start end).1 all)
 
   not_all_held : ¬ AllHeld known.notes e.start end → held_test ≡ false

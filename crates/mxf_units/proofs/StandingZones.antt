@@ -63,8 +63,7 @@ none_or (Some x) f = absurd (f refl)
 -- Behind a part without a first packet come such ones alone.
 none-behind : (q p : StreamPart) → part_cmp q p ≡ Less → q.body_sid ≡ p.body_sid → q.body_offset ≡ p.body_offset
     → p.zone ≡ None → q.zone ≡ None
-none-behind q p l b o e =
-    none_or q.zone (λ s.
+none-behind q p l b o e = none_or q.zone (λ s.
     third (nat_cmp q.body_sid p.body_sid) (nat_cmp q.body_offset p.body_offset) (option_cmp zone_cmp q.zone p.zone)
     (nat_cmp q.partition p.partition) (tied q.body_sid p.body_sid b) (tied q.body_offset p.body_offset o)
     (some_none q.zone p.zone e s) l)
@@ -152,8 +151,7 @@ module _ (notes : List NoteParts) (body_sid offset : ℕ) where
   below_first x xs a = below_head x xs a.falls (body_of (x ∷ xs) a)
 
   first_last : (x : StreamPart) (xs : List StreamPart) (a : AreLeft (x ∷ xs)) (p : PartitionParts)
-      → BeginsUpTo notes body_sid offset p → p.pack.numbers.body_offset ≡ x.body_offset
-      → IsLast notes body_sid offset p
+      → BeginsUpTo notes body_sid offset p → p.pack.numbers.body_offset ≡ x.body_offset → IsLast notes body_sid offset p
   first_last x xs a p b e = record {
     begins = b;
     last = λ q c. let l = below_first x xs a (part_of notes q) (a.here q c) in omega (arith, l, e);
@@ -184,8 +182,7 @@ module _ (notes : List NoteParts) (body_sid offset : ℕ) where
 
   -- By two last ones.
   double : (x y : StreamPart) (xs : List StreamPart) → AreLeft (x ∷ y ∷ xs) → x.body_offset ≡ y.body_offset
-      → IsZone notes body_sid offset
-      (if is_some y.zone then Err standings.Several else ok_or x.zone standings.Several)
+      → IsZone notes body_sid offset (if is_some y.zone then Err standings.Several else ok_or x.zone standings.Several)
   double x y xs a same =
       let s = a.there x (inl refl) in
       let t = a.there y (inr (inl refl)) in

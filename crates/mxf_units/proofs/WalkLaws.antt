@@ -25,8 +25,7 @@ use Rattle.mxf_units.specs.declared.standing.UnitStanding.TheVariants as standin
 
 -- None is there and this is the answer to it, or all are one and this is the answer to that, or two differ.
 abbrev Walked : {K R : Type 0} → R → (K → R) → R → List K → R → Type 0
-Walked {K} none one two xs r =
-    (((x : K) → In x xs → ⊥) × (r ≡ none))
+Walked {K} none one two xs r = (((x : K) → In x xs → ⊥) × (r ≡ none))
     ⊎ (((x : K) × In x xs × ((y : K) → In y xs → y ≡ x) × (r ≡ one x))
     ⊎ ((x : K) × (y : K) × In x xs × In y xs × (x ≢ y) × (r ≡ two)))
 
@@ -63,14 +62,12 @@ pub itself_place : (q p : StreamPlace) → q ≡ p → is_same_place q p ≡ tru
 itself_place q p e = grind (arith, and_from, eq-eqb)
 
 abbrev pub PlacesWalked : List StreamPlace → Result StreamPlace UnitStanding → Type 0
-PlacesWalked =
-    Walked {K = StreamPlace} {R = Result StreamPlace UnitStanding} (Err standings.NotIndexed) (λ p. Ok p)
+PlacesWalked = Walked {K = StreamPlace} {R = Result StreamPlace UnitStanding} (Err standings.NotIndexed) (λ p. Ok p)
     (Err standings.Ambiguous)
 
 walk_on : (q : StreamPlace) (places : List StreamPlace) → PlacesWalked (q ∷ places) (only_place (Some q) places)
 walk_on q [] = inr (inl (q, inl refl, λ y h. elim h [ inl e ↦ e | inr k ↦ absurd k ], refl))
-walk_on q (p ∷ places) =
-    elim (is_same_place q p) as (λ b. is_same_place q p ≡ b
+walk_on q (p ∷ places) = elim (is_same_place q p) as (λ b. is_same_place q p ≡ b
     → PlacesWalked (q ∷ p ∷ places) (if not b then Err standings.Ambiguous else only_place (Some p) places)) [
       | true ↦ λ e. repeated (Err standings.NotIndexed) (λ p. Ok p) (Err standings.Ambiguous) q p places
           (only_place (Some p) places) (same_place q p e) (walk_on p places)
@@ -97,8 +94,7 @@ EntriesWalked = Walked {K = IndexEntry} {R = Option IndexEntry} None (λ e. Some
 
 entries_on : (d : IndexEntry) (entries : List IndexEntry) → EntriesWalked (d ∷ entries) (only_entry (Some d) entries)
 entries_on d [] = inr (inl (d, inl refl, λ y h. elim h [ inl e ↦ e | inr k ↦ absurd k ], refl))
-entries_on d (e ∷ entries) =
-    elim (is_same_entry d e) as (λ b. is_same_entry d e ≡ b
+entries_on d (e ∷ entries) = elim (is_same_entry d e) as (λ b. is_same_entry d e ≡ b
     → EntriesWalked (d ∷ e ∷ entries) (if not b then None else only_entry (Some e) entries)) [
       | true ↦ λ h. repeated None (λ x. Some x) None d e entries (only_entry (Some e) entries) (same_entry d e h)
           (entries_on e entries)
@@ -139,8 +135,7 @@ module _ (unit : ℕ) (fits : unit < 2 ^ 64) (s : SegmentAtParts)
       )
 
   no_constant : is_constant s.segment.numbers ≡ true → covers_constant s.segment unit ≡ false
-  no_constant e =
-      grind (arith, not_both, nat_le, nat_lt, leb-true, is_constant, min, entry_count, ltb-true)
+  no_constant e = grind (arith, not_both, nat_le, nat_lt, leb-true, is_constant, min, entry_count, ltb-true)
 
   pub outside-place : place_in unit s ≡ None
   outside-place =
@@ -176,8 +171,7 @@ same_any {K} test xs ys same = grind (arith, list_any-In, same_bool, list_any)
 module _ (unit : ℕ) (fits : unit < 2 ^ 64) (segments all near above : List SegmentAtParts)
     (order : IsPermutation segments all) (around : IsAround first_unit units_end unit all near above) where
   pub near-place : place_of near unit ≡ place_of segments unit
-  near-place =
-      ap (only_place None) (near_alone first_unit units_end (place_in unit) unit all near above around
+  near-place = ap (only_place None) (near_alone first_unit units_end (place_in unit) unit all near above around
       (λ s l. outside-place unit fits s (inl l)) (λ s l. outside-place unit fits s (inr l)))
       ∙ same-only_place (filter_map (place_in unit) all) (filter_map (place_in unit) segments)
       (same-filter_map (place_in unit) all segments (permuted segments all order))
@@ -191,10 +185,8 @@ module _ (unit : ℕ) (fits : unit < 2 ^ 64) (segments all near above : List Seg
       (same-filter_map f all segments (permuted segments all order))
 
   pub near-given : (p : StreamPlace) → is_given p unit near ≡ is_given p unit segments
-  near-given p =
-      any_given p unit near
+  near-given p = any_given p unit near
       ∙ ap (list_any (is_same_place p)) (near_alone first_unit units_end (place_in unit) unit all near above around
       (λ s l. outside-place unit fits s (inl l)) (λ s l. outside-place unit fits s (inr l)))
       ∙ same_any (is_same_place p) (filter_map (place_in unit) all) (filter_map (place_in unit) segments)
-      (same-filter_map (place_in unit) all segments (permuted segments all order))
-      ∙ sym (any_given p unit segments)
+      (same-filter_map (place_in unit) all segments (permuted segments all order)) ∙ sym (any_given p unit segments)

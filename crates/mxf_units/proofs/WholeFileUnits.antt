@@ -21,8 +21,7 @@ use Rattle.mxf_units.specs.declared.standing.UnitStanding.TheVariants as standin
 extent_is : (notes : List NoteParts) (index_sid unit body_sid offset : ℕ) (zone : EssenceZone) (e : Extent)
     → HasOffset zone offset e.start → IsExtentEnd notes index_sid unit body_sid offset zone e.end
     → extent_in zone offset (end_place (segments_for notes index_sid) zone unit body_sid offset) ≡ e
-extent_is notes index_sid unit body_sid offset zone e start is =
-    grind (arith, offset_is, extent_end-is)
+extent_is notes index_sid unit body_sid offset zone e start is = grind (arith, offset_is, extent_end-is)
 
 -- ---- all of it is held
 

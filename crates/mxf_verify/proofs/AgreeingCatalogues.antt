@@ -25,8 +25,7 @@ joined_same : (reference saved : List NoteParts) → IsCatalogue reference → A
     → HasEach reference saved ↔ (reduced_union reference saved ≡ reference)
 joined_same reference saved is red = (
   λ each. one_reduced (reduced_union reference saved) reference
-      (IsContent-reduced_union reference saved is.content) is.content
-      (AreReduced-reduced_union reference saved red) red
+      (IsContent-reduced_union reference saved is.content) is.content (AreReduced-reduced_union reference saved red) red
       (λ n.
       let u = has-reduced_union n reference saved in (
         λ h. elim (u.0 h) [
@@ -143,8 +142,7 @@ module _ (reference : List NoteParts) (contents : List (List NoteParts)) (v : Ve
   -- of those that say nothing else each note is had
   each_told : HasNoEmptyHead reference → v.damaged ≡ 0 → v.unknown ≡ [] → (c : List NoteParts) → In c contents
       → HasEach reference c
-  each_told heads none known c i =
-      each_had reference c
+  each_told heads none known c i = each_had reference c
       (λ n j d. none_of reference (IsDiffering reference (map Saved contents)) v.damaged told.damaged none n j
       (Saved c, source_saved c i, d))
       (λ at h. elim (lies_or_not v.held at) [
@@ -157,12 +155,10 @@ module _ (reference : List NoteParts) (contents : List (List NoteParts)) (v : Ve
   -- and where each is had, nothing differs and nothing is unknown
   told_nothing : ((c : List NoteParts) → In c contents → HasEach reference c) → (v.damaged ≡ 0) × (v.unknown ≡ [])
   told_nothing each = (
-    count_none reference (IsDiffering reference (map Saved contents)) v.damaged told.damaged
-        (λ n i d.
+    count_none reference (IsDiffering reference (map Saved contents)) v.damaged told.damaged (λ n i d.
         let s = saved_source d.0 d.1 in
         none_differs reference s.0 (each s.0 s.1) n (subst (DiffersIn reference n) s.2 d.2)),
-    none_runs v.unknown told.unknown.maximal
-        (λ at l.
+    none_runs v.unknown told.unknown.maximal (λ at l.
         let u = (told.unknown.offsets at).0 l in
         let s = saved_source u.0.0 u.0.1 in
         u.1 (all_held reference s.0 (each s.0 s.1) at (subst (λ x. IsByteOf x at) s.2 u.0.2))),

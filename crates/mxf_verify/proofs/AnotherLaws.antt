@@ -50,8 +50,7 @@ had-where old new r = record {
 }
 
 one_where : (P : NoteParts → Type 0) (a b : List NoteParts) → AreNotesWhere P a → AreNotesWhere P b → a ≡ b
-one_where P a b p q =
-    same_from_members note_total note_cmp-IsAntisymmetric a b p.content q.content
+one_where P a b p q = same_from_members note_total note_cmp-IsAntisymmetric a b p.content q.content
     (λ n. (λ i. (q.members n).1 ((p.members n).0 i), λ i. (p.members n).1 ((q.members n).0 i)))
 
 pub another-by_test : (old new : List NoteParts) → IsContent old → IsTrue (is_of_another old new) ↔ IsOfAnother old new
@@ -106,8 +105,7 @@ length-step true n xs = omega arith
 length-step false n xs = omega arith
 
 -- one note more
-pub dropped-step : (n : NoteParts) (rest new : List NoteParts)
-    → length (dropped_essence (n ∷ rest) new)
+pub dropped-step : (n : NoteParts) (rest new : List NoteParts) → length (dropped_essence (n ∷ rest) new)
     ≡ length (dropped_essence (n ∷ []) new) + length (dropped_essence rest new)
 dropped-step n rest new = grind (arith, length-step)
 

@@ -12,8 +12,7 @@ use Rattle.mxf_verify.proofs.ByteLaws.{agrees_none}
 
 -- a note's bytes reach to where what it covers ends
 pub covered_by_size : (n : NoteParts) → covered_end n ≡ n.offset + held_size n
-covered_by_size n =
-    elim n.whole as (λ b. cond b (end_of n) (n.offset + 16 + n.width)
+covered_by_size n = elim n.whole as (λ b. cond b (end_of n) (n.offset + 16 + n.width)
     ≡ n.offset + cond b (front_size n + n.length) (front_size n)) [ true ↦ omega arith | false ↦ omega arith ]
 
 -- key and length are among them
@@ -28,8 +27,7 @@ part_behind n at bytes h = grind (arith, covered_by_size)
 -- nor of one that begins where they end, or behind
 pub part_ahead : (n : NoteParts) (at : ℕ) (bytes : List ℕ) → at + length bytes ≤ n.offset → part_of n at bytes ≡ []
 unfolding part_of
-part_ahead n at bytes h =
-    ap (take (held_size n - (at - n.offset))) (drop_all (n.offset - at) bytes (omega arith))
+part_ahead n at bytes h = ap (take (held_size n - (at - n.offset))) (drop_all (n.offset - at) bytes (omega arith))
     ∙ take_all (held_size n - (at - n.offset)) [] (omega arith)
 
 -- of no byte nothing else is said

@@ -63,8 +63,7 @@ agreeing_same offset bytes r is left among =
 pub told_are_same : (offset : ℕ) (bytes : List ℕ) (digested : ℕ) (notes : List (Bor NoteParts))
     → AllWithin (λ r. IsNote r.now) notes 0 (length notes)
     → AllWithin (λ r. IsTrue (is_digested r.now) → offset + length bytes < covered_end r.now) notes digested
-    (length notes)
-    → AreSame offset bytes (map (told offset bytes) (take digested notes)
+    (length notes) → AreSame offset bytes (map (told offset bytes) (take digested notes)
     ++ map (agreeing offset bytes) (drop digested notes))
 unfolding told agreeing
 told_are_same offset bytes zero [] are left k d l h among = absurd (omega arith)

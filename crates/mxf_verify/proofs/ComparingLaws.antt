@@ -53,8 +53,7 @@ contradicts-by_test m n =
             no_head = λ s. not-true-false (is_head_of m n) q.1 (head.1 s);
             no_packet = λ s. not-true-false (is_head_of n m) p.1 (packet.1 s);
           },
-      λ c. and_from _ _
-          (and_from _ _
+      λ c. and_from _ _ (and_from _ _
           (and_from _ _ (not_true (is_same_note m n) (λ t. c.differ (one.0 t))) (share.1 c.share))
           (not_true (is_head_of m n) (λ t. c.no_head (head.0 t))))
           (not_true (is_head_of n m) (λ t. c.no_packet (packet.0 t))),

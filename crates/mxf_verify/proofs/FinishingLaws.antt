@@ -139,8 +139,7 @@ module _ (reference : List NoteParts) (sources : List Source) (seen : Seen) (is 
   -- the notes that differ somewhere
   pub damaged_members : (n : NoteParts) → In n (map (λ (d : Differing). d.note.now) seen.differing.items)
       ↔ (In n reference × IsDiffering reference sources n)
-  damaged_members n =
-      subst (λ l. In n l ↔ (In n reference × IsDiffering reference sources n))
+  damaged_members n = subst (λ l. In n l ↔ (In n reference × IsDiffering reference sources n))
       (map-map (λ (p : DifferingParts). p.note)
       (λ (d : Differing). differing_in d.source d.note.now) seen.differing.items)
       (damaged_says reference 1 sources _ n is.differing)
@@ -223,8 +222,7 @@ added_once old added all new e o n =
 
 -- what differs, put in order
 pub damaged_once : (none lent set ordered : List NoteParts) (ds : List Differing) (rs : List (Bor NoteParts))
-    → none ≡ []
-    → rs ≡ map (λ (d : Differing). d.note) ds → lent ≡ notes_at rs
+    → none ≡ [] → rs ≡ map (λ (d : Differing). d.note) ds → lent ≡ notes_at rs
     → ((n : NoteParts) → In n set ↔ (In n none ⊎ In n lent)) → ordered ≡ union_of [] set → (n : NoteParts)
     → In n ordered ↔ In n (map (λ (d : Differing). d.note.now) ds)
 damaged_once none lent set ordered ds rs z names held more o n = grind (arith, In-union_of, map-map)
@@ -312,8 +310,7 @@ within_says ranges n =
 
 -- the note wasn't compared
 abbrev pub is_left_out : Uncompared → NoteParts → Bool
-is_left_out u n =
-    not (is_held n u.verified || is_held n u.damaged || is_within_one u.reach n)
+is_left_out u n = not (is_held n u.verified || is_held n u.damaged || is_within_one u.reach n)
     && (is_met u.read n || is_held n u.headed)
 
 left_out-by_test : (u : Uncompared) (n : NoteParts) → IsTrue (is_left_out u n) ↔ IsLeftOut u n
@@ -346,16 +343,14 @@ left_out_by b u n d =
 -- those that pass the test
 pub those_left_out : (reference : List NoteParts) (u : Uncompared) (xs : List NoteParts) → IsContent reference
     → xs ≡ map (λ n. n) (filter (is_left_out u) reference) → AreThose reference (IsLeftOut u) xs
-those_left_out reference u xs rising e =
-    subst (AreThose reference (IsLeftOut u)) (sym (e ∙ map-id _))
+those_left_out reference u xs rising e = subst (AreThose reference (IsLeftOut u)) (sym (e ∙ map-id _))
     (those_passing reference (IsLeftOut u) (is_left_out u) rising (λ n _. left_out-by_test u n))
 
 -- ---- all of it
 
 -- what is told of a reference beside sources, by what was seen of these
 pub verification_of : (reference : List NoteParts) (sources : List Source) (seen : Seen)
-    (is : IsSeen reference sources seen)
-    (u : Uncompared) (b : ToldBytes) (cut : List NoteParts) (v : VerificationParts)
+    (is : IsSeen reference sources seen) (u : Uncompared) (b : ToldBytes) (cut : List NoteParts) (v : VerificationParts)
     → IsToldBy reference u b (parts_of seen.differing.items) cut seen.came v
     → u.verified ≡ union_of [] seen.verified → IsContent u.damaged
     → ((n : NoteParts) → In n u.damaged ↔ In n (map (λ (d : Differing). d.note.now) seen.differing.items))
@@ -415,8 +410,7 @@ verification_of reference sources seen is u b cut v told verified rises damaged 
 
 -- the same of the same notes and runs
 pub bytes_same : (reference a b c d : List NoteParts) (x y z w : List Run) (t : ToldBytes) → a ≡ b → c ≡ d → x ≡ z
-    → y ≡ w
-    → AreBytes reference a c (x ++ y) t → AreBytes reference b d (z ++ w) t
+    → y ≡ w → AreBytes reference a c (x ++ y) t → AreBytes reference b d (z ++ w) t
 bytes_same reference a b c d x y z w t p q r s h =
     subst (λ l. AreBytes reference b d (z ++ l) t) s (subst (λ l. AreBytes reference b d (l ++ y) t) r
     (subst (λ l. AreBytes reference b l (x ++ y) t) q (subst (λ l. AreBytes reference l c (x ++ y) t) p h)))

@@ -18,8 +18,7 @@ same_part at d k a b apart (inl ahead) =
     front a ∙ ap (λ (l : List ℕ). drop d (take (d + k) l)) apart.ahead ∙ sym (front b)
 same_part at d k a b apart (inr behind) =
     let back = λ (l : List ℕ). ap (λ (i : ℕ). drop i l)
-    (let e : d ≡ at + 1 + (d - (at + 1)) = omega (arith, behind) in e)
-    ∙ sym (drop-drop (d - (at + 1)) (at + 1) l) in
+    (let e : d ≡ at + 1 + (d - (at + 1)) = omega (arith, behind) in e) ∙ sym (drop-drop (d - (at + 1)) (at + 1) l) in
     ap (take k) (back a ∙ ap (drop (d - (at + 1))) apart.behind ∙ sym (back b))
 
 -- So what a note holds is the same where the byte is none of its.
@@ -59,8 +58,7 @@ pub said_once : (n : NoteParts) (a b : List ℕ) → IsSaidBy n a → IsSaidBy n
     → length b ≡ held_size n
     → (a ≡ b) ⊎ (IsTrue (is_digested n) × (sha256 (drop (front_size n) a) ≡ sha256 (drop (front_size n) b)))
 unfolding is_digested
-said_once n a b s t p q =
-    elim n.whole as (λ w. n.whole ≡ w
+said_once n a b s t p q = elim n.whole as (λ w. n.whole ≡ w
     → (a ≡ b) ⊎ (IsTrue (is_digested n) × (sha256 (drop (front_size n) a) ≡ sha256 (drop (front_size n) b)))) [
       | false ↦ λ e.
           let size : held_size n ≡ front_size n = ap (λ w. cond w (front_size n + n.length) (front_size n)) e in
@@ -72,8 +70,7 @@ said_once n a b s t p q =
             | true ↦ λ k.
                 let whole = λ (l : List ℕ) (u : IsSaidBy n l). ap
                 (λ w. cond w (drop (front_size n) l) (sha256 (drop (front_size n) l))) (sym k) ∙ u.value e in
-                inl (sym (take-append-drop (front_size n) a)
-                ∙ ap (λ l. l ++ drop (front_size n) a) front
+                inl (sym (take-append-drop (front_size n) a) ∙ ap (λ l. l ++ drop (front_size n) a) front
                 ∙ ap (λ l. take (front_size n) b ++ l) (whole a s ∙ sym (whole b t))
                 ∙ take-append-drop (front_size n) b)
             | false ↦ λ k.
@@ -81,8 +78,7 @@ said_once n a b s t p q =
                 (λ w. cond w (drop (front_size n) l) (sha256 (drop (front_size n) l))) (sym k) ∙ u.value e in
                 inr (
                   and_from n.whole (not (keeps_value n)) e (not_from_false (keeps_value n) k),
-                  digest a s
-                      ∙ sym (digest b t),
+                  digest a s ∙ sym (digest b t),
                 )
           ] refl
     ] refl

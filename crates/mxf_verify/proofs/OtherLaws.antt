@@ -32,8 +32,7 @@ use Rattle.mxf_readings.proofs.CountLaws.{count-alike, count-both, count-front, 
 -- the head of a note is that of a later one, or stands below it
 heads_rise : (a b : NoteParts) → note_cmp a b ≡ Less
     → (head_note a ≡ head_note b) ⊎ (note_cmp (head_note a) (head_note b) ≡ Less)
-heads_rise a b l =
-    elim (note_cmp (head_note a) (head_note b)) as (λ o. note_cmp (head_note a) (head_note b) ≡ o
+heads_rise a b l = elim (note_cmp (head_note a) (head_note b)) as (λ o. note_cmp (head_note a) (head_note b) ≡ o
     → (head_note a ≡ head_note b) ⊎ (note_cmp (head_note a) (head_note b) ≡ Less)) [
       | Less ↦ λ e. inr e
       | Equal ↦ λ e. inl (note_cmp-IsAntisymmetric (head_note a) (head_note b) e)
@@ -61,8 +60,7 @@ le_before x y n l t =
 parted_heads : (p : NoteParts → Bool) (rs : List (Bor NoteParts)) → IsContent (notes_at rs)
     → ((x y : NoteParts) → note_cmp x y ≡ Less → p y ≡ true → p x ≡ true)
     → IsPartitionedBy (λ (r : Bor NoteParts). p (head_note r.now)) rs
-parted_heads p rs r before i j d l h t =
-    by_places (λ i j. j < length rs → p (head_note (get_or rs j d).now) ≡ true
+parted_heads p rs r before i j d l h t = by_places (λ i j. j < length rs → p (head_note (get_or rs j d).now) ≡ true
     → p (head_note (get_or rs i d).now) ≡ true)
     i j l (λ k m u. u) (λ less m u.
     elim (heads_rise (get_or rs i d).now (get_or rs j d).now
@@ -94,8 +92,7 @@ tally_le Equal = refl
 tally_le Greater = refl
 
 -- those whose head is a note or stands below it are those whose head stands below it, and its packets
-pub packets-count : (n : NoteParts) (notes : List NoteParts)
-    → count_by (λ m. is_le (note_cmp (head_note m) n)) notes
+pub packets-count : (n : NoteParts) (notes : List NoteParts) → count_by (λ m. is_le (note_cmp (head_note m) n)) notes
     ≡ count_by (λ m. is_lt (note_cmp (head_note m) n)) notes + count_by (λ m. is_same_note (head_note m) n) notes
 packets-count n [] = refl
 packets-count n (m ∷ ms) =
@@ -131,19 +128,16 @@ touchers-count n notes =
 pub touched-by_counts : (n : NoteParts) (notes : List NoteParts) (begun ended packets : ℕ)
     → begun ≡ count_by (λ m. nat_lt m.offset (covered_end n)) notes
     → ended ≡ count_by (λ m. nat_le (covered_end m) n.offset) notes
-    → packets ≡ count_by (λ m. is_same_note (head_note m) n) notes
-    → nat_lt packets (begun - ended) ≡ is_touched n notes
+    → packets ≡ count_by (λ m. is_same_note (head_note m) n) notes → nat_lt packets (begun - ended) ≡ is_touched n notes
 unfolding is_touched
 touched-by_counts n notes begun ended packets b e h =
     let touching = touching-count n notes in
     let others = touchers-count n notes in
     let p = λ (m : NoteParts). is_held_byte_shared m n && not (is_same_note (head_note m) n) in
     let any = list_any-In p notes in
-    same_bool (nat_lt packets (begun - ended)) (list_any p notes)
-    (λ t.
+    same_bool (nat_lt packets (begun - ended)) (list_any p notes) (λ t.
     let less : packets < begun - ended = ltb-true packets (begun - ended) t in
-    any.1 (count-some p notes (omega (arith, touching, others, b, e, h, less))))
-    (λ t.
+    any.1 (count-some p notes (omega (arith, touching, others, b, e, h, less)))) (λ t.
     let s = any.0 t in
     let some = some-count p notes s.0 s.1 s.2 in
     lt-ltb packets (begun - ended) (omega (arith, touching, others, b, e, h, some)))
@@ -227,8 +221,7 @@ headed_says n notes = grind (arith, held_says, and_parts, and_from)
 
 -- the same of what is answered
 pub headed_whole : (n : NoteParts) (notes : List NoteParts) (b : Bool) → n.whole ≡ true → IsTrue b
-    ↔ In (head_note n) notes
-    → b ≡ is_headed n notes
+    ↔ In (head_note n) notes → b ≡ is_headed n notes
 unfolding is_headed
 headed_whole n notes b whole d = grind (arith, held_says, same_bool)
 
@@ -238,6 +231,5 @@ headed_head n notes head = ap (λ w. w && is_held (head_note n) notes) (sym head
 
 pub tells_headed : (reference saved headed : List NoteParts) → IsContent reference
     → headed ≡ filter (λ n. is_headed n saved) reference → AreThose reference (λ n. TouchesIn n (Saved saved)) headed
-tells_headed reference saved headed r e =
-    subst (AreThose reference (λ n. TouchesIn n (Saved saved))) (sym e)
+tells_headed reference saved headed r e = subst (AreThose reference (λ n. TouchesIn n (Saved saved))) (sym e)
     (those_passing reference (λ n. TouchesIn n (Saved saved)) (λ n. is_headed n saved) r (λ n h. headed_says n saved))

@@ -110,8 +110,7 @@ module _ (runs : List Run) (is : IsCover runs) where
   below_some : (end at : ℕ)
       → ((bound : ℕ) → end ≤ bound ↔ ((offset : ℕ) → LiesIn runs offset → offset < bound)) → at < end
       → (r : Run) × In r runs × (at < r.end)
-  below_some end at ends low =
-      some_above (λ (r : Run). r.end) runs at (λ most.
+  below_some end at ends low = some_above (λ (r : Run). r.end) runs at (λ most.
       let late : end ≤ at = (ends at).1 (λ offset h.
       let before : offset + 1 ≤ h.0.end = h.2.before in
       let last = most h.0 h.1 in omega (arith, before, last)) in omega (arith, late, low))
@@ -165,10 +164,8 @@ module _ (runs : List Run) (is : IsCover runs) where
 -- What is outside of all that is outside of one set or in another: what lies in the one and not in the other.
 pub rest-offsets : (all known others cover whole result : List Run)
     → ((at : ℕ) → LiesIn others at ↔ ((at < greatest_end) × (LiesIn all at → ⊥)) ⊎ LiesIn known at)
-    → ((at : ℕ) → LiesIn all at → at < greatest_end)
-    → SameOffsets cover others
-    → ((at : ℕ) → LiesIn whole at ↔ ((at < greatest_end) × (LiesIn cover at → ⊥)))
-    → SameOffsets result whole
+    → ((at : ℕ) → LiesIn all at → at < greatest_end) → SameOffsets cover others
+    → ((at : ℕ) → LiesIn whole at ↔ ((at < greatest_end) × (LiesIn cover at → ⊥))) → SameOffsets result whole
     → (at : ℕ) → LiesIn result at ↔ (LiesIn all at × (LiesIn known at → ⊥))
 rest-offsets all known others cover whole result other low covered rest same at = (
   λ h.

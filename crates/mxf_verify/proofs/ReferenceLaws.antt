@@ -57,8 +57,7 @@ fresh_same (r ∷ rs) (suc k) d l h = fresh_same rs k d (omega arith) (omega ari
 
 -- what is so of each note of candidates is so of each candidate
 candidates_within : (P : NoteParts → Type 0) (cs : List Candidate)
-    → AllByRecursion P (map (λ (c : Candidate). c.note.now) cs)
-    → AllWithin (λ c. P c.note.now) cs 0 (length cs)
+    → AllByRecursion P (map (λ (c : Candidate). c.note.now) cs) → AllWithin (λ c. P c.note.now) cs 0 (length cs)
 candidates_within P [] a k d l h = absurd (omega arith)
 candidates_within P (c ∷ cs) a zero d l h = a.0
 candidates_within P (c ∷ cs) a (suc k) d l h = candidates_within P cs a.1 k d (omega arith) (omega arith)

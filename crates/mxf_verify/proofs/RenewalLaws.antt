@@ -91,8 +91,7 @@ new-had n old new i = (has-renewed n old new).1 (inl (inl i))
 
 pub stayed-free : (n : NoteParts) (old new : List NoteParts) → AreReduced new → In n (renewed_of old new)
     → (has_note new n → ⊥) → IsContradicted n new → ⊥
-stayed-free n old new p i lacked c =
-    elim ((In-renewed n old new p).0 i).0 [ inl k ↦ lacked (inl k) | inr k ↦ k.free c ]
+stayed-free n old new p i lacked c = elim ((In-renewed n old new p).0 i).0 [ inl k ↦ lacked (inl k) | inr k ↦ k.free c ]
 
 kept-had : (n : NoteParts) (old new : List NoteParts) → In n old → (IsContradicted n new → ⊥)
     → has_note (renewed_of old new) n
@@ -148,8 +147,7 @@ pub joined-renewed : (old new : List NoteParts) → IsContent old → AreReduced
     → dropped_of old new ≡ [] → renewed_of old new ≡ reduced_union old new
 joined-renewed old new r p s q e =
     one_reduced (renewed_of old new) (reduced_union old new) (IsContent-renewed old new s)
-    (IsContent-reduced_union old new r) (AreReduced-renewed old new q) (AreReduced-reduced_union old new p)
-    (λ n.
+    (IsContent-reduced_union old new r) (AreReduced-renewed old new q) (AreReduced-reduced_union old new p) (λ n.
     let a = has-renewed n old new in
     let b = has-reduced_union n old new in (
       λ h. b.1 (elim (a.0 h) [ inl k ↦ inr k | inr k ↦ inl (kept-old n old new k) ]),
@@ -182,8 +180,7 @@ renewed-again old new s q =
     ))
 
 pub none-again : (old new : List NoteParts) → AreReduced new → dropped_of (renewed_of old new) new ≡ []
-none-again old new q =
-    filter_none (λ n. is_opposed n new) (renewed_of old new) (λ n i t.
+none-again old new q = filter_none (λ n. is_opposed n new) (renewed_of old new) (λ n i t.
     let o = (opposed-by_test n new).0 t in stayed-free n old new q i o.lacked o.contradicted)
 
 pub renewed-by_nothing : (old : List NoteParts) → IsContent old → AreReduced old → renewed_of old [] ≡ old
@@ -242,7 +239,6 @@ renewed-by_added old new s q =
 
 pub added-none : (old new : List NoteParts) → IsContent old → AreReduced old
     → reduced_union [] (added_of old new) ≡ added_of old new
-added-none old new r p =
-    reduced_union-none (added_of old new)
+added-none old new r p = reduced_union-none (added_of old new)
     (IsContent-filter (λ n. not (is_had n new) && not (is_contradicted n new)) old r)
     (AreReduced-part (added_of old new) old (λ n i. ((In-added n old new).0 i).0) p)

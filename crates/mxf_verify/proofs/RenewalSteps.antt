@@ -34,7 +34,6 @@ added-by false false n e f = refl
 
 pub lacked-added : (n : NoteParts) (new : List NoteParts) → (has_note new n → ⊥) → (IsOpposed n new → ⊥)
     → added_of (n ∷ []) new ≡ n ∷ []
-lacked-added n new l f =
-    added-by (is_had n new) (is_contradicted n new) n
+lacked-added n new l f = added-by (is_had n new) (is_contradicted n new) n
     (false_from_ne_true (is_had n new) (λ t. l ((had-by_test n new).0 t)))
     (false_from_ne_true (is_opposed n new) (λ t. f ((opposed-by_test n new).0 t)))

@@ -101,15 +101,13 @@ damaged_says reference first (s ∷ sources) told n (ns, rest, those, more, e) =
 pub ranges_more : (sources : List Source) (s : Source)
     → flat_map range_in (sources ++ s ∷ []) ≡ flat_map range_in sources ++ range_in s
 ranges_more [] s = append-nil (range_in s)
-ranges_more (t ∷ sources) s =
-    ap (λ l. range_in t ++ l) (ranges_more sources s)
+ranges_more (t ∷ sources) s = ap (λ l. range_in t ++ l) (ranges_more sources s)
     ∙ sym (append_assoc (range_in t) (flat_map range_in sources) (range_in s))
 
 -- members of a set with those of a list are members of either
 members_more : (reference : List NoteParts) (old added : List NoteParts) (P Q R : NoteParts → Type 0)
     → ((n : NoteParts) → In n old ↔ (In n reference × P n)) → AreThose reference Q added
-    → ((n : NoteParts) → R n ↔ (P n ⊎ Q n)) → (n : NoteParts)
-    → (In n old ⊎ In n added) ↔ (In n reference × R n)
+    → ((n : NoteParts) → R n ↔ (P n ⊎ Q n)) → (n : NoteParts) → (In n old ⊎ In n added) ↔ (In n reference × R n)
 members_more reference old added P Q R was those either n = grind arith
 
 -- there is a byte between an offset and the end of the bytes from there on where these are some
@@ -118,8 +116,7 @@ some_byte : (offset end : ℕ) (bytes : List ℕ) → end ≡ offset + length by
 some_byte offset end bytes e = grind (arith, ltb-true, lt-ltb)
 
 -- a byte of one of sources with one more is one of them, or of that one
-bytes_end : (sources : List Source) (s : Source)
-    → ((at : ℕ) × (t : Source) × In t (sources ++ s ∷ []) × IsByteOf t at)
+bytes_end : (sources : List Source) (s : Source) → ((at : ℕ) × (t : Source) × In t (sources ++ s ∷ []) × IsByteOf t at)
     ↔ (((at : ℕ) × (t : Source) × In t sources × IsByteOf t at) ⊎ ((at : ℕ) × IsByteOf s at))
 bytes_end sources s = (
   λ (at, t, k, b). elim ((some_end (λ x. IsByteOf x at) sources s).0 (t, k, b)) [
@@ -134,8 +131,7 @@ bytes_end sources s = (
 
 -- what a set has with notes more
 members_of : (old new added : List NoteParts) (lent names : List (Bor NoteParts)) → lent ≡ names
-    → added ≡ notes_at names
-    → ((n : NoteParts) → In n new ↔ (In n old ⊎ In n (notes_at lent))) → (n : NoteParts)
+    → added ≡ notes_at names → ((n : NoteParts) → In n new ↔ (In n old ⊎ In n (notes_at lent))) → (n : NoteParts)
     → In n new ↔ (In n old ⊎ In n added)
 members_of old new added lent names e a more n =
     subst (λ l. In n new ↔ (In n old ⊎ In n l)) (ap notes_at e ∙ sym a) (more n)

@@ -37,8 +37,7 @@ held_length n offset bytes h = grind (arith, length-drop, length-take)
 -- of a note that lies wholly in them all came
 pub all_held : (n : NoteParts) (offset : ℕ) (bytes : List ℕ) → IsAmong n offset bytes
     → length (held_in n offset bytes) ≡ held_size n
-all_held n offset bytes among =
-    omega (arith, held_length n offset bytes among.from, covered_by_size n, among.to)
+all_held n offset bytes among = omega (arith, held_length n offset bytes among.from, covered_by_size n, among.to)
 
 -- what is said of the part by how much came before, or by where it lies
 same_on : (n : NoteParts) (offset : ℕ) (bytes more : List ℕ) → offset ≤ n.offset
@@ -47,8 +46,7 @@ same_on : (n : NoteParts) (offset : ℕ) (bytes more : List ℕ) → offset ≤ 
 same_on n offset bytes more h = grind (arith, held_length, covered_by_size, cases_lt, part_behind, agrees_on_none)
 
 pub agreed_append : (n : NoteParts) (offset : ℕ) (bytes more : List ℕ) → offset ≤ n.offset
-    → agrees_with n (held_in n offset (bytes ++ more))
-    ≡ (agrees_with n (held_in n offset bytes)
+    → agrees_with n (held_in n offset (bytes ++ more)) ≡ (agrees_with n (held_in n offset bytes)
     && agrees_on n (offset + length bytes - n.offset) (part_of n (offset + length bytes) more))
 agreed_append n offset bytes more h = grind (arith, held_append, agrees_with_append, same_on)
 
@@ -137,11 +135,9 @@ value_taken n offset bytes value h at size fits =
     let f = front_size n in
     let whole : held_size n ≡ f + length value = omega (arith, size) in
     let place : length bytes ≡ d + f = omega arith in
-    ap (λ k. drop f (take k (drop d (bytes ++ value)))) whole
-    ∙ drop-take f (length value) (drop d (bytes ++ value))
+    ap (λ k. drop f (take k (drop d (bytes ++ value)))) whole ∙ drop-take f (length value) (drop d (bytes ++ value))
     ∙ ap (take (length value)) (drop-drop f d (bytes ++ value) ∙ ap (λ k. drop k (bytes ++ value)) (sym place)
-    ∙ drop-append_seam bytes value)
-    ∙ take_all (length value) value (omega arith)
+    ∙ drop-append_seam bytes value) ∙ take_all (length value) value (omega arith)
 
 count_of : (offset : ℕ) (bytes : List ℕ) (k : ℕ) (notes : List (Bor NoteParts))
     → length (map (told offset bytes) (take k notes) ++ map (agreeing offset bytes) (drop k notes)) ≡ length notes
@@ -172,8 +168,7 @@ pub digest_taken : (offset : ℕ) (bytes value : List ℕ) (k : ℕ) (notes : Li
     → front_size (get_or old.candidates.items k d).note.now ≤ held_size (get_or old.candidates.items k d).note.now
     → is_same ≡ bytes_eq (sha256 value) (get_or old.candidates.items k d).note.now.held
     → new.candidates.items ≡ set old.candidates.items k (also is_same (get_or old.candidates.items k d))
-    → new.at ≡ old.at
-    → HasTaken offset (bytes ++ value) (k + 1) notes new
+    → new.at ≡ old.at → HasTaken offset (bytes ++ value) (k + 1) notes new
 unfolding has_digest
 digest_taken offset bytes value k notes old new is_same d h few digested front end fits same said at =
     let n = (get_or old.candidates.items k d).note.now in
@@ -214,13 +209,11 @@ pub told_over : (offset : ℕ) (bytes : List ℕ) (k : ℕ) (notes : List (Bor N
 told_over offset bytes k [] e h none = absurd (omega arith)
 told_over offset bytes zero (r ∷ notes) e h none = λ i.
     sym (told_undigested offset bytes r none) i ∷ map (agreeing offset bytes) notes
-told_over offset bytes (suc k) (r ∷ notes) e h none =
-    grind (arith, told_over offset bytes k notes e (omega arith) none)
+told_over offset bytes (suc k) (r ∷ notes) e h none = grind (arith, told_over offset bytes k notes e (omega arith) none)
 
 -- before any digest was compared each candidate has the note at its place
 pub note_agreeing : (offset : ℕ) (bytes : List ℕ) (notes : List (Bor NoteParts)) (j : ℕ) (d : Candidate)
-    (e : Bor NoteParts)
-    → j < length notes
+    (e : Bor NoteParts) → j < length notes
     → (get_or (map (told offset bytes) (take 0 notes) ++ map (agreeing offset bytes) (drop 0 notes)) j d).note
     ≡ get_or notes j e
 unfolding agreeing

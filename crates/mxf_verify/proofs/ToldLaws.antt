@@ -70,8 +70,7 @@ rising-back R (x ∷ xs) ys r = rising-back R xs ys r.1
 
 rising-part : {X : Type 0} (R : X → X → Ordering) (xs : List X) (first count : ℕ) → IsRising R xs
     → IsRising R (take count (drop first xs))
-rising-part R xs first count r =
-    rising_front R (take count (drop first xs)) (drop count (drop first xs))
+rising-part R xs first count r = rising_front R (take count (drop first xs)) (drop count (drop first xs))
     (subst (IsRising R) (sym (take-append-drop count (drop first xs)))
     (rising-back R (take first xs) (drop first xs) (subst (IsRising R) (sym (take-append-drop first xs)) r)))
 
@@ -102,16 +101,14 @@ notes_noted cs = map-map (λ (r : Bor NoteParts). r.now) (λ (x : Candidate). x.
 -- those of a part are a part of those of all
 part_noted : (all cs : List Candidate) (first count : ℕ) → notes_of cs ≡ take count (drop first (notes_of all))
     → noted cs ≡ take count (drop first (noted all))
-part_noted all cs first count e =
-    sym (notes_noted cs) ∙ ap notes_at e
+part_noted all cs first count e = sym (notes_noted cs) ∙ ap notes_at e
     ∙ sym (take-map (λ (r : Bor NoteParts). r.now) count (drop first (notes_of all)))
     ∙ ap (take count) (sym (drop-map (λ (r : Bor NoteParts). r.now) first (notes_of all)))
     ∙ ap (λ l. take count (drop first l)) (notes_noted all)
 
 noted_part : (all : List Candidate) (first count : ℕ)
     → take count (drop first (noted all)) ≡ noted (take count (drop first all))
-noted_part all first count =
-    ap (take count) (drop-map (λ (x : Candidate). x.note.now) first all)
+noted_part all first count = ap (take count) (drop-map (λ (x : Candidate). x.note.now) first all)
     ∙ take-map (λ (x : Candidate). x.note.now) count (drop first all)
 
 -- a note that isn't crowded passes the test
@@ -212,8 +209,7 @@ module _ (reference : List NoteParts) (all : List Candidate) (offset bound : ℕ
     -- what a candidate says of a note whose bytes came
     says : (x : Candidate) → In x c.candidates.items → IsAmong x.note.now offset bytes
         → IsTrue x.is_same ↔ IsSaidBy x.note.now (held_in x.note.now offset bytes)
-    says x i among =
-        within-In (λ y. IsAmong y.note.now offset bytes
+    says x i among = within-In (λ y. IsAmong y.note.now offset bytes
         → IsTrue y.is_same ↔ IsSaidBy y.note.now (held_in y.note.now offset bytes)) c.candidates.items x h.same i among
 
     -- the bytes of a candidate's note came, up to the end
@@ -309,8 +305,7 @@ module _ (reference : List NoteParts) (all : List Candidate) (offset bound : ℕ
                     and_from (not x.is_same && nat_le (covered_end x.note.now) c.end) (not (is_met runs x.note.now))
                         (and_from (not x.is_same) (nat_le (covered_end x.note.now) c.end)
                         (not_true x.is_same (λ t. differs.1 ((says x s.1 differs.0.among).0 t)))
-                        (up_to_end x differs.0.among))
-                        (not_true (is_met runs x.note.now) (λ t.
+                        (up_to_end x differs.0.among)) (not_true (is_met runs x.note.now) (λ t.
                         let v = (shares x.note.now).0 t in differs.2 v.0 v.1.0 v.1.1 v.2)),
                   ),
                   s.2,

@@ -63,8 +63,7 @@ once-count n (m ∷ ms) r (inr k) =
 pub held-count : (b : Bool) (n : NoteParts) (notes : List NoteParts) → IsContent notes → IsTrue b ↔ In n notes
     → count_by (λ m. is_same_note m n) notes ≡ tally b
 held-count true n notes r d = once-count n notes r (d.0 refl)
-held-count false n notes r d =
-    count-none (λ m. is_same_note m n) notes (λ m i t.
+held-count false n notes r d = count-none (λ m. is_same_note m n) notes (λ m i t.
     let e = d.1 (subst (λ y. In y notes) ((same_note-Decides m n).0 t) i) in cc (e))
 
 -- ---- what a content opposes
@@ -98,8 +97,7 @@ others-count n notes =
     omega (arith, both, alike)
 
 pub opposed-by_counts : (n : NoteParts) (notes : List NoteParts) (begun ended heads : ℕ) → IsNote n
-    → (has_note notes n → ⊥)
-    → begun ≡ count_by (λ m. nat_lt m.offset (covered_end n)) notes
+    → (has_note notes n → ⊥) → begun ≡ count_by (λ m. nat_lt m.offset (covered_end n)) notes
     → ended ≡ count_by (λ m. nat_le (covered_end m) n.offset) notes
     → heads ≡ count_by (λ m. is_same_note m (head_note n)) notes
     → IsTrue (nat_lt heads (begun - ended)) ↔ IsOpposed n notes
@@ -151,8 +149,7 @@ pub begun-count : (notes : List NoteParts) (starts ends lent : List ℕ) (bound 
     → AllWithin (λ x. bound ≤ x) lent begun (length lent) → begun ≡ count_by (λ m. nat_lt m.offset bound) notes
 begun-count notes starts ends lent bound begun a e l f g =
     sym (count-front (λ x. nat_lt x bound) lent begun l (λ k d m n. lt-ltb _ bound (f k d m n)) (λ k d m n.
-    le-ltb _ bound (g k d m n)))
-    ∙ ap (count_by (λ x. nat_lt x bound)) (e ∙ a.starts_are)
+    le-ltb _ bound (g k d m n))) ∙ ap (count_by (λ x. nat_lt x bound)) (e ∙ a.starts_are)
     ∙ count_mapped (λ x. nat_lt x bound) (λ n. n.offset) notes
 
 -- so many end at or below a bound
@@ -161,8 +158,7 @@ pub ended-count : (notes : List NoteParts) (starts ends lent : List ℕ) (bound 
     → AllWithin (λ x. bound < x) lent ended (length lent) → ended ≡ count_by (λ m. nat_le (covered_end m) bound) notes
 ended-count notes starts ends lent bound ended a e l f g =
     sym (count-front (λ x. nat_le x bound) lent ended l (λ k d m n. le-leb _ bound (f k d m n)) (λ k d m n.
-    lt-leb _ bound (g k d m n)))
-    ∙ ap (count_by (λ x. nat_le x bound)) e
+    lt-leb _ bound (g k d m n))) ∙ ap (count_by (λ x. nat_le x bound)) e
     ∙ sum_by-IsPermutation (λ x. cond (nat_le x bound) 1 0) (map covered_end notes) ends a.ends_are
     ∙ count_mapped (λ x. nat_le x bound) covered_end notes
 
@@ -173,8 +169,7 @@ byte-tally false = refl
 -- a note is counted once where it is held
 pub held-byte : (b : Bool) (m n : NoteParts) (notes : List NoteParts) → IsContent notes → m ≡ n → IsTrue b ↔ In m notes
     → bool_byte b ≡ count_by (λ x. is_same_note x n) notes
-held-byte b m n notes r e d =
-    byte-tally b ∙ sym (held-count b n notes r (subst (λ x. IsTrue b ↔ In x notes) e d))
+held-byte b m n notes r e d = byte-tally b ∙ sym (held-count b n notes r (subst (λ x. IsTrue b ↔ In x notes) e d))
 
 -- no more end than begin
 pub ended-begun : (n : NoteParts) (notes : List NoteParts) (begun ended : ℕ)

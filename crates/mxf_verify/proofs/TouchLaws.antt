@@ -53,8 +53,7 @@ begin_in_order places up i j d l h = by_pairs (λ p. (p.extent.start, p.unit)) p
 
 pub end_in_order : (places back : List UnitPlace) → IsSortedByKey (λ p. (reach_of p, p.unit)) pair_cmp places
     → back ≡ reverse places → AreInOrder EndsBy back
-end_in_order places back up e =
-    subst (λ (l : List UnitPlace). AreInOrder EndsBy l) (sym e) (λ i j d l h.
+end_in_order places back up e = subst (λ (l : List UnitPlace). AreInOrder EndsBy l) (sym e) (λ i j d l h.
     let count : length (reverse places) ≡ length places = length-reverse places in
     let low : j < length places = omega (arith, h, count) in
     let last = length places - 1 in
@@ -66,8 +65,7 @@ end_in_order places back up e =
     (subst (λ (q : UnitPlace). EndsBy (get_or places (last - i) d) q) (sym at_j) order))
 
 pub members_back : (xs ys zs : List UnitPlace) → IsPermutation xs ys → zs ≡ reverse ys → SameMembers zs xs
-members_back xs ys zs p e =
-    subst (λ (l : List UnitPlace). SameMembers l xs) (sym e) (λ x.
+members_back xs ys zs p e = subst (λ (l : List UnitPlace). SameMembers l xs) (sym e) (λ x.
     let a = permuted xs ys p x in
     let b = permuted ys (reverse ys) (IsPermutation-reverse ys) x in (λ h. a.0 (b.0 h), λ h. b.1 (a.1 h)))
 
@@ -128,8 +126,7 @@ in_order R key places bound p x order f h more =
 
 is_in : (key : UnitPlace → ℕ) (places : List UnitPlace) (bound : ℕ) (p : UnitPlace) → IsFoundBy key places bound p
     → In p places
-is_in key places bound p f =
-    subst (λ (y : UnitPlace). In y places) (sym f.is) (In-at places f.place p f.within)
+is_in key places bound p f = subst (λ (y : UnitPlace). In y places) (sym f.is) (In-at places f.place p f.within)
 
 -- ---- places that a note touches
 
@@ -139,8 +136,7 @@ reach_above : (p : UnitPlace) (at : ℕ) → at < reach_of p
 reach_above p at h = grind (arith, ltb-true)
 
 reach_is : (p : UnitPlace) → p.extent.start < cut_end p.extent → reach_of p ≡ cut_end p.extent
-reach_is p h =
-    ap (λ (b : Bool). if b then cut_end p.extent else 0) (lt-ltb p.extent.start (cut_end p.extent) h)
+reach_is p h = ap (λ (b : Bool). if b then cut_end p.extent else 0) (lt-ltb p.extent.start (cut_end p.extent) h)
 
 module _ (n : NoteParts) (some : n.offset < covered_end n) (low : covered_end n ≤ greatest_end) where
   touches : (p : UnitPlace) → p.extent.start < covered_end n → n.offset < reach_of p → IsTouched n p
@@ -238,8 +234,7 @@ module _ (n : NoteParts) (some : n.offset < covered_end n) (low : covered_end n 
 
 pub same_above : (ps qs : List UnitPlace) (ms ns : List ℕ) (a b : ℕ) (o : Option UnitPlace) → ps ≡ qs → ms ≡ ns → a ≡ b
     → IsFirstAbove ps ms a o → IsFirstAbove qs ns b o
-same_above ps qs ms ns a b o e f g h =
-    subst (λ (l : List UnitPlace). IsFirstAbove l ns b o) e
+same_above ps qs ms ns a b o e f g h = subst (λ (l : List UnitPlace). IsFirstAbove l ns b o) e
     (subst (λ (l : List ℕ). IsFirstAbove ps l b o) f (subst (λ (k : ℕ). IsFirstAbove ps ms k o) g h))
 
 pub numbers_rise : (key : UnitPlace → ℕ) (places : List UnitPlace) (numbers given : List ℕ) → given ≡ numbers
@@ -249,6 +244,5 @@ numbers_rise key places numbers given e f =
 
 pub as_many : (key : UnitPlace → ℕ) (places those : List UnitPlace) (numbers given : List ℕ) → those ≡ places
     → given ≡ numbers → numbers ≡ greatest_ends key 0 places → length those ≡ length given
-as_many key places those numbers given d e f =
-    ap (λ (l : List UnitPlace). length l) d ∙ sym (length-ends key 0 places)
+as_many key places those numbers given d e f = ap (λ (l : List UnitPlace). length l) d ∙ sym (length-ends key 0 places)
     ∙ sym (ap (λ (l : List ℕ). length l) (e ∙ f))

@@ -159,8 +159,7 @@ spanned n places (Some p) (Some q) first last = (
 -- What is found is by the relation.
 pub touched_are : (places : List UnitPlace) (n : NoteParts) → AreUnitsOf places n (units_touched places n)
 unfolding units_touched
-touched_are places n =
-    spanned n places (first_touched begins_before n places) (first_touched ends_behind n places)
+touched_are places n = spanned n places (first_touched begins_before n places) (first_touched ends_behind n places)
     (first_is_chosen leads_first n places) (first_is_chosen leads_last n places)
 
 -- Two pairs each of which is no greater than the other.

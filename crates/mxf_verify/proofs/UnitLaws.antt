@@ -56,8 +56,7 @@ module _ (P : ℕ → UnitFixity → Type 0) (one : (unit : ℕ) (f g : UnitFixi
       let b = no_sooner from to y x ys xs k h (sym fixity) in
       let last : x.last ≡ y.last = omega (arith, a, b) in
       let first : x ≡ y = same_first x y (h.0 ∙ sym k.0) last fixity in
-      let rest = one_list (x.last + 1) to xs ys h.5
-      (subst (λ (n : ℕ). AreUnitRuns P (n + 1) to ys) (sym last) k.5) in
+      let rest = one_list (x.last + 1) to xs ys h.5 (subst (λ (n : ℕ). AreUnitRuns P (n + 1) to ys) (sym last) k.5) in
       λ i. first i ∷ rest i
 
 pub one_list_of_runs : (verified altered : List Run) (units : UnitsParts) (from to : ℕ) (a b : VerifiedUnitsParts)

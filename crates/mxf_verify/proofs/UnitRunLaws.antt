@@ -115,8 +115,7 @@ run_order runs i d is here =
     all-In (λ (r : UnitRun). r.first ≤ r.last) runs (get_or runs i d) is.order (In-at runs i d here)
 
 -- The units of a run and those of the runs behind it.
-pub units-more : (runs : List UnitRun) (i : ℕ) (d : UnitRun) → i < length runs
-    → units_in (drop i runs)
+pub units-more : (runs : List UnitRun) (i : ℕ) (d : UnitRun) → i < length runs → units_in (drop i runs)
     ≡ ((get_or runs i d).last + 1 - (get_or runs i d).first) + units_in (drop (i + 1) runs)
 units-more runs i d here = at_drop_more units_in runs i d here
 
@@ -141,8 +140,7 @@ one_then (Some x) rest = refl
 
 -- The places so far, with those of the units to come.
 pub places-step : {K : Type 0} (f : ℕ → Option K) (next to : ℕ) (so_far new whole : List K) → next ≤ to
-    → new ≡ so_far ++ cons_option (f next) []
-    → so_far ++ filter_map f (range_with_len next (to + 1 - next)) ≡ whole
+    → new ≡ so_far ++ cons_option (f next) [] → so_far ++ filter_map f (range_with_len next (to + 1 - next)) ≡ whole
     → new ++ filter_map f (range_with_len (next + 1) (to + 1 - (next + 1))) ≡ whole
 places-step {K} f next to so_far new whole within pushed before =
     let k = to - next in

@@ -24,8 +24,7 @@ use Rattle.mxf_verify.proofs.TakingLaws.{all_held}
 
 same_those : (reference : List NoteParts) (P : NoteParts → Type 0) (a b : List NoteParts) → AreThose reference P a
     → AreThose reference P b → a ≡ b
-same_those reference P a b s t =
-    same_content a b s.rising t.rising
+same_those reference P a b s t = same_content a b s.rising t.rising
     (λ n. (λ h. (t.members n).1 ((s.members n).0 h), λ h. (s.members n).1 ((t.members n).0 h)))
 
 same_count : (reference : List NoteParts) (P : NoteParts → Type 0) (a b : ℕ) → IsCountOf reference P a
@@ -34,8 +33,7 @@ same_count reference P a b s t =
     s.count_is ∙ ap length (same_those reference P s.notes t.notes s.those t.those) ∙ sym t.count_is
 
 same_offsets : (P : ℕ → Type 0) (a b : List Run) → AreRunsOf P a → AreRunsOf P b → a ≡ b
-same_offsets P a b s t =
-    same_runs 0 0 a b s.maximal t.maximal
+same_offsets P a b s t = same_runs 0 0 a b s.maximal t.maximal
     (λ at. (λ h. (t.offsets at).1 ((s.offsets at).0 h), λ h. (s.offsets at).1 ((t.offsets at).0 h)))
 
 same_differing : (reference : List NoteParts) (first : ℕ) (sources : List Source) (a b : List DifferingParts)
@@ -65,8 +63,7 @@ same_parts a b p q r s t u v w x y z i = record {
 
 pub one_verification : (reference : List NoteParts) (sources : List Source) (a b : VerificationParts)
     → IsVerification reference sources a → IsVerification reference sources b → a ≡ b
-one_verification reference sources a b s t =
-    same_parts a b (s.all_packets ∙ sym t.all_packets)
+one_verification reference sources a b s t = same_parts a b (s.all_packets ∙ sym t.all_packets)
     (same_count reference (IsVerified reference sources) _ _ s.packets t.packets)
     (same_count reference (IsDiffering reference sources) _ _ s.damaged t.damaged)
     (same_differing reference 1 sources _ _ s.differing t.differing)
@@ -89,8 +86,7 @@ module _ (reference : List NoteParts) (sources : List Source) (v : VerificationP
       (b.0, b.2.0, b.1, b.2.1, b.2.2, b.3)
 
   pub differs_so : (d : DifferingParts) → In d v.differing → In d.note reference × IsDiffering reference sources d.note
-  differs_so d h =
-      (damaged_says reference 1 sources v.differing d.note is.differing).0
+  differs_so d h = (damaged_says reference 1 sources v.differing d.note is.differing).0
       ((In-map (λ (x : DifferingParts). x.note) v.differing d.note).1 (d, h, refl))
 
   pub held_so : (at : ℕ) → LiesIn v.held at ↔ (LiesIn v.verified at ⊎ LiesIn v.altered at ⊎ LiesIn v.unverified at)

@@ -35,8 +35,7 @@ pub sees_at : (number offset at end : ℕ) (bytes : List ℕ) (old new : Seen) (
     → TellsOf old.reference (Bytes at (take (min piece_limit (greatest_end - at)) bytes)) told
     → end ≡ at + length (take (min piece_limit (greatest_end - at)) bytes)
     → ((more : List ℕ) → TellsOf old.reference (Bytes at more) told → end ≡ at + length more
-    → SeesNext number (Bytes at more) old new)
-    → SeesNext number (source_at offset bytes) old new
+    → SeesNext number (Bytes at more) old new) → SeesNext number (source_at offset bytes) old new
 sees_at number offset at end bytes old new told is tells ends sees =
     let left : greatest_end - at ≡ greatest_end - offset = omega arith in
     let source : Bytes at (take (min piece_limit (greatest_end - at)) bytes) ≡ source_at offset bytes =
@@ -53,8 +52,7 @@ module _ {R : Type 0} (left : R → Option (List ℕ)) (reference : List NotePar
   as_many (p ∷ parts) (s ∷ sources) a = let ih = as_many parts sources a.1 in omega arith
 
   sources_more : (parts : List (Part R)) (sources : List Source) (p : Part R) (s : Source)
-      → AreSourcesOf left parts sources
-      → IsSourceOf left p s → AreSourcesOf left (parts ++ p ∷ []) (sources ++ s ∷ [])
+      → AreSourcesOf left parts sources → IsSourceOf left p s → AreSourcesOf left (parts ++ p ∷ []) (sources ++ s ∷ [])
   sources_more [] [] p s a is = (is, tt)
   sources_more [] (t ∷ sources) p s a is = absurd a
   sources_more (q ∷ parts) [] p s a is = absurd a

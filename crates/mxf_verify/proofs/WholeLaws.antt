@@ -68,8 +68,7 @@ laid_from at (n ∷ ns) apart whole held = (
 reference_laid : (reference : List NoteParts) → IsWholeReference reference → AreNotesLaid 0 reference
 reference_laid reference is =
     laid_from 0 reference (subst (AreApart 0) all_clear (AreApart-clear_notes reference is.catalogue.content))
-    (λ n i. (is.clear n i).whole)
-    (λ n x i from to. is.no_gap n x i to)
+    (λ n i. (is.clear n i).whole) (λ n x i from to. is.no_gap n x i to)
   where
     all_clear : clear_notes reference ≡ reference
     all_clear = same_content (clear_notes reference) reference
@@ -80,8 +79,7 @@ reference_laid reference is =
 
 -- of none there is none
 pub none_of : (reference : List NoteParts) (P : NoteParts → Type 0) (count : ℕ) → IsCountOf reference P count
-    → count ≡ 0
-    → (n : NoteParts) → In n reference → ¬ P n
+    → count ≡ 0 → (n : NoteParts) → In n reference → ¬ P n
 none_of reference P count is e n i p =
     let (j, there, same) = Contains-from_In n is.notes ((is.those.members n).1 (i, p)) in
     let counted = is.count_is in omega (arith, there, counted, e)
@@ -183,8 +181,7 @@ module _ (reference : List NoteParts) (bytes : List ℕ) (v : VerificationParts)
     says_whole = record {
       some = some_packets;
       differs = count_none reference (IsDiffering reference (Bytes 0 bytes ∷ [])) v.damaged told.damaged none_differs;
-      verified = none_runs v.unverified told.unverified.maximal
-          (λ at h. let b = (told.unverified.offsets at).0 h in
+      verified = none_runs v.unverified told.unverified.maximal (λ at h. let b = (told.unverified.offsets at).0 h in
           b.1 (b.0.0, b.0.1, verified_there b.0.0 b.0.1, b.0.2));
       known = none_runs v.unknown told.unknown.maximal (λ at h. unknown at ((told.unknown.offsets at).0 h));
     }

@@ -132,8 +132,7 @@ read_said all at (n ∷ ns) laid each e within =
     let place : at + held_size n ≡ end_of n = omega arith in
     let ih = read_said all (end_of n) ns laid.2 (λ m i. each m (inr i)) e within in (
       next.notes ∙ ap (λ l. note_of at p ∷ l) (ap (λ l. notes_in (at + held_size n) l) behind
-          ∙ ap (λ k. notes_in k (drop (end_of n) all)) place ∙ ih.0)
-          ∙ ap (λ x. x ∷ ns) note,
+          ∙ ap (λ k. notes_in k (drop (end_of n) all)) place ∙ ih.0) ∙ ap (λ x. x ∷ ns) note,
       next.stop ∙ ap (λ l. stop_in (at + held_size n) l) behind
           ∙ ap (λ k. stop_in k (drop (end_of n) all)) place ∙ ih.1,
     )
@@ -167,8 +166,7 @@ laid_said : (all : List ℕ) (at : ℕ) (ps : List PacketParts) → AreBytes all
     → (n : NoteParts) → In n (notes_from at ps) → IsAmong n 0 all × IsSaidBy n (held_in n 0 all)
 laid_said all at [] are laid n i = absurd i
 laid_said all at (p ∷ ps) are (front, after, s, is, within, laid) n (inr i) =
-    let left : after ≡ drop (at + size_of p) all = sym
-    (sym (drop-drop (size_of p) at all) ∙ ap (drop (size_of p)) is
+    let left : after ≡ drop (at + size_of p) all = sym (sym (drop-drop (size_of p) at all) ∙ ap (drop (size_of p)) is
     ∙ drop_at front after (size_of p) (length-spelled front p s)) in
     laid_said all (at + size_of p) ps are (subst (λ l. AreLaid (at + size_of p) l ps []) left laid) n i
 laid_said all at (p ∷ ps) are (front, after, s, is, within, laid) n (inl e) =
@@ -182,8 +180,7 @@ laid_said all at (p ∷ ps) are (front, after, s, is, within, laid) n (inl e) =
     let reach = reached at (size_of p) all front after size is (omega arith) in
     let ahead : IsAmong m 0 all = record { from = omega arith; to = omega (arith, reach) } in
     let spelling : s.spelled ≡ length_bytes p.width (length p.value) =
-    spelled-length_bytes s.spelled p.width (length p.value)
-    (spelled_bytes all at front after p s is are) s.width in
+    spelled-length_bytes s.spelled p.width (length p.value) (spelled_bytes all at front after p s is are) s.width in
     let ahead_value : take (16 + p.width) front ≡ p.key ++ s.spelled =
     ap (take (16 + p.width)) (s.whole ∙ sym (append_assoc p.key s.spelled p.value))
     ∙ take_at (p.key ++ s.spelled) p.value (16 + p.width)

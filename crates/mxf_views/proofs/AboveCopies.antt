@@ -120,16 +120,14 @@ module _ (b : ℕ) (own other : List NoteParts) (m : MeetAt b own other) where
 
   covered_on : (s bytes : ℕ) → s ≤ b → covered_of s bytes (clear_notes all)
       ≡ covered_of s bytes (clear_notes own) + covered_of b (bytes - (b - s)) (clear_notes all)
-  covered_on s bytes l =
-      ap sizes (zone_of_both b own other m s bytes)
+  covered_on s bytes l = ap sizes (zone_of_both b own other m s bytes)
       ∙ sum_by-append size_of (zone_of s bytes (clear_notes own)) (zone_of s bytes (clear_notes other))
       ∙ ap (λ z. covered_of s bytes (clear_notes own) + sizes z)
       (zone_goes_on b own other m s bytes l ∙ sym (zone_from b own other m (bytes - (b - s))))
 
   prefaces_on : (s bytes : ℕ) → s ≤ b → prefaces_of s bytes (clear_notes all)
       ≡ prefaces_of s bytes (clear_notes own) + prefaces_of b (bytes - (b - s)) (clear_notes all)
-  prefaces_on s bytes l =
-      ap (count_by is_preface_note) (zone_of_both b own other m s bytes)
+  prefaces_on s bytes l = ap (count_by is_preface_note) (zone_of_both b own other m s bytes)
       ∙ sum_by-append (λ n. cond (is_preface_note n) 1 0) (zone_of s bytes (clear_notes own))
       (zone_of s bytes (clear_notes other))
       ∙ ap (λ z. prefaces_of s bytes (clear_notes own) + count_by is_preface_note z)
@@ -159,8 +157,7 @@ module _ (b : ℕ) (own other : List NoteParts) (m : MeetAt b own other) where
   -- ---- all copies
 
   own_copy : (p : PartitionParts) (starting : Option ℕ) → In p (partitions_of own) → has_metadata p ≡ true
-      → IsStarting all b (copies_of own) starting
-      → copy_of (clear_notes all) p
+      → IsStarting all b (copies_of own) starting → copy_of (clear_notes all) p
       ≡ counted_above all b starting (copy_of (clear_notes own) p) (copy_of (clear_notes own) p).start
   unfolding copy_of
   own_copy p starting there states f =
@@ -181,8 +178,7 @@ module _ (b : ℕ) (own other : List NoteParts) (m : MeetAt b own other) where
             elim (is_of p.offset starting) as (λ t. is_of p.offset starting ≡ t → copy_of (clear_notes all) p
             ≡ cond t (or_itself c (find (λ d. d.partition == p.offset) (copies_of all))) c) [
               | true ↦ λ t. sym (or_of c (copy_of (clear_notes all) p) (find (λ d. d.partition == p.offset)
-                  (copies_of all))
-                  (copy_found all p.offset p (partition_found all p stays) states))
+                  (copies_of all)) (copy_found all p.offset p (partition_found all p stays) states))
               | false ↦ λ t. (
                   let at = copy_there (clear_notes own) p in
                   let k = f (copy_of (clear_notes own) p) (has_copy own p there states)
@@ -191,14 +187,12 @@ module _ (b : ℕ) (own other : List NoteParts) (m : MeetAt b own other) where
                   (ltb-true 0 p.pack.numbers.header_byte_count states) (unstarted p there e (elim k [
                     | inl g ↦ inl g
                     | inr d ↦ inr (d.0, d.1, subst (λ o. o < d.0.partition) at d.2)
-                  ]))
-                  ∙ ap (copy_from (clear_notes own) p) e)
+                  ])) ∙ ap (copy_from (clear_notes own) p) e)
             ] refl)
       ] refl
 
   counted_each : (starting : Option ℕ) → IsStarting all b (copies_of own) starting → (ns : List NoteParts)
-      → ((n : NoteParts) → In n ns → In n (clear_notes own))
-      → filter_map (copy_by (clear_notes all)) ns
+      → ((n : NoteParts) → In n ns → In n (clear_notes own)) → filter_map (copy_by (clear_notes all)) ns
       ≡ map (λ c. counted_above all b starting c c.start) (filter_map (copy_by (clear_notes own)) ns)
   counted_each starting f [] held = refl
   counted_each starting f (n ∷ ns) held =
@@ -206,8 +200,7 @@ module _ (b : ℕ) (own other : List NoteParts) (m : MeetAt b own other) where
       let count = λ (c : CopyInfo). counted_above all b starting c c.start in
       elim (partition_at n) as (λ o. partition_at n ≡ o →
       cons_option (option_and_then (λ p. if has_metadata p then Some (copy_of (clear_notes all) p) else None) o)
-      (filter_map (copy_by (clear_notes all)) ns)
-      ≡ map count (cons_option
+      (filter_map (copy_by (clear_notes all)) ns) ≡ map count (cons_option
       (option_and_then (λ p. if has_metadata p then Some (copy_of (clear_notes own) p) else None) o)
       (filter_map (copy_by (clear_notes own)) ns))) [
         | None ↦ λ e. ih
@@ -278,8 +271,6 @@ copies_at b notes own starting cs u same f =
 
 pub fits_at : (b : ℕ) (notes own : List NoteParts) (cs : List CopyInfo) (c : CopyInfo) (s : ℕ) → IsUnionAt b notes own
     → cs ≡ copies_of own → length (clear_notes notes) < 2 ^ 64 → In c cs → c.start ≡ Some s → CountsFit notes b c s
-fits_at b notes own cs c s u same fits h e =
-    subst (λ (ns : List NoteParts). CountsFit ns b c s) (sym u.union)
+fits_at b notes own cs c s u same fits h e = subst (λ (ns : List NoteParts). CountsFit ns b c s) (sym u.union)
     (counts_fit b own u.other u.meet c s (subst (λ (ns : List NoteParts). length
-    (clear_notes ns) < 2 ^ 64) u.union fits)
-    (subst (λ (l : List CopyInfo). In c l) same h) e)
+    (clear_notes ns) < 2 ^ 64) u.union fits) (subst (λ (l : List CopyInfo). In c l) same h) e)

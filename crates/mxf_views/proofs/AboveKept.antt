@@ -19,14 +19,12 @@ module _ (b : ℕ) (notes own : List NoteParts) (u : IsUnionAt b notes own) wher
   -- What is kept of the new notes follows what was kept before.
   pub kept_above : {A : Type 0} (take : NoteParts → Option A) (xs : List A) → xs ≡ kept_among take own
       → xs ++ filter_map take (clear_from b notes) ≡ kept_among take notes
-  kept_above take xs same =
-      ap (λ l. l ++ filter_map take (clear_from b notes)) same
+  kept_above take xs same = ap (λ l. l ++ filter_map take (clear_from b notes)) same
       ∙ subst (λ (ns : List NoteParts). kept_among take own ++ filter_map take (clear_from b ns) ≡ kept_among take ns)
       (sym u.union) (taken_of_both b own u.other u.meet take)
 
   -- The packs of the new partitions end above the boundary.
-  pub ends_above_at : (k : ℕ) (d : PartitionParts) → 0 ≤ k
-      → k < length (filter_map kept_partition (clear_from b notes))
+  pub ends_above_at : (k : ℕ) (d : PartitionParts) → 0 ≤ k → k < length (filter_map kept_partition (clear_from b notes))
       → b ≤ (get_or (filter_map kept_partition (clear_from b notes)) k d).end
   ends_above_at k d z l =
       let new = clear_from b notes in
@@ -38,7 +36,6 @@ module _ (b : ℕ) (notes own : List NoteParts) (u : IsUnionAt b notes own) wher
 
   pub count_at : (test : NoteParts → Bool)
       → count_by test (clear_notes notes) ≡ count_by test (clear_notes own) + count_by test (clear_from b notes)
-  count_at test =
-      subst (λ (ns : List NoteParts). count_by test (clear_notes ns)
+  count_at test = subst (λ (ns : List NoteParts). count_by test (clear_notes ns)
       ≡ count_by test (clear_notes own) + count_by test (clear_from b ns)) (sym u.union)
       (count_of_both b own u.other u.meet test)

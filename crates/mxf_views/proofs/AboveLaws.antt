@@ -69,14 +69,12 @@ module _ (b : ℕ) (own other : List NoteParts) (m : MeetAt b own other) where
       ])
 
   pub clear_of_both : clear_notes (union_of own other) ≡ clear_notes own ++ clear_notes other
-  clear_of_both =
-      same_content (clear_notes (union_of own other)) (clear_notes own ++ clear_notes other)
+  clear_of_both = same_content (clear_notes (union_of own other)) (clear_notes own ++ clear_notes other)
       (IsContent-clear_notes (union_of own other) union_is_content)
       (contents_append (clear_notes own) (clear_notes other) (IsContent-clear_notes own m.own_is.content)
       (IsContent-clear_notes other m.other_is.content) (λ x y h k.
       let e : end_of x ≤ b = m.ends x ((In-clear_notes x own).0 h).held in
-      let g : b ≤ y.offset = m.begins y ((In-clear_notes y other).0 k).held in omega (arith, e, g)))
-      (λ n.
+      let g : b ≤ y.offset = m.begins y ((In-clear_notes y other).0 k).held in omega (arith, e, g))) (λ n.
       let u = In-clear_notes n (union_of own other) in
       let x = In-clear_notes n own in
       let y = In-clear_notes n other in
@@ -96,16 +94,14 @@ module _ (b : ℕ) (own other : List NoteParts) (m : MeetAt b own other) where
 
   pub zone_of_both : (start bytes : ℕ) → zone_of start bytes (clear_notes (union_of own other))
       ≡ zone_of start bytes (clear_notes own) ++ zone_of start bytes (clear_notes other)
-  zone_of_both start bytes =
-      ap (zone_of start bytes) clear_of_both
+  zone_of_both start bytes = ap (zone_of start bytes) clear_of_both
       ∙ filter-append (lies_in start bytes) (clear_notes own) (clear_notes other)
 
   pub zone_from : (bytes : ℕ) → zone_of b bytes (clear_notes (union_of own other)) ≡ zone_of b bytes (clear_notes other)
   zone_from bytes = zone_of_both b bytes ∙ ap (λ l. l ++ zone_of b bytes (clear_notes other)) (zone_below bytes)
 
   pub new_are_clear : clear_from b (union_of own other) ≡ clear_notes other
-  new_are_clear =
-      zone_from 18446744073709551615
+  new_are_clear = zone_from 18446744073709551615
       ∙ filter_all (lies_in b 18446744073709551615) (clear_notes other) (λ n h.
       let held = ((In-clear_notes n other).0 h).held in
       let low : b ≤ n.offset = m.begins n held in
@@ -129,13 +125,11 @@ module _ (b : ℕ) (own other : List NoteParts) (m : MeetAt b own other) where
       filter_alike (lies_in start bytes) (lies_in b rest) (clear_notes other) (λ n h.
       let low : b ≤ n.offset = m.begins n ((In-clear_notes n other).0 h).held in
       let from : start ≤ n.offset = omega (arith, low, l) in
-      same_bool (lies_in start bytes n) (lies_in b rest n)
-      (λ t.
+      same_bool (lies_in start bytes n) (lies_in b rest n) (λ t.
       let e : end_of n ≤ start + bytes =
       leb-true (end_of n) (start + bytes) (and_parts (nat_le start n.offset) (nat_le (end_of n) (start + bytes)) t).1 in
       and_from (nat_le b n.offset) (nat_le (end_of n) (b + rest)) (le-leb b n.offset low)
-      (le-leb (end_of n) (b + rest) (omega (arith, e, l, low))))
-      (λ t.
+      (le-leb (end_of n) (b + rest) (omega (arith, e, l, low)))) (λ t.
       let e : end_of n ≤ b + rest =
       leb-true (end_of n) (b + rest) (and_parts (nat_le b n.offset) (nat_le (end_of n) (b + rest)) t).1 in
       and_from (nat_le start n.offset) (nat_le (end_of n) (start + bytes)) (le-leb start n.offset from)
@@ -146,16 +140,12 @@ module _ (b : ℕ) (own other : List NoteParts) (m : MeetAt b own other) where
   pub taken_of_both : {A : Type 0} (take : NoteParts → Option A)
       → kept_among take own ++ filter_map take (clear_from b (union_of own other))
       ≡ kept_among take (union_of own other)
-  taken_of_both take =
-      ap (λ l. kept_among take own ++ filter_map take l) new_are_clear
-      ∙ sym (filter_map-append take (clear_notes own) (clear_notes other))
-      ∙ ap (filter_map take) (sym clear_of_both)
+  taken_of_both take = ap (λ l. kept_among take own ++ filter_map take l) new_are_clear
+      ∙ sym (filter_map-append take (clear_notes own) (clear_notes other)) ∙ ap (filter_map take) (sym clear_of_both)
 
-  pub count_of_both : (test : NoteParts → Bool)
-      → count_by test (clear_notes (union_of own other))
+  pub count_of_both : (test : NoteParts → Bool) → count_by test (clear_notes (union_of own other))
       ≡ count_by test (clear_notes own) + count_by test (clear_from b (union_of own other))
-  count_of_both test =
-      ap (count_by test) clear_of_both ∙ count_append test (clear_notes own) (clear_notes other)
+  count_of_both test = ap (count_by test) clear_of_both ∙ count_append test (clear_notes own) (clear_notes other)
       ∙ ap (λ l. count_by test (clear_notes own) + count_by test l) (sym new_are_clear)
     where
       count_append : (test : NoteParts → Bool) (xs ys : List NoteParts)

@@ -35,8 +35,7 @@ held_says _ h = absurd cc
 
 -- where only one passes, one is counted
 one-count : (p : PartitionParts → Bool) (ps : List PartitionParts) (x : PartitionParts) → AreInOrder ps → In x ps
-    → p x ≡ true
-    → ((y : PartitionParts) → In y ps → p y ≡ true → y ≡ x) → count_by p ps ≡ 1
+    → p x ≡ true → ((y : PartitionParts) → In y ps → p y ≡ true → y ≡ x) → count_by p ps ≡ 1
 one-count p [] x r h t only = absurd h
 one-count p (y ∷ ps) x r h t only =
     let c = count_by-cons p y ps in
@@ -113,8 +112,7 @@ stands_there notes n c k t =
     (sym (kind_tells (kind_of n.key) k)) ∙ t in
     let s = some_is (partition_at n) u in (
       s.0,
-      (In-filter_map partition_at (clear_notes notes) s.0).1
-          (n, (In-clear_notes n notes).1 c, s.1),
+      (In-filter_map partition_at (clear_notes notes) s.0).1 (n, (In-clear_notes n notes).1 c, s.1),
       offset-partition_at n s.0 s.1,
     )
 
@@ -169,8 +167,7 @@ whole_says notes w =
       one_footer = f.1;
       greatest = greatest_says ps f.0 g;
       held = λ p k ne. held_link ps p (false_from_ne_true (is_header p.pack.part) (λ t. ne
-          (header_is ps h.0 p h.1 k t)))
-          (list_all-In (is_linked ps) ps p w2.1 k);
+          (header_is ps h.0 p h.1 k t))) (list_all-In (is_linked ps) ps p w2.1 k);
       readable = λ n k kind. stands_there notes n k kind
           (list_all-In is_no_unreadable_pack (clear_notes notes) n w4.1 ((In-clear_notes n notes).1 k));
     }

@@ -64,8 +64,7 @@ outside_iff x n notes start end h c = (
 
 -- The hull of the new note and of the touched ones but those that are left.
 pub record HullSoFar (x : NoteParts) (notes : List NoteParts) (start end : ℕ) (left : List NoteParts) : Type 0 where
-  pub all : (m : NoteParts) → IsClear m notes → SharesByte x m
-      → In m left ⊎ ((start ≤ m.offset) × (end_of m ≤ end))
+  pub all : (m : NoteParts) → IsClear m notes → SharesByte x m → In m left ⊎ ((start ≤ m.offset) × (end_of m ≤ end))
   pub members : (m : NoteParts) → In m left → IsClear m notes × SharesByte x m
   pub least : (start ≡ x.offset) ⊎ ((m : NoteParts) × IsClear m notes × SharesByte x m × (start ≡ m.offset))
   pub greatest : (end ≡ end_of x) ⊎ ((m : NoteParts) × IsClear m notes × SharesByte x m × (end ≡ end_of m))
@@ -94,8 +93,7 @@ hull_with x notes start end m left h =
       all = λ n c s. elim (h.all n c s) [
         | inl k ↦ elim k [
           | inl e ↦ inr (subst (λ (y : NoteParts). (min start m.offset ≤ y.offset)
-              × (end_of y ≤ max end (end_of m))) (sym e)
-              (omega arith, omega arith))
+              × (end_of y ≤ max end (end_of m))) (sym e) (omega arith, omega arith))
           | inr i ↦ inl i
         ]
         | inr b ↦ (

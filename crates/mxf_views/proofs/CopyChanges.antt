@@ -48,8 +48,7 @@ start_carried some other end s carry a =
 
 start_stays : (before after : List NoteParts) (end high s : ℕ) → SameClear end high before after → s < high
     → IsStart before end s → IsStart after end s
-start_stays before after end high s same l a =
-    start_carried before after end s
+start_stays before after end high s same l a = start_carried before after end s
     (λ n c low up k. (same n (omega (arith, up, l)) (omega (arith, low))).0 c) a
 
 pub start_kept : (before after : List NoteParts) (end high s : ℕ) → IsContent before → IsContent after

@@ -130,8 +130,7 @@ counted notes c (Some s) x = x
 one_counted : (notes : List NoteParts) (bytes : ℕ) (o : Option ℕ) (a b x y : ℕ) → Counted notes bytes o a x
     → Counted notes bytes o b y → (a ≡ b) × (x ≡ y)
 one_counted notes bytes None a b x y p q = (p.0 ∙ sym q.0, p.1 ∙ sym q.1)
-one_counted notes bytes (Some s) a b x y p q =
-    (p.0 ∙ sym q.0, one_number x y (IsPrefaceIn notes s bytes) p.1 q.1)
+one_counted notes bytes (Some s) a b x y p q = (p.0 ∙ sym q.0, one_number x y (IsPrefaceIn notes s bytes) p.1 q.1)
 
 one_copy : (notes : List NoteParts) (p : PartitionParts) (c d : CopyInfo) → IsCopyOf notes p c → IsCopyOf notes p d
     → c ≡ d
@@ -143,8 +142,7 @@ one_copy notes p c d a b =
     let m = counted notes c c.start a.counts in
     let n : Counted notes c.bytes c.start d.covered d.prefaces =
     subst (λ (o : Option ℕ). Counted notes c.bytes o d.covered d.prefaces) (sym start)
-    (subst (λ (k : ℕ). Counted notes k d.start d.covered d.prefaces) (sym bytes)
-    (counted notes d d.start b.counts)) in
+    (subst (λ (k : ℕ). Counted notes k d.start d.covered d.prefaces) (sym bytes) (counted notes d d.start b.counts)) in
     let counts = one_counted notes c.bytes c.start c.covered d.covered c.prefaces d.prefaces m n in
     let finished : c.finished ≡ d.finished = same_bool c.finished d.finished
     (λ t. b.finished.1 (sym counts.0 ∙ a.finished.0 t ∙ bytes))
@@ -154,8 +152,7 @@ one_copy notes p c d a b =
       start = start i;
       bytes = bytes i;
       covered = counts.0 i;
-      finished = finished
-          i;
+      finished = finished i;
       prefaces = counts.1 i;
       status = status i;
     }
@@ -176,8 +173,7 @@ copies_are notes c r =
           m.1 (
             s.0,
             (In-filter has_metadata ps s.0).1 (s.1, h),
-            one_copy notes s.0 c (copy_of clear s.0) s.2
-                (copy_is notes s.0 r h),
+            one_copy notes s.0 c (copy_of clear s.0) s.2 (copy_is notes s.0 r h),
           ),
     )
 
@@ -186,8 +182,7 @@ copies_are notes c r =
 apart_from : (notes : List NoteParts) (bytes : ℕ) (o : Option ℕ) → IsContent notes
     → AreApart 0 (sets_from (clear_notes notes) bytes o)
 apart_from notes bytes None r = tt
-apart_from notes bytes (Some s) r =
-    AreApart-filter is_set_note 0 (zone_of s bytes (clear_notes notes))
+apart_from notes bytes (Some s) r = AreApart-filter is_set_note 0 (zone_of s bytes (clear_notes notes))
     (AreApart-filter (lies_in s bytes) 0 (clear_notes notes) (AreApart-clear_notes notes r))
 
 apart_found : (notes : List NoteParts) (o : Option CopyInfo) → IsContent notes
@@ -235,8 +230,7 @@ sets_says notes partition c (Some start) n i e s h =
       clear = m.0;
       kind = m.1;
       from = m.2;
-      before =
-          m.3;
+      before = m.3;
     }
 
 -- The sets of a copy are the clear sets that lie wholly in its bytes.

@@ -84,8 +84,7 @@ brings_by_primer x e =
 -- So a copy of which the test says that it can't change isn't met.
 unmet : (x : NoteParts) (notes : List NoteParts) (start end : ℕ) (p : PartitionParts) (c : CopyInfo) → IsNew x notes
     → In p (partitions_of notes) → c ≡ copy_of (clear_notes notes) p → 0 < p.pack.numbers.header_byte_count
-    → may_change start end (can_bring_start x) c c.start ≡ false
-    → IsUnmet start end notes (reduced_with x notes) p
+    → may_change start end (can_bring_start x) c c.start ≡ false → IsUnmet start end notes (reduced_with x notes) p
 unmet x notes start end p c new there copy some e =
     let n = of_note notes p there in
     let at : c.partition ≡ p.offset = ap (λ (y : CopyInfo). y.partition) copy ∙ copy_there (clear_notes notes) p in
@@ -109,8 +108,7 @@ unmet x notes start end p c new there copy some e =
           ltb-false c.partition end g,
           at,
           n.offset,
-          end-partition_at n.note p
-              n.read,
+          end-partition_at n.note p n.read,
         ))
         | inr g ↦ IsUnmet.ended zone (sym found ∙ s) (omega (arith, ltb-false (start - zone) c.bytes g, bytes, some))
       ]
@@ -124,8 +122,7 @@ or_of c d o e = ap (or_itself c) e
 -- What a copy outside becomes is the copy of its partition, which is still there.
 becomes : (x : NoteParts) (notes : List NoteParts) (start end : ℕ) (n : NoteParts) (p : PartitionParts)
     → IsContent notes → IsNew x notes → IsHull x notes start end → IsClear n notes → (SharesByte x n → ⊥)
-    → partition_at n ≡ Some p → has_metadata p ≡ true
-    → copy_of (clear_notes (reduced_with x notes)) p
+    → partition_at n ≡ Some p → has_metadata p ≡ true → copy_of (clear_notes (reduced_with x notes)) p
     ≡ renewed (reduced_with x notes) start end (can_bring_start x) (copy_of (clear_notes notes) p)
 becomes x notes start end n p r new h clear far read states =
     let after = reduced_with x notes in
@@ -152,8 +149,7 @@ becomes x notes start end n p r new h clear far read states =
 -- Counting a copy anew leaves it that of its partition.
 renewed_partition : (notes : List NoteParts) (start end : ℕ) (brings : Bool) (c : CopyInfo)
     → (renewed notes start end brings c).partition ≡ c.partition
-renewed_partition notes start end brings c =
-    elim (may_change start end brings c c.start) as (λ b.
+renewed_partition notes start end brings c = elim (may_change start end brings c c.start) as (λ b.
     (cond b (or_itself c (find (λ d. d.partition == c.partition) (copies_of notes))) c).partition ≡ c.partition) [
       | false ↦ refl
       | true ↦ elim (find (λ d. d.partition == c.partition) (copies_of notes)) as (λ o.
@@ -244,8 +240,7 @@ copies_follow x notes start end r new h =
             | false ↦ λ _. refl
             | true ↦ λ states. ap Some (becomes x notes start end n p r new h clear far read states)
           ] refl
-    ] refl)
-    ∙ copies_by_notes after
+    ] refl) ∙ copies_by_notes after
 
 -- There are as many as partitions that state header metadata.
 length-copies_each : (clear ns : List NoteParts)

@@ -9,8 +9,7 @@ use Rattle.mxf_klv.proofs.SmallPackets.{end_up, length_packet, none_of_nothing}
 
 -- Packets are read as they are written.
 abbrev pub ReadsBack : Type 0
-ReadsBack =
-    (packet : PacketParts) (more : List ℕ) → IsPacket packet
+ReadsBack = (packet : PacketParts) (more : List ℕ) → IsPacket packet
     → ReadsPacket (packet_bytes packet ++ more) (Ok (packet, size_of packet))
 
 -- The packets of a file are laid in its bytes.

@@ -41,8 +41,7 @@ fewer n notes reached top offset g =
         | inr s ↦ inr (s.0, inr s.1, s.2)
       ];
       in_none = λ m h s. elim h [
-        | inl e ↦
-            (let t : IsCovered n offset = subst (λ (x : NoteParts). IsCovered x offset) e s in
+        | inl e ↦ (let t : IsCovered n offset = subst (λ (x : NoteParts). IsCovered x offset) e s in
             let u : offset + 1 ≤ covered_end n = t.before in absurd (omega arith))
         | inr k ↦ g.in_none m k s
       ];
@@ -71,8 +70,7 @@ before_first n notes reached top offset r a l = record {
 
 offsets_from : (notes : List NoteParts) (reached top offset : ℕ) → IsContent notes
     → LiesIn (gaps_from reached top notes) offset ↔ IsGapAbove reached top notes offset
-offsets_from [] reached top offset r =
-    elim (nat_lt reached top) as (λ b. nat_lt reached top ≡ b
+offsets_from [] reached top offset r = elim (nat_lt reached top) as (λ b. nat_lt reached top ≡ b
     → LiesIn (cond b (record { start = reached; end = top } ∷ []) []) offset ↔ IsGapAbove reached top [] offset) [
       | true ↦ λ t. (
         λ h. elim h.1 [
@@ -90,8 +88,7 @@ offsets_from [] reached top offset r =
             inl refl,
             record {
               from = g.above;
-              before = omega
-                  (arith, l);
+              before = omega (arith, l);
             },
           )
           | inr s ↦ absurd s.1
@@ -135,8 +132,7 @@ offsets_from (n ∷ notes) reached top offset r =
           let le : n.offset ≤ reached = ltb-false reached n.offset t in (
             λ h. fewer n notes reached top offset (ih.0 h),
             λ g. elim (before_or_after n notes reached top offset g) [
-              | inl l ↦
-                  (let a : reached ≤ offset = g.above in absurd (omega arith))
+              | inl l ↦ (let a : reached ≤ offset = g.above in absurd (omega arith))
               | inr k ↦ ih.1 k
             ],
           )

@@ -36,8 +36,7 @@ module _ {A : Type 0} (take : NoteParts → Option A) (key : A → ℕ)
       )
 
   pub kept_rise : (notes : List NoteParts) → IsContent notes → IsRisingBy key (kept_among take notes)
-  kept_rise notes r =
-      rises-filter_map (λ n. n.offset) take key (clear_notes notes) own
+  kept_rise notes r = rises-filter_map (λ n. n.offset) take key (clear_notes notes) own
       (apart_rises 0 (clear_notes notes) (AreApart-clear_notes notes r))
 
   pub one_kept : (notes : List NoteParts) (x y : A) → In x (kept_among take notes) → In y (kept_among take notes)
@@ -50,16 +49,14 @@ module _ {A : Type 0} (take : NoteParts → Option A) (key : A → ℕ)
 
   pub kept_found : (notes : List NoteParts) (x : A) → In x (kept_among take notes)
       → find (λ y. key y == key x) (kept_among take notes) ≡ Some x
-  kept_found notes x h =
-      find-only (λ (y : A). key y == key x) (kept_among take notes) x h (eq-eqb (key x) (key x) refl)
+  kept_found notes x h = find-only (λ (y : A). key y == key x) (kept_among take notes) x h (eq-eqb (key x) (key x) refl)
       (λ y k t. one_kept notes y x k h (eqb-true (key y) (key x) t))
 
   -- What is kept at an offset is that of the clear note there.
   pub kept_there : (notes : List NoteParts) (o : ℕ) (found : Option NoteParts)
       → found ≡ find (λ n. n.offset == o) (clear_notes notes)
       → option_and_then take found ≡ find (λ x. key x == o) (kept_among take notes)
-  kept_there notes o None e =
-      sym (find-none (λ (x : A). key x == o) (kept_among take notes) (λ x h t.
+  kept_there notes o None e = sym (find-none (λ (x : A). key x == o) (kept_among take notes) (λ x h t.
       let a = (In-kept notes x).0 h in
       none_found (λ (n : NoteParts). n.offset == o) (clear_notes notes) a.0 (sym e) ((In-clear_notes a.0 notes).1 a.1)
       (eq-eqb a.0.offset o (sym (own a.0 x a.2) ∙ eqb-true (key x) o t))))
@@ -166,8 +163,7 @@ module _ {A : Type 0} (before after : NoteParts → Option A) (renew : A → A) 
       ]
 
   left_rises : IsRisingBy key left
-  left_rises =
-      rises-map key renew key old (λ z h. one_key z)
+  left_rises = rises-map key renew key old (λ z h. one_key z)
       (rises-filter key (λ z. is_outside start end (key z)) (kept_among before notes)
       (kept_rise before key own notes r))
 

@@ -26,8 +26,7 @@ pub kept_by : (ps : List PartitionParts) (ss : List SegmentAtParts) (rs us hs : 
     (notes : List NoteParts) → ps ≡ kept_among kept_partition notes → ss ≡ kept_among kept_segment notes
     → rs ≡ kept_among kept_random_index_pack notes → us ≡ kept_among kept_unreadable_pack notes
     → cs ≡ copies_of notes → hs ≡ reaches_of cs
-    → record { partitions = ps; segments = ss; rips = rs; unreadable = us; copies = cs; reaches = hs }
-    ≡ kept_of notes
+    → record { partitions = ps; segments = ss; rips = rs; unreadable = us; copies = cs; reaches = hs } ≡ kept_of notes
 kept_by ps ss rs us hs cs notes p s r u c h =
     let reaches : hs ≡ reaches_of (copies_of notes) = h ∙ ap reaches_of c in
     λ i. record { partitions = p i; segments = s i; rips = r i; unreadable = u i; copies = c i; reaches = reaches i }
@@ -53,8 +52,7 @@ offset-kept_segment n s e =
           ap (λ (x : SegmentAtParts). x.offset) (sym same) ∙ offset-placed_segment n q f)
     ] refl e
 
-offset-offset_if : (test : NoteParts → Bool) (n : NoteParts) (o : ℕ) → offset_if (test n) n ≡ Some o
-    → o ≡ n.offset
+offset-offset_if : (test : NoteParts → Bool) (n : NoteParts) (o : ℕ) → offset_if (test n) n ≡ Some o → o ≡ n.offset
 offset-offset_if test n o e =
     elim (test n) as (λ b. offset_if b n ≡ Some o → o ≡ n.offset) [
       | true ↦ λ u. (let same : n.offset ≡ o = cc (u) in sym same)
@@ -98,8 +96,7 @@ module _ (a : Arrival) (after : List NoteParts) (before : KeptParts) (k : HasArr
       ∙ ap (λ o. copies_followed after o a.start a.end a.can_bring_start (copies_of k.notes)) is.offset
       ∙ ap (λ b. copies_followed after k.note.offset a.start a.end b (copies_of k.notes)) is.can_bring_start
       ∙ ap (λ ns. copies_followed ns k.note.offset a.start a.end (can_bring_start k.note) (copies_of k.notes))
-      k.is_after
-      ∙ copies_follow k.note k.notes a.start a.end is.content (is.reduced, k.new) is.hull
+      k.is_after ∙ copies_follow k.note k.notes a.start a.end is.content (is.reduced, k.new) is.hull
       ∙ ap copies_of (sym k.is_after)
 
 -- ---- what is kept is that of the partitions and of the segments
@@ -127,8 +124,7 @@ segments_in_numbers notes = mapped without_entries placed_segment (clear_notes n
 
 pub partitions_rise_by : (notes : List NoteParts) → IsContent notes
     → RiseBy (λ p. p.offset) (kept_among kept_partition notes)
-partitions_rise_by notes r =
-    (rise_by _ _).1 (kept_rise kept_partition (λ p. p.offset) offset-kept_partition notes r)
+partitions_rise_by notes r = (rise_by _ _).1 (kept_rise kept_partition (λ p. p.offset) offset-kept_partition notes r)
 
 pub segments_rise_by : (notes : List NoteParts) → IsContent notes
     → RiseBy (λ s. s.offset) (kept_among kept_segment notes)
@@ -150,16 +146,14 @@ read_again f take (n ∷ ns) =
 pub partitions_kept : (notes : List NoteParts) (kept : List PartitionParts) → kept ≡ kept_among kept_partition notes
     → partitions_among (notes_at (λ p. p.offset) notes kept) ≡ partitions_of notes
 unfolding partitions_of
-partitions_kept notes kept e =
-    ap (λ l. partitions_among (notes_at (λ p. p.offset) notes l)) e
+partitions_kept notes kept e = ap (λ l. partitions_among (notes_at (λ p. p.offset) notes l)) e
     ∙ ap partitions_among (notes_kept kept_partition (λ p. p.offset) offset-kept_partition notes)
     ∙ read_again in_numbers partition_at (clear_notes notes)
 
 pub segments_kept : (notes : List NoteParts) (kept : List SegmentAtParts) → kept ≡ kept_among kept_segment notes
     → segments_among (notes_at (λ s. s.offset) notes kept) ≡ segments_of notes
 unfolding segments_of
-segments_kept notes kept e =
-    ap (λ l. segments_among (notes_at (λ s. s.offset) notes l)) e
+segments_kept notes kept e = ap (λ l. segments_among (notes_at (λ s. s.offset) notes l)) e
     ∙ ap segments_among (notes_kept kept_segment (λ s. s.offset) offset-kept_segment notes)
     ∙ read_again without_entries placed_segment (clear_notes notes)
 
@@ -179,7 +173,6 @@ segments_found notes (s ∷ ss) there =
 pub notes_at_offsets : (test : NoteParts → Bool) (notes : List NoteParts) (offsets : List ℕ)
     → offsets ≡ kept_among (λ n. offset_if (test n) n) notes
     → notes_at (λ o. o) notes offsets ≡ filter test (clear_notes notes)
-notes_at_offsets test notes offsets e =
-    ap (notes_at (λ o. o) notes) e
+notes_at_offsets test notes offsets e = ap (notes_at (λ o. o) notes) e
     ∙ notes_kept (λ n. offset_if (test n) n) (λ o. o) (offset-offset_if test) notes
     ∙ (λ i. filter (λ n. kept_if test n i) (clear_notes notes))

@@ -19,8 +19,7 @@ pub record IsKept (n : NoteParts) (kept : Option Kept) : Type 0 where
 
 -- The same of a note of a kind, by the partition and the segment that it is.
 abbrev IsKeptBy : Kind → NoteParts → Option PartitionParts → Option SegmentAtParts → Option Kept → Type 0
-IsKeptBy k n p s kept =
-    (partition_in kept ≡ option_map in_numbers p) × (segment_in kept ≡ s)
+IsKeptBy k n p s kept = (partition_in kept ≡ option_map in_numbers p) × (segment_in kept ≡ s)
     × (random_index_pack_in kept ≡ offset_if (is_rip k) n)
     × (unreadable_pack_in kept ≡ offset_if (not (not (is_some (part_and_status k)) || is_some p)) n)
 

@@ -40,8 +40,7 @@ module _ {A : Type 0} (key : A → ℕ) where
   pub rises-with_keyed : (c : A) (ds : List A) → IsRisingBy key ds → ((d : A) → In d ds → key d ≢ key c)
       → IsRisingBy key (with_keyed key c ds)
   rises-with_keyed c [] r ne = (tt, tt)
-  rises-with_keyed c (d ∷ ds) r ne =
-      elim (nat_lt (key c) (key d)) as (λ b. nat_lt (key c) (key d) ≡ b
+  rises-with_keyed c (d ∷ ds) r ne = elim (nat_lt (key c) (key d)) as (λ b. nat_lt (key c) (key d) ≡ b
       → IsRisingBy key (cond b (c ∷ d ∷ ds) (d ∷ with_keyed key c ds))) [
         | true ↦ λ e. (
             let l : key c < key d = ltb-true (key c) (key d) e in (
@@ -102,8 +101,7 @@ module _ {A : Type 0} (key : A → ℕ) where
   pub not_found : (k : ℕ) (xs : List A) (i : ℕ) → IsNonDecreasingBy key xs → AllWithin (λ x. key x < k) xs 0 i
       → ((d : A) → i < length xs → k ≤ key (get_or xs i d) → key (get_or xs i d) ≢ k)
       → AllWithin (λ x. k ≤ key x) xs i (length xs) → find (λ x. key x == k) xs ≡ None
-  not_found k xs i r f other g =
-      find-none (λ x. key x == k) xs (λ x h t.
+  not_found k xs i r f other g = find-none (λ x. key x == k) xs (λ x h t.
       let p = Contains-from_In x xs h in
       let at : key (get_or xs p.0 x) ≡ k = ap key p.2 ∙ eqb-true (key x) k t in
       elim (cases_lt p.0 i) [
@@ -137,10 +135,8 @@ module _ {A : Type 0} (key : A → ℕ) where
       let test = λ (y : A). lies_between low high (key y) in
       let h : low < key x = g 0 d (omega arith) (omega arith) in
       let yes : nat_lt low (key x) ≡ true = lt-ltb low (key x) h in
-      same_bool (nat_lt (key x) high) (list_any test (x ∷ xs))
-      (λ t. (list_any-In test (x ∷ xs)).1
-      (x, inl refl, and_from (nat_lt low (key x)) (nat_lt (key x) high) yes t))
-      (λ t.
+      same_bool (nat_lt (key x) high) (list_any test (x ∷ xs)) (λ t. (list_any-In test (x ∷ xs)).1
+      (x, inl refl, and_from (nat_lt low (key x)) (nat_lt (key x) high) yes t)) (λ t.
       let s = (list_any-In test (x ∷ xs)).0 t in
       let p = and_parts (nat_lt low (key s.0)) (nat_lt (key s.0) high) s.2 in
       elim s.1 [

@@ -95,12 +95,10 @@ zone_within start bytes at (x ∷ xs) ys h e =
 -- The notes of a zone are those of the packets that make it up.
 pub zone-laid : (start bytes : ℕ) (xs ys : List PacketParts) (notes : List NoteParts)
     → LastFrom start (xs ++ ys) notes → total_of xs ≡ bytes → filter (lies_in start bytes) notes ≡ notes_from start xs
-zone-laid start bytes xs ys notes f e =
-    ap (filter (lies_in start bytes)) f.whole
+zone-laid start bytes xs ys notes f e = ap (filter (lies_in start bytes)) f.whole
     ∙ filter-append (lies_in start bytes) f.before (notes_from start (xs ++ ys))
     ∙ ap (λ ns. ns ++ filter (lies_in start bytes) (notes_from start (xs ++ ys)))
-    (zone_none_before start bytes f.before f.ends)
-    ∙ zone_within start bytes start xs ys (omega arith) (omega arith)
+    (zone_none_before start bytes f.before f.ends) ∙ zone_within start bytes start xs ys (omega arith) (omega arith)
 
 -- Laid packets cover as many bytes as they have.
 pub covered-laid : (at : ℕ) (xs : List PacketParts) → sizes (notes_from at xs) ≡ total_of xs

@@ -76,8 +76,7 @@ last_greatest low (b ∷ bs) f x r (inr h) = last_greatest (b.offset + 1) bs f x
 
 footer_greatest : (parts : List PartitionParts) (f : EndsInFooter parts) → IsRisingFrom 0 parts
     → is_greatest parts f.footer ≡ true
-footer_greatest parts f r =
-    ap not (false_from_ne_true (stands_above f.footer.offset parts) (λ t.
+footer_greatest parts f r = ap not (false_from_ne_true (stands_above f.footer.offset parts) (λ t.
     let s = (list_any-In (λ x. nat_lt f.footer.offset x.offset) parts).0 t in
     let a : f.footer.offset < s.0.offset = ltb-true f.footer.offset s.0.offset s.2 in
     let b : s.0.offset ≤ f.footer.offset = last_greatest 0 f.before f.footer s.0 (subst (IsRisingFrom 0) f.order r)
@@ -98,8 +97,7 @@ footers_greatest parts f r =
     In-list_all (λ p. not (is_footer p.pack.part) || is_greatest parts p) parts (λ x h. all-In Q parts x all h)
 
 -- The last of these is the footer.
-ends-append : (bs : List PartitionParts) (f : PartitionParts)
-    → ends_with_footer (bs ++ f ∷ []) ≡ is_footer f.pack.part
+ends-append : (bs : List PartitionParts) (f : PartitionParts) → ends_with_footer (bs ++ f ∷ []) ≡ is_footer f.pack.part
 ends-append [] f = refl
 ends-append (b ∷ []) f = refl
 ends-append (b ∷ c ∷ cs) f = ends-append (c ∷ cs) f
@@ -113,8 +111,7 @@ ends_in_footer parts f = ap ends_with_footer f.order ∙ ends-append f.before f.
 held : (all : List PartitionParts) (q p : PartitionParts) → In q all → q.offset < p.offset
     → p.pack.numbers.previous_partition ≡ q.offset
     → ((x : PartitionParts) → In x all → x.offset < p.offset → x.offset ≤ q.offset) → link_of all p ≡ Held
-held all q p h l e near =
-    (link_iff all p Held).1 (subst (IsGreatestBelow all p.offset) (sym e)
+held all q p h l e near = (link_iff all p Held).1 (subst (IsGreatestBelow all p.offset) (sym e)
     record { there = (q, h, refl); below = l; greatest = near })
 
 -- All that come after a partition are Held, where the others stand at it or below it.

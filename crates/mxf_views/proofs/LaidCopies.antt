@@ -46,13 +46,11 @@ find_past end notes (n ∷ ns) rest a = grind (arith, find_past end notes ns res
 
 -- A fill is no readable primer.
 no_primer : (at : ℕ) (p : PacketParts) → IsFill p → is_readable_primer (note_of at p) ≡ false
-no_primer at p k =
-    primer-note at p ∙ ap (λ kind. is_some (cond (is_primer kind) (value_as primer_at p) None)) k
+no_primer at p k = primer-note at p ∙ ap (λ kind. is_some (cond (is_primer kind) (value_as primer_at p) None)) k
 
 -- Nor among fills.
 find_past_fills : (end : ℕ) (notes : List NoteParts) (at : ℕ) (fills rest : List PacketParts)
-    → AllByRecursion IsFill fills
-    → find (is_start end notes) (notes_from at (fills ++ rest))
+    → AllByRecursion IsFill fills → find (is_start end notes) (notes_from at (fills ++ rest))
     ≡ find (is_start end notes) (notes_from (at + total_of fills) rest)
 find_past_fills end notes at [] rest a =
     ap (λ x. find (is_start end notes) (notes_from x rest)) (let e : at ≡ at + 0 = omega arith in e)
@@ -82,8 +80,7 @@ primer_read bytes at ps r m =
 
 -- The header metadata begin after the fills.
 start-laid : (notes : List NoteParts) (end : ℕ) (ps : List PacketParts) (bytes : ℕ) → LastFrom end ps notes
-    → AllByRecursion IsReadable ps → (m : HasMetadata bytes ps)
-    → start_of end notes ≡ Some (end + total_of m.fills)
+    → AllByRecursion IsReadable ps → (m : HasMetadata bytes ps) → start_of end notes ≡ Some (end + total_of m.fills)
 start-laid notes end ps bytes f r m =
     let found : List PacketParts = m.primer ∷ m.sets ++ m.rest in
     let start : ℕ = end + total_of m.fills in
@@ -173,8 +170,7 @@ one_more : (notes : List NoteParts) (q : PartitionParts) (ps : List PacketParts)
     → (0 < q.pack.numbers.header_byte_count → HasMetadata q.pack.numbers.header_byte_count ps)
     → AreCopiesRead notes qs reads
     → AreCopiesRead notes (cond (has_metadata q) (q ∷ qs) qs) (cons_option (copy_read ps q) reads)
-one_more notes q ps qs reads f r m a =
-    elim (has_metadata q) as (λ b. has_metadata q ≡ b
+one_more notes q ps qs reads f r m a = elim (has_metadata q) as (λ b. has_metadata q ≡ b
     → AreCopiesRead notes (cond b (q ∷ qs) qs) (cons_option (copy_read ps q) reads)) [
       | true ↦ λ e.
           let h : 0 < q.pack.numbers.header_byte_count = ltb-true 0 q.pack.numbers.header_byte_count e in
@@ -217,8 +213,7 @@ copies-read notes qs reads a = each (filter has_metadata qs) reads a
     each (q ∷ qs) (r ∷ rs) a = λ i. a.0.copy i ∷ each qs rs a.1 i
 
 sets-read : (notes : List NoteParts) (qs : List PartitionParts) (reads : List CopyRead) → AreCopiesRead notes qs reads
-    → (offset : ℕ)
-    → sets_found notes (find (λ c. c.partition == offset) (copies_alone reads)) ≡ sets_read reads offset
+    → (offset : ℕ) → sets_found notes (find (λ c. c.partition == offset) (copies_alone reads)) ≡ sets_read reads offset
 sets-read notes [] [] a offset = refl
 sets-read notes (q ∷ qs) [] a offset = absurd a
 sets-read notes [] (r ∷ rs) a offset = absurd a
@@ -231,8 +226,7 @@ laid l w = read_all (notes_from 0 l) 0 l (last_all 0 l) w.readable w.metadata
 
 copies_of-laid : (l : List PacketParts) → IsWellFormed l → copies_of (notes_from 0 l) ≡ copies_alone (copies_read 0 l)
 unfolding copies_of
-copies_of-laid l w =
-    (λ i. copies_among (clear-laid 0 l i) (partitions_of-laid 0 l i))
+copies_of-laid l w = (λ i. copies_among (clear-laid 0 l i) (partitions_of-laid 0 l i))
     ∙ copies-read (notes_from 0 l) (partitions_read 0 l) (copies_read 0 l) (laid l w)
 
 sets_of-laid : (l : List PacketParts) → IsWellFormed l → (offset : ℕ)

@@ -49,8 +49,7 @@ from_place p q e = same_place p q (ap stream_in e) (ap offset_in e)
 place-given : (sid unit : ℕ) (s : SegmentAtParts)
     → place_by_segment sid unit s.segment ≡ option_map place_at (given_by sid unit s)
 unfolding given_by
-place-given sid unit s =
-    elim (s.segment.numbers.index_sid == sid) as (λ b.
+place-given sid unit s = elim (s.segment.numbers.index_sid == sid) as (λ b.
     cond b (option_map (At s.segment.numbers.body_sid) (stream_offset s.segment unit)) None
     ≡ option_map place_at (cond b (place_in unit s) None)) [
       | true ↦ elim (stream_offset s.segment unit) as (λ o. option_map (At s.segment.numbers.body_sid) o
@@ -64,8 +63,7 @@ place-given sid unit s =
 -- Segments give one place where they agree.
 one_given : (segments : List SegmentAtParts) (sid unit : ℕ) (s t : SegmentAtParts) (p q : StreamPlace) → Agree segments
     → In s segments → In t segments → given_by sid unit s ≡ Some p → given_by sid unit t ≡ Some q → p ≡ q
-one_given segments sid unit s t p q a h k e f =
-    from_place p q (a s t sid unit (place_at p) (place_at q) h k
+one_given segments sid unit s t p q a h k e f = from_place p q (a s t sid unit (place_at p) (place_at q) h k
     (place-given sid unit s ∙ ap (option_map place_at) e) (place-given sid unit t ∙ ap (option_map place_at) f))
 
 agree_later : (s : SegmentAtParts) (ss : List SegmentAtParts) → Agree (s ∷ ss) → Agree ss
@@ -95,8 +93,7 @@ all_one sid unit p (s ∷ ss) f =
 -- Where segments agree, the place is that of the first that gives one.
 place-read : (sid unit : ℕ) (ss : List SegmentAtParts) → Agree ss → place_of ss sid unit ≡ place_read sid unit ss
 place-read sid unit [] a = refl
-place-read sid unit (s ∷ ss) a =
-    (elim (given_by sid unit s) as (λ o. given_by sid unit s ≡ o
+place-read sid unit (s ∷ ss) a = (elim (given_by sid unit s) as (λ o. given_by sid unit s ≡ o
     → place_by (union place_cmp [] (cons_option o (filter_map (given_by sid unit) ss)))
     ≡ option_map_or (λ place. place) (option_map place_at o) (place_read sid unit ss)) [
       | None ↦ λ e. place-read sid unit ss (agree_later s ss a)

@@ -176,8 +176,7 @@ unfolding is_no_unreadable_pack
 readable-note at p r =
     elim (is_some (part_and_status (kind_of p.key))) as (λ b. is_some (part_and_status (kind_of p.key)) ≡ b
     → (not b || is_some (partition_at (note_of at p))) ≡ true) [
-      | true ↦ λ e. ap is_some (partition-note at p)
-          ∙ elim (read_pack p) as (λ o. is_some o ≡ true
+      | true ↦ λ e. ap is_some (partition-note at p) ∙ elim (read_pack p) as (λ o. is_some o ≡ true
           → is_some (option_map (partition_parts at (at + size_of p)) o) ≡ true) [
             | None ↦ λ f. f
             | Some pack ↦ λ f. refl
@@ -194,12 +193,9 @@ readable-laid at (p ∷ ps) r = rw (readable-note at p r.0) (readable-laid (at +
 
 -- Whether these partitions and clear notes make a whole chain, as the chain of notes has it.
 abbrev pub hang_together_by : List PartitionParts → List NoteParts → Bool
-hang_together_by parts clear =
-    (count_by (λ p. is_header p.pack.part) parts == 1)
-    && (count_by (λ p. is_footer p.pack.part) parts == 1)
-    && list_all (is_linked parts) parts
-    && list_all (λ p. not (is_footer p.pack.part) || is_greatest parts p) parts
-    && list_all is_no_unreadable_pack clear
+hang_together_by parts clear = (count_by (λ p. is_header p.pack.part) parts == 1)
+    && (count_by (λ p. is_footer p.pack.part) parts == 1) && list_all (is_linked parts) parts
+    && list_all (λ p. not (is_footer p.pack.part) || is_greatest parts p) parts && list_all is_no_unreadable_pack clear
 
 -- The partitions of a well-formed file, their links and their chain.
 pub partitions-laid : (l : List PacketParts) → IsWellFormed l → HasPartitionsOf (notes_from 0 l) l

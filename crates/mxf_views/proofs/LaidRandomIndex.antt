@@ -59,18 +59,15 @@ module _ (notes : List NoteParts) (parts : List PartitionParts) (same : partitio
   one at None s e = cc
   one at (Some rip) s e =
       let all : standings notes rip.entries ≡ one_by_one rip.entries parts =
-      ap (standings notes) e
-      ∙ (λ i. map (λ entry. (entry, standing_of (same i) entry)) (map entry_of parts))
-      ∙ alike parts parts h
-      ∙ ap (λ es. one_by_one es parts) (sym e) in
+      ap (standings notes) e ∙ (λ i. map (λ entry. (entry, standing_of (same i) entry)) (map entry_of parts))
+      ∙ alike parts parts h ∙ ap (λ es. one_by_one es parts) (sym e) in
       λ i. One (record { offset = at; entries = all i })
 
   rips-laid : (at : ℕ) (l : List PacketParts) → AllByRecursion IsReadable l → EndsWithRandomIndex parts l
       → rip_view_among (partitions_of notes) (filter is_rip_note (notes_from at l)) ≡ rip_read parts at l
   unfolding is_rip_note
   rips-laid at [] r e = refl
-  rips-laid at (p ∷ []) r e =
-      elim (is_rip (kind_of p.key)) as (λ b. is_rip (kind_of p.key) ≡ b
+  rips-laid at (p ∷ []) r e = elim (is_rip (kind_of p.key)) as (λ b. is_rip (kind_of p.key) ≡ b
       → rip_view_among (partitions_of notes) (cond b (note_of at p ∷ []) [])
       ≡ option_map_or (λ rip. One (record { offset = at; entries = one_by_one rip.entries parts }))
       (read_rip p) Absent) [

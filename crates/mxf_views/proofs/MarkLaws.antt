@@ -32,8 +32,7 @@ cut_sum f start cut bytes low high (n ∷ ns) at all c =
       | inl l ↦ (
           let same : lies_in start bytes n ≡ lies_in start low n =
           same_bool (lies_in start bytes n) (lies_in start low n)
-          (λ t. lies_if start low n (lies_says start bytes n t).0 (omega (arith, at, l)))
-          (λ t.
+          (λ t. lies_if start low n (lies_says start bytes n t).0 (omega (arith, at, l))) (λ t.
           let h : end_of n ≤ start + low = (lies_says start low n t).1 in
           lies_if start bytes n (lies_says start low n t).0 (omega (arith, h, all))) in
           let none : lies_in cut high n ≡ false = false_from_ne_true (lies_in cut high n) (λ t.
@@ -43,11 +42,9 @@ cut_sum f start cut bytes low high (n ∷ ns) at all c =
           omega (arith, ih, whole, below, above, a, z))
       | inr l ↦ (
           let same : lies_in start bytes n ≡ lies_in cut high n =
-          same_bool (lies_in start bytes n) (lies_in cut high n)
-          (λ t.
+          same_bool (lies_in start bytes n) (lies_in cut high n) (λ t.
           let h : end_of n ≤ start + bytes = (lies_says start bytes n t).1 in
-          lies_if cut high n l (omega (arith, h, at, all)))
-          (λ t.
+          lies_if cut high n l (omega (arith, h, at, all))) (λ t.
           let h : end_of n ≤ cut + high = (lies_says cut high n t).1 in
           lies_if start bytes n (omega (arith, l, at)) (omega (arith, h, at, all))) in
           let none : lies_in start low n ≡ false = false_from_ne_true (lies_in start low n) (λ t.
@@ -59,8 +56,7 @@ cut_sum f start cut bytes low high (n ∷ ns) at all c =
 
 -- So it is what lies below one cut in it and above another, and what lies below the other and not below the one.
 pub by_cuts : (f : NoteParts → ℕ) (start bytes first last : ℕ) (ns : List NoteParts) → IsCut first ns → IsCut last ns
-    → start ≤ first → first ≤ last → last ≤ start + bytes
-    → (sum_by f (zone_of start bytes ns)
+    → start ≤ first → first ≤ last → last ≤ start + bytes → (sum_by f (zone_of start bytes ns)
     ≡ sum_by f (zone_of start (first - start) ns)
     + (sum_by f (zone_of 0 last ns) - sum_by f (zone_of 0 first ns))
     + sum_by f (zone_of last (bytes - (last - start)) ns))
@@ -91,11 +87,9 @@ prefaces_fit start bytes ns =
 none_below : (offset : ℕ) (ns : List NoteParts) → ((m : NoteParts) → In m ns → offset ≤ m.offset)
     → zone_of 0 offset ns ≡ []
 none_below offset [] f = refl
-none_below offset (m ∷ ns) f =
-    left_first (lies_in 0 offset) m ns [] (false_from_ne_true (lies_in 0 offset m) (λ t.
+none_below offset (m ∷ ns) f = left_first (lies_in 0 offset) m ns [] (false_from_ne_true (lies_in 0 offset m) (λ t.
     let h : end_of m ≤ 0 + offset = (lies_says 0 offset m t).1 in
-    let l : offset ≤ m.offset = f m (inl refl) in omega (arith, h, l)))
-    (none_below offset ns (λ x h. f x (inr h)))
+    let l : offset ≤ m.offset = f m (inl refl) in omega (arith, h, l))) (none_below offset ns (λ x h. f x (inr h)))
 
 zone_before : (low : ℕ) (before rest : List NoteParts) (n : NoteParts) → AreApart low (before ++ n ∷ rest)
     → zone_of 0 n.offset (before ++ n ∷ rest) ≡ before
@@ -113,8 +107,7 @@ zone_before low (y ∷ ys) rest n a =
 
 rise_push : (xs : List Mark) (x : Mark) → IsNonDecreasingBy (λ (m : Mark). m.offset) xs
     → ((m : Mark) → In m xs → m.offset ≤ x.offset) → IsNonDecreasingBy (λ (m : Mark). m.offset) (xs ++ x ∷ [])
-rise_push xs x r f =
-    IsNonDecreasingBy-push (λ (m : Mark). m.offset) xs x r (λ d l.
+rise_push xs x r f = IsNonDecreasingBy-push (λ (m : Mark). m.offset) xs x r (λ d l.
     f (get_or xs (length xs - 1) d) (In-at xs (length xs - 1) d (omega (arith, l))))
 
 -- The marks so far are marks among all notes and none is above those left, and the notes passed so far are counted.
@@ -156,11 +149,9 @@ module _ (all : List NoteParts) (marks : List Mark) (covered prefaces : ℕ) (n 
     low = low;
     before = k.before ++ n ∷ [];
     split = here ∙ sym (append_assoc k.before (n ∷ []) rest);
-    covered_is =
-        (let more = sum_by-append size_of k.before (n ∷ []) in
+    covered_is = (let more = sum_by-append size_of k.before (n ∷ []) in
         let one = sum_by-cons size_of n [] in omega (arith, k.covered_is, more, one));
-    prefaces_is =
-        (let more = sum_by-append (λ m. cond (is_preface_note m) 1 0) k.before (n ∷ []) in
+    prefaces_is = (let more = sum_by-append (λ m. cond (is_preface_note m) 1 0) k.before (n ∷ []) in
         let one = count_by-cons is_preface_note n [] in omega (arith, k.prefaces_is, more, one));
   }
 
@@ -169,8 +160,7 @@ module _ (all : List NoteParts) (marks : List Mark) (covered prefaces : ℕ) (n 
 
   pub counted_next : (next : List Mark) → (next ≡ marks) ⊎ (next ≡ marks ++ mark ∷ [])
       → AreCounted all next (covered + size_of n) (prefaces + tally (is_preface_note n)) rest
-  counted_next next (inl same) =
-      counted_with next (subst (AreMarks all) (sym same) k.marks_are)
+  counted_next next (inl same) = counted_with next (subst (AreMarks all) (sym same) k.marks_are)
       (λ m h. low_before m (subst (λ (l : List Mark). In m l) same h))
   counted_next next (inr more) =
       let held = λ (m : Mark). In-append m marks (mark ∷ []) in
@@ -228,11 +218,9 @@ module _ (b start bytes : ℕ) (notes : List NoteParts) (first last : Mark) (cat
   covered_by = omega (arith, in_range size_of, r.first_is.covered, r.last_is.covered)
 
   pub prefaces_order : first.prefaces ≤ last.prefaces
-  prefaces_order =
-      omega (arith, in_order (λ n. cond (is_preface_note n) 1 0), r.first_is.prefaces, r.last_is.prefaces)
+  prefaces_order = omega (arith, in_order (λ n. cond (is_preface_note n) 1 0), r.first_is.prefaces, r.last_is.prefaces)
 
   pub prefaces_by : prefaces_of start (first.offset - start) (clear_notes notes) + (last.prefaces - first.prefaces)
       + prefaces_of last.offset (bytes - (last.offset - start)) (clear_notes notes)
       ≡ prefaces_of start bytes (clear_notes notes)
-  prefaces_by =
-      omega (arith, in_range (λ n. cond (is_preface_note n) 1 0), r.first_is.prefaces, r.last_is.prefaces)
+  prefaces_by = omega (arith, in_range (λ n. cond (is_preface_note n) 1 0), r.first_is.prefaces, r.last_is.prefaces)

@@ -23,8 +23,7 @@ all_mapped t f (x ∷ xs) = ap (λ b. t (f x) && b) (all_mapped t f xs)
 pub count_mapped : {A B : Type 0} (t : B → Bool) (f : A → B) (xs : List A)
     → count_by t (map f xs) ≡ count_by (λ x. t (f x)) xs
 count_mapped t f [] = refl
-count_mapped t f (x ∷ xs) =
-    count_by-cons t (f x) (map f xs) ∙ ap (λ n. tally (t (f x)) + n) (count_mapped t f xs)
+count_mapped t f (x ∷ xs) = count_by-cons t (f x) (map f xs) ∙ ap (λ n. tally (t (f x)) + n) (count_mapped t f xs)
     ∙ sym (count_by-cons (λ x. t (f x)) x xs)
 
 pub filter_map_mapped : {A B C : Type 0} (t : B → Option C) (f : A → B) (xs : List A)
@@ -35,8 +34,7 @@ filter_map_mapped t f (x ∷ xs) = ap (cons_option (t (f x))) (filter_map_mapped
 pub find_mapped : {A B : Type 0} (t : B → Bool) (f : A → B) (xs : List A)
     → find t (map f xs) ≡ option_map f (find (λ x. t (f x)) xs)
 find_mapped t f [] = refl
-find_mapped t f (x ∷ xs) =
-    elim (t (f x)) as (λ b. cond b (Some (f x)) (find t (map f xs))
+find_mapped t f (x ∷ xs) = elim (t (f x)) as (λ b. cond b (Some (f x)) (find t (map f xs))
     ≡ option_map f (cond b (Some x) (find (λ x. t (f x)) xs))) [
       | true ↦ refl
       | false ↦ find_mapped t f xs
@@ -85,8 +83,7 @@ link_there ps o q e =
 
 -- ---- random index packs
 
-standing_in_numbers : (ps : List PartitionParts) (e : RipEntry)
-    → standing_of (map in_numbers ps) e ≡ standing_of ps e
+standing_in_numbers : (ps : List PartitionParts) (e : RipEntry) → standing_of (map in_numbers ps) e ≡ standing_of ps e
 standing_in_numbers ps e =
     let at = λ (p : PartitionParts). p.offset == e.offset in
     ap (standing_by e) (find_mapped at in_numbers ps)

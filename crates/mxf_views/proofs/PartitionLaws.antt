@@ -47,8 +47,7 @@ unfolding partition_at
 not_partition n p e q = none_some _ p (ap (option_map (placed n)) (no_pack n e)) q
 
 -- The partitions are those of the clear readable partition packs.
-pub partitions_are : (notes : List NoteParts) (p : PartitionParts)
-    → In p (partitions_of notes) ↔ IsPartition notes p
+pub partitions_are : (notes : List NoteParts) (p : PartitionParts) → In p (partitions_of notes) ↔ IsPartition notes p
 unfolding partitions_of
 partitions_are notes p =
     let m = In-filter_map partition_at (clear_notes notes) p in (
@@ -60,8 +59,7 @@ partitions_are notes p =
 -- They rise.
 pub partitions_rise : (notes : List NoteParts) → IsContent notes → AreInOrder (partitions_of notes)
 unfolding partitions_of
-partitions_rise notes r =
-    (rise_by (λ (p : PartitionParts). p.offset) _).1
+partitions_rise notes r = (rise_by (λ (p : PartitionParts). p.offset) _).1
     (kept_rise partition_at (λ p. p.offset) offset-partition_at notes r)
 
 -- At one offset one partition stands at most.

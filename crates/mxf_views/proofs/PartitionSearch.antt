@@ -52,8 +52,7 @@ stands_found ps o p e =
     (list_any-In (λ (p : PartitionParts). p.offset == o) ps).1 (p, f.0, f.1)
 
 stands_lacked : (ps : List PartitionParts) (o : ℕ) → find (λ p. p.offset == o) ps ≡ None → stands_at o ps ≡ false
-stands_lacked ps o e =
-    false_from_ne_true (stands_at o ps) (λ t.
+stands_lacked ps o e = false_from_ne_true (stands_at o ps) (λ t.
     let s = (list_any-In (λ (p : PartitionParts). p.offset == o) ps).0 t in
     none_found (λ (p : PartitionParts). p.offset == o) ps s.0 e s.1 s.2)
 
@@ -97,8 +96,7 @@ has_copy notes p h t =
 pub copy_lacked : (notes : List NoteParts) (o : ℕ)
     → ((p : PartitionParts) → In p (partitions_of notes) → p.offset ≡ o → has_metadata p ≡ true → ⊥)
     → find (λ c. c.partition == o) (copies_of notes) ≡ None
-copy_lacked notes o none =
-    find-none (λ (c : CopyInfo). c.partition == o) (copies_of notes) (λ c h t.
+copy_lacked notes o none = find-none (λ (c : CopyInfo). c.partition == o) (copies_of notes) (λ c h t.
     let a = of_partition notes c h in none a.partition a.there (sym a.offset ∙ eqb-true c.partition o t) a.states)
 
 -- Else it is the copy of that partition.
@@ -117,8 +115,7 @@ copy_found notes o p e t =
 
 pub no_partition : (notes : List NoteParts) (o : ℕ) → find (λ p. p.offset == o) (partitions_of notes) ≡ None
     → find (λ c. c.partition == o) (copies_of notes) ≡ None
-no_partition notes o e =
-    copy_lacked notes o (λ p h at t.
+no_partition notes o e = copy_lacked notes o (λ p h at t.
     none_found (λ (p : PartitionParts). p.offset == o) (partitions_of notes) p e h (eq-eqb p.offset o at))
 
 pub no_metadata : (notes : List NoteParts) (o : ℕ) (p : PartitionParts)

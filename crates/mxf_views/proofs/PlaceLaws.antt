@@ -28,8 +28,7 @@ place_cmp-IsAntisymmetric a b e =
 
 -- A segment that gives a place adds it.
 pub places_more : (places : List StreamPlace) (index_sid unit : ℕ) (s : SegmentAtParts)
-    (rest left : List SegmentAtParts)
-    (p : StreamPlace) → left ≡ s ∷ rest → Some p ≡ given_by index_sid unit s
+    (rest left : List SegmentAtParts) (p : StreamPlace) → left ≡ s ∷ rest → Some p ≡ given_by index_sid unit s
     → places_with (with_one place_cmp p places) index_sid unit rest ≡ places_with places index_sid unit left
 places_more places index_sid unit s rest left p e f =
     let g : places_with places index_sid unit left ≡ places_with places index_sid unit (s ∷ rest) = ap
@@ -45,8 +44,7 @@ rises_more places p r = IsRising-with_one place_total place_cmp-IsAntisymmetric 
 -- ---- the order of places
 
 pub below_from : (p q : StreamPlace) → place_cmp p q ≡ Less → IsBelow p q
-below_from p q e =
-    elim (nat_cmp p.body_sid q.body_sid) as (λ o. nat_cmp p.body_sid q.body_sid ≡ o
+below_from p q e = elim (nat_cmp p.body_sid q.body_sid) as (λ o. nat_cmp p.body_sid q.body_sid ≡ o
     → ordering_then o (nat_cmp p.offset q.offset) ≡ Less → IsBelow p q) [
       | Less ↦ λ f g. inl (lt_from_less _ _ f)
       | Equal ↦ λ f g. inr (nat_cmp-IsAntisymmetric p.body_sid q.body_sid f, lt_from_less _ _ g)
@@ -56,10 +54,8 @@ below_from p q e =
 less_from : (p q : StreamPlace) → IsBelow p q → place_cmp p q ≡ Less
 less_from p q (inl l) =
     ap (λ (r : Ordering). ordering_then r (nat_cmp p.offset q.offset)) (sym (nat_cmp_is p.body_sid q.body_sid Less l))
-less_from p q (inr s) =
-    ap (λ (r : Ordering). ordering_then r (nat_cmp p.offset q.offset))
-    (sym (nat_cmp_is p.body_sid q.body_sid Equal s.0))
-    ∙ sym (nat_cmp_is p.offset q.offset Less s.1)
+less_from p q (inr s) = ap (λ (r : Ordering). ordering_then r (nat_cmp p.offset q.offset))
+    (sym (nat_cmp_is p.body_sid q.body_sid Equal s.0)) ∙ sym (nat_cmp_is p.offset q.offset Less s.1)
 
 not_itself : (p q : StreamPlace) → place_cmp p q ≡ Less → p ≡ q → ⊥
 not_itself p q e same =
@@ -73,16 +69,14 @@ not_both p q e f = not_itself p p (place_total.trans p q p e f) refl
 -- ---- the places that are given
 
 given_from : (segments : List SegmentAtParts) (index_sid unit : ℕ) (s : SegmentAtParts) (p : StreamPlace)
-    → In s segments
-    → given_by index_sid unit s ≡ Some p → IsGiven segments index_sid unit p
+    → In s segments → given_by index_sid unit s ≡ Some p → IsGiven segments index_sid unit p
 unfolding given_by
 given_from segments index_sid unit s p h e =
     let sid = s.segment.numbers.index_sid in
     elim (sid == index_sid) as (λ b. (sid == index_sid) ≡ b
     → cond b (place_in unit s) None ≡ Some p → IsGiven segments index_sid unit p) [
       | false ↦ λ _ q. absurd cc
-      | true ↦ λ t q.
-          elim (stream_offset s.segment unit) as (λ o. stream_offset s.segment unit ≡ o
+      | true ↦ λ t q. elim (stream_offset s.segment unit) as (λ o. stream_offset s.segment unit ≡ o
           → option_map (in_stream s) o ≡ Some p
           → IsGiven segments index_sid unit p) [
             | None ↦ λ _ u. absurd cc
@@ -99,8 +93,7 @@ given_from segments index_sid unit s p h e =
     ] refl e
 
 given_to : (segments : List SegmentAtParts) (index_sid unit : ℕ) (p : StreamPlace)
-    → (g : IsGiven segments index_sid unit p)
-    → given_by index_sid unit g.by ≡ Some p
+    → (g : IsGiven segments index_sid unit p) → given_by index_sid unit g.by ≡ Some p
 unfolding given_by
 given_to segments index_sid unit p g =
     let t = eq-eqb g.by.segment.numbers.index_sid index_sid g.index in
@@ -131,8 +124,7 @@ places_rise segments index_sid unit =
 
 -- The place is by any rising list of exactly these places.
 pub place_by_list : (segments : List SegmentAtParts) (index_sid unit : ℕ) (places : List StreamPlace)
-    → IsRising place_cmp places
-    → ((p : StreamPlace) → In p places ↔ IsGiven segments index_sid unit p)
+    → IsRising place_cmp places → ((p : StreamPlace) → In p places ↔ IsGiven segments index_sid unit p)
     → place_of segments index_sid unit ≡ place_by places
 place_by_list segments index_sid unit places r h =
     let w = holds segments index_sid unit in
@@ -179,8 +171,7 @@ module _ {segments : List SegmentAtParts} {index_sid unit : ℕ} where
       ]
 
   one_first : (p q x y : StreamPlace) → AreTwoLeast segments index_sid unit p q
-      → AreTwoLeast segments index_sid unit x y
-      → p ≡ x
+      → AreTwoLeast segments index_sid unit x y → p ≡ x
   one_first p q x y s t =
       elim (at_or_above p q x s t.first) [
         | inl e ↦ e
@@ -196,8 +187,7 @@ module _ {segments : List SegmentAtParts} {index_sid unit : ℕ} where
       ]
 
   one_second : (p q x y : StreamPlace) → AreTwoLeast segments index_sid unit p q
-      → AreTwoLeast segments index_sid unit x y
-      → q ≡ y
+      → AreTwoLeast segments index_sid unit x y → q ≡ y
   one_second p q x y s t =
       let e = one_first p q x y s t in
       let a : place_cmp p y ≡ Less = ap (λ (z : StreamPlace). place_cmp z y) e ∙ less_from x y t.below in

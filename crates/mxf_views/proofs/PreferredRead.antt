@@ -33,16 +33,14 @@ there at p ps = grind (arith, copy_read_there)
 -- The copies of a file rise.
 pub rise-read : (at : ℕ) (l : List PacketParts) → RiseFrom at (copies_alone (copies_read at l))
 rise-read at [] = tt
-rise-read at (p ∷ ps) =
-    rise_one at (at + size_of p) (option_and_then (copy_read ps) (partition_read at p))
+rise-read at (p ∷ ps) = rise_one at (at + size_of p) (option_and_then (copy_read ps) (partition_read at p))
     (copies_read (at + size_of p) ps) (omega arith) (there at p ps) (rise-read (at + size_of p) ps)
 
 -- A copy in a partition above that of the best so far.
 better_same : (low : ℕ) (best : Option CopyInfo) (c : CopyInfo) → IfSome best (λ b. b.partition < low)
     → low ≤ c.partition → better best c ≡ better_read best c
 better_same low None c h l = grind (arith)
-better_same low (Some best) c h l =
-    ap (λ t. cond (is_candidate c && t) (Some c) (Some best))
+better_same low (Some best) c h l = ap (λ t. cond (is_candidate c && t) (Some c) (Some best))
     (one_above (rank best) (rank c) best.partition c.partition (omega arith))
 
 -- The better of two is below all that come later.

@@ -37,8 +37,7 @@ standing_is ps entry =
 
 found_there : (ps : List PartitionParts) (entry : RipEntry) (p : PartitionParts) → AreInOrder ps → In p ps
     → p.offset ≡ entry.offset → find (λ q. q.offset == entry.offset) ps ≡ Some p
-found_there ps entry p r h e =
-    find-only (λ q. q.offset == entry.offset) ps p h (eq-eqb p.offset entry.offset e)
+found_there ps entry p r h e = find-only (λ q. q.offset == entry.offset) ps p h (eq-eqb p.offset entry.offset e)
     (λ q k t. one_there ps q p r k h (eqb-true q.offset entry.offset t ∙ sym e))
 
 standing_to : (ps : List PartitionParts) (entry : RipEntry) → AreInOrder ps → (s : Standing) → IsStanding ps entry s
@@ -52,8 +51,7 @@ standing_to ps entry r Differs i =
     let f : (sid == entry.body_sid) ≡ false = false_from_ne_true (sid == entry.body_sid)
     (λ t. i.3 (eqb-true sid entry.body_sid t)) in
     ap (standing_by entry) (found_there ps entry i.0 r i.1 i.2) ∙ ap (λ (b : Bool). cond b Held Differs) f
-standing_to ps entry r Missing i =
-    ap (standing_by entry) (find-none (λ q. q.offset == entry.offset) ps
+standing_to ps entry r Missing i = ap (standing_by entry) (find-none (λ q. q.offset == entry.offset) ps
     (λ q h t. i q h (eqb-true q.offset entry.offset t)))
 
 -- An entry stands as the partition at its offset says.
@@ -126,8 +124,7 @@ view_to notes rips w a (Unreadable offset) i =
       | Some rip ↦ λ e. absurd (i.3 rip ((reads (rip_at n.width) n rip).0 e))
     ] refl in
     ap (rip_view_among (partitions_of notes)) (only_of notes rips w a n i.1)
-    ∙ ap (rip_view_by (partitions_of notes) n.offset) none
-    ∙ ap (λ (x : ℕ). Unreadable x) i.2
+    ∙ ap (rip_view_by (partitions_of notes) n.offset) none ∙ ap (λ (x : ℕ). Unreadable x) i.2
 view_to notes rips w a (One r) i =
     let n = i.0 in
     ap (rip_view_among (partitions_of notes)) (only_of notes rips w a n i.1)

@@ -108,8 +108,7 @@ pub length-copies_followed : (notes : List NoteParts) (offset start end : ℕ) (
 length-copies_followed notes offset start end brings cs =
     let outside = filter (λ (c : CopyInfo). is_outside start end c.partition) cs in
     let l = length-with_found (λ (d : CopyInfo). d.partition)
-    (find (λ (d : CopyInfo). d.partition == offset) (copies_of notes))
-    (map (renewed notes start end brings) outside) in
+    (find (λ (d : CopyInfo). d.partition == offset) (copies_of notes)) (map (renewed notes start end brings) outside) in
     let m = length-map outside (renewed notes start end brings) in
     let f = length-filter_le (λ (c : CopyInfo). is_outside start end c.partition) cs in
     omega (arith, l, m, f)

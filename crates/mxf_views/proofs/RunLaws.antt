@@ -56,12 +56,10 @@ module _ (handed : NoteParts → Type 0) (notes : List NoteParts) (members : (n 
       record {
         members = members;
         file = file;
-        one = λ h same.
-            same_content (content h) notes (IsContent-content h) rises
+        one = λ h same. same_content (content h) notes (IsContent-content h) rises
             (λ n. (
               λ i. (members n).1 ((same n).0 ((In-content h n).0 i)),
-              λ i. (In-content h n).1 ((same n).1
-                  ((members n).0 i)),
+              λ i. (In-content h n).1 ((same n).1 ((members n).0 i)),
             ));
         disputed = λ n. subst (λ ns. In n ns ↔ IsDisputedAmong handed n) (sym (notes-disputed_notes notes))
             (disputed_among n);

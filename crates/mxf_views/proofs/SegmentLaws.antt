@@ -20,8 +20,7 @@ segment_from notes n s clear e =
     elim (is_segment k) as (λ b. is_segment k ≡ b
     → option_map (placed n.offset) (cond b (read_as segment_at n) None) ≡ Some s → IsSegmentAt notes s) [
       | false ↦ λ _ q. absurd cc
-      | true ↦ λ t q.
-          elim (read_as segment_at n) as (λ o. read_as segment_at n ≡ o
+      | true ↦ λ t q. elim (read_as segment_at n) as (λ o. read_as segment_at n ≡ o
           → option_map (placed n.offset) o ≡ Some s → IsSegmentAt notes s) [
             | None ↦ λ _ u. absurd cc
             | Some segment ↦ λ r u.
@@ -64,8 +63,7 @@ offset-placed_segment n s e =
 -- They rise.
 pub segments_rise : (notes : List NoteParts) → IsContent notes → SegmentsRise (segments_of notes)
 unfolding segments_of
-segments_rise notes r =
-    (rise_by (λ (s : SegmentAtParts). s.offset) _).1
+segments_rise notes r = (rise_by (λ (s : SegmentAtParts). s.offset) _).1
     (kept_rise placed_segment (λ s. s.offset) offset-placed_segment notes r)
 
 -- The segment at an offset is that of the clear note there.

@@ -123,8 +123,7 @@ module _ (runs : List Run) (notes : List NoteParts) (reached top : ℕ) (cover :
                           let low : reached ≤ at = ltb-false at reached u in
                           let high : at + 1 ≤ top = omega (arith, gap_below at g) in (
                             run reached top,
-                            (all (run reached top)).1 (inr
-                                (inl refl)),
+                            (all (run reached top)).1 (inr (inl refl)),
                             record { from = low; before = high },
                           )
                     ] refl,

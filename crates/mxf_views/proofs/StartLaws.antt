@@ -121,8 +121,7 @@ passes notes end s r a =
     let same = clear_same notes m f.fill ((In-clear_notes m notes).0 z.0) f.clear shares in
     (fill_note m).1 (ap (λ (x : NoteParts). kind_of x.key) same ∙ f.kind)) in
     all_three (is_readable_primer n) (nat_le end n.offset) (is_filled end len clear) ((primer_note n).1 a.readable)
-    (le-leb end n.offset le2)
-    (and_from (covered_of end len clear == len) (list_all is_fill_note zone) covered fills)
+    (le-leb end n.offset le2) (and_from (covered_of end len clear == len) (list_all is_fill_note zone) covered fills)
 
 -- The start is found exactly where it stands.
 pub start_is : (notes : List NoteParts) (end s : ℕ) → IsContent notes
@@ -133,8 +132,7 @@ start_is notes end s r =
     → (option_map (λ n. n.offset) o ≡ Some s) ↔ IsStart notes end s) [
       | None ↦ λ e. (
         λ k. absurd cc,
-        λ a. absurd
-            (none_found (is_start end clear) clear a.primer e ((In-clear_notes a.primer notes).1 a.clear)
+        λ a. absurd (none_found (is_start end clear) clear a.primer e ((In-clear_notes a.primer notes).1 a.clear)
             (passes notes end s r a)),
       )
       | Some n ↦ λ e.

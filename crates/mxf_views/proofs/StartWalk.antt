@@ -19,8 +19,7 @@ pub record Passed (notes : List NoteParts) (end reached : ℕ) (left : List Note
 
 -- Nothing is passed before the first.
 pub passed_none : (notes : List NoteParts) (end : ℕ) (left : List NoteParts) → IsCatalogue notes
-    → left ≡ filter (lies_in end 18446744073709551615) (clear_notes notes) → AreApart 0 left
-    → Passed notes end end left
+    → left ≡ filter (lies_in end 18446744073709551615) (clear_notes notes) → AreApart 0 left → Passed notes end end left
 passed_none notes end left c e a =
     let member = λ (n : NoteParts). In-filter (lies_in end 18446744073709551615) (clear_notes notes) n in
     record {
@@ -78,8 +77,7 @@ passed_fill notes end reached n left p e fill =
 
 -- A readable primer behind the fills is the start.
 is_at : (notes : List NoteParts) (end reached : ℕ) (n : NoteParts) (left : List NoteParts)
-    → Passed notes end reached (n ∷ left) → n.offset ≡ reached → is_readable_primer n ≡ true
-    → IsStart notes end reached
+    → Passed notes end reached (n ∷ left) → n.offset ≡ reached → is_readable_primer n ≡ true → IsStart notes end reached
 is_at notes end reached n left p e readable = record {
   primer = n;
   clear = p.clear n (inl refl);
@@ -133,8 +131,7 @@ leads_on notes end reached s left p a =
             note = f.fill;
             held = p.rest f.fill f.clear (omega arith);
             there = at;
-            kind = inl
-                ((fill_note f.fill).1 f.kind);
+            kind = inl ((fill_note f.fill).1 f.kind);
           }
       | false ↦ λ t.
           let l : s ≤ reached = ltb-false reached s t in
@@ -145,8 +142,7 @@ leads_on notes end reached s left p a =
                   note = a.primer;
                   held = p.rest a.primer a.clear (omega arith);
                   there = omega arith;
-                  kind = inr
-                      ((primer_note a.primer).1 a.readable);
+                  kind = inr ((primer_note a.primer).1 a.readable);
                 }
           ] refl
     ] refl
@@ -186,8 +182,7 @@ none_of_kind notes end reached n left r p no_fill no_primer = none_there notes e
 pub first_other : (notes : List NoteParts) (end reached : ℕ) (n : NoteParts) (left : List NoteParts) → IsContent notes
     → Passed notes end reached (n ∷ left) → n.offset ≡ reached → is_fill_note n ≡ false
     → start_of end (clear_notes notes) ≡ then_some (is_readable_primer n) reached
-first_other notes end reached n left r p e no_fill =
-    elim (is_readable_primer n) as (λ b. is_readable_primer n ≡ b
+first_other notes end reached n left r p e no_fill = elim (is_readable_primer n) as (λ b. is_readable_primer n ≡ b
     → start_of end (clear_notes notes) ≡ then_some b reached) [
       | true ↦ λ t. (start_is notes end reached r).1 (is_at notes end reached n left p e t)
       | false ↦ λ t. none_of_kind notes end reached n left r p no_fill t

@@ -28,8 +28,7 @@ rise_in : (notes : List NoteParts) (cs : List CopyInfo) → IsContent notes → 
     → ((c : CopyInfo) → In c cs → In c (copies_of notes)) → StartsRise cs
 rise_in notes [] r rising all = tt
 rise_in notes (c ∷ cs) r rising all = (
-  all_from_In (λ (d : CopyInfo). IsStartBelow c.start d.start) cs (λ d h.
-      below_by c.start d.start (λ s t e f.
+  all_from_In (λ (d : CopyInfo). IsStartBelow c.start d.start) cs (λ d h. below_by c.start d.start (λ s t e f.
       starts_in_order notes c d s t r (all c (inl refl)) (all d (inr h)) (all-In (λ
       (x : CopyInfo). c.partition < x.partition) cs d rising.0 h) e f)),
   rise_in notes cs r rising.1 (λ d h. all d (inr h)),

@@ -16,13 +16,11 @@ zone_above b start bytes notes c l =
     leb-true start n.offset (and_parts (nat_le start n.offset) (nat_le (end_of n) (start + bytes)) t).0 in
     let within = (all-In IsNote notes n c.members ((In-clear_notes n notes).0 h).held).within in
     and_from (nat_le b n.offset) (nat_le (end_of n) (b + 18446744073709551615)) (le-leb b n.offset (omega
-    (arith, m, l)))
-    (le-leb (end_of n) (b + 18446744073709551615) (omega (arith, within))))
+    (arith, m, l))) (le-leb (end_of n) (b + 18446744073709551615) (omega (arith, within))))
 
 -- A copy starts at or after the end of its pack.
 pub start_after : (end : ℕ) (notes : List NoteParts) (s : ℕ) → start_of end notes ≡ Some s → end ≤ s
-start_after end notes s e =
-    elim (find (is_start end notes) notes) as (λ o. find (is_start end notes) notes ≡ o
+start_after end notes s e = elim (find (is_start end notes) notes) as (λ o. find (is_start end notes) notes ≡ o
     → option_map (λ n. n.offset) o ≡ Some s → end ≤ s) [
       | None ↦ λ f g. absurd cc
       | Some n ↦ λ f g. (

@@ -22,8 +22,7 @@ pack_lacked n e = no_pack n (none_if (part_and_status (kind_of n.key)) e)
 
 pub no_partition : (n : NoteParts) → has_pack n ≡ false → partition_at n ≡ None
 unfolding partition_at
-no_partition n e =
-    ap (option_map (λ pack. record { offset = n.offset; end = end_of n; pack = pack })) (pack_lacked n e)
+no_partition n e = ap (option_map (λ pack. record { offset = n.offset; end = end_of n; pack = pack })) (pack_lacked n e)
 
 -- What is no partition has nothing that only a partition has.
 pack_if : (by : Option PartitionParts → Bool) → by None ≡ false → (n : NoteParts) → by (partition_at n) ≡ true
@@ -50,8 +49,7 @@ pack_if_unreadable n t =
     ] t
 
 pub rips_at_most : (ns : List NoteParts) → count_by (is_kept kept_random_index_pack) ns ≤ count_by is_rip_note ns
-rips_at_most ns =
-    count_le (is_kept kept_random_index_pack) is_rip_note ns (λ n t. sym (kept_if is_rip_note n) ∙ t)
+rips_at_most ns = count_le (is_kept kept_random_index_pack) is_rip_note ns (λ n t. sym (kept_if is_rip_note n) ∙ t)
 
 pub unreadable_at_most : (ns : List NoteParts) → count_by (is_kept kept_unreadable_pack) ns ≤ count_by has_pack ns
 unreadable_at_most ns = count_le (is_kept kept_unreadable_pack) has_pack ns
@@ -67,8 +65,7 @@ segment_if : (n : NoteParts) → is_kept kept_segment n ≡ true → has_segment
 segment_if n t =
     elim (has_segment n) as (λ b. has_segment n ≡ b → b ≡ true) [
       | true ↦ λ e. refl
-      | false ↦ λ e.
-          (let f = ap (λ o. is_some (option_map without_entries o)) (no_segment n e) in absurd (cc (f, t)))
+      | false ↦ λ e. (let f = ap (λ o. is_some (option_map without_entries o)) (no_segment n e) in absurd (cc (f, t)))
     ] refl
 
 pub segments_at_most : (ns : List NoteParts) → count_by (is_kept kept_segment) ns ≤ count_by has_segment ns

@@ -6,9 +6,7 @@ use Rattle.mxf_commands.specs.Lists.{naming_lines}
 use Rattle.mxf_commands.proofs.listed.push_lines.Given as goal
 
 abbrev pub invariant-lines : goal.invariant-lines
-invariant-lines l =
-    shadow (Utf8 l.rest)
-    × (map (λ word. word.now) l.all.items ++ naming_lines l.rest
+invariant-lines l = shadow (Utf8 l.rest) × (map (λ word. word.now) l.all.items ++ naming_lines l.rest
     ≡ map (λ word. word.now) l.initial.all.items ++ naming_lines l.fn.list)
 
 abbrev pub decreases-lines : goal.decreases-lines

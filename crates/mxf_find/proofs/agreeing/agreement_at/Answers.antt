@@ -15,8 +15,7 @@ returns-in_default-clause-agrees c =
     let r = c.args.content.now in
     let o = c.args.offset in
     let p = c.args.note.now in
-    let none : CanHead (head_there r o p) → ⊥ = λ can. c.in_default.ensures
-    (subst (λ (h : NoteParts). CanHead h)
+    let none : CanHead (head_there r o p) → ⊥ = λ can. c.in_default.ensures (subst (λ (h : NoteParts). CanHead h)
     (sym (head r o p _ _ _ _ refl c.key.ensures c.width.ensures c.length.ensures)) can) in
     let agrees = agrees_none r o p (no_head r o p c.laws.ensures.catalogue.members none) in
     agrees
@@ -26,8 +25,7 @@ returns-in_default-clause-as_head c =
     let r = c.args.content.now in
     let o = c.args.offset in
     let p = c.args.note.now in
-    let none : CanHead (head_there r o p) → ⊥ = λ can. c.in_default.ensures
-    (subst (λ (h : NoteParts). CanHead h)
+    let none : CanHead (head_there r o p) → ⊥ = λ can. c.in_default.ensures (subst (λ (h : NoteParts). CanHead h)
     (sym (head r o p _ _ _ _ refl c.key.ensures c.width.ensures c.length.ensures)) can) in
     let agrees = agrees_none r o p (no_head r o p c.laws.ensures.catalogue.members none) in
     as_head_none r o p agrees

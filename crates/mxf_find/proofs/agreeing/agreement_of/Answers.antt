@@ -10,8 +10,7 @@ below : (p q at : ℕ) → p ≡ q → (greatest_end - p ≤ at → ⊥) → at 
 below p q at e none = grind (arith, e, none)
 
 pub returns-in_default-clause-agrees : goal.returns-in_default-clause-agrees
-returns-in_default-clause-agrees c =
-    agrees_unmoved c.args.fragment.now c.args.recording.now c.args.at c.args.note.now
+returns-in_default-clause-agrees c = agrees_unmoved c.args.fragment.now c.args.recording.now c.args.at c.args.note.now
     (below _ _ _ c.place.ensures.place c.in_default.ensures)
 
 pub returns-clause-agrees : goal.returns-clause-agrees
@@ -29,8 +28,7 @@ returns-clause-agrees c =
     ∙ ap (λ (k : ℕ). agrees_at r k p) o ∙ agrees_moved f r c.args.at p l)
 
 pub returns-in_default-clause-as_head : goal.returns-in_default-clause-as_head
-returns-in_default-clause-as_head c =
-    as_head_unmoved c.args.fragment.now c.args.recording.now c.args.at c.args.note.now
+returns-in_default-clause-as_head c = as_head_unmoved c.args.fragment.now c.args.recording.now c.args.at c.args.note.now
     (below _ _ _ c.place.ensures.place c.in_default.ensures)
 
 pub returns-clause-as_head : goal.returns-clause-as_head

@@ -13,7 +13,6 @@ returns c =
     let below = IsPartitionPoint-from_clause (λ x. nat_lt (side front_of n x) 1) _ _
     c.partition_point-from.ensures.partitioned (parted front_of coarse_fronts n xs c.requires 1)
     (λ a r q k. search rules) in
-    c.only_between.ensures
-    ∙ ap (λ (i : ℕ). sole (drop i (take c.partition_point-to.result xs))) c.min.ensures
+    c.only_between.ensures ∙ ap (λ (i : ℕ). sole (drop i (take c.partition_point-to.result xs))) c.min.ensures
     ∙ ap (λ (l : List NoteParts). sole l)
     (run front_of coarse_fronts n xs c.requires _ _ c.partition_point-to.ensures.bound below.0 below.1 up_to.0 up_to.1)

@@ -11,5 +11,4 @@ loop-c-preserved c =
     ap (λ (l : List ℕ). l ++ escaped rest) c.in_ok-append_character.ensures
     ∙ append_assoc line (escaped one) (escaped rest)
     ∙ ap (λ (l : List ℕ). line ++ l) (sym (flat_map-append escaped_character one rest))
-    ∙ ap (λ (l : List ℕ). line ++ escaped l) (sym c.in-Some.ensures.steps.0)
-    ∙ c.loop-c.invariant
+    ∙ ap (λ (l : List ℕ). line ++ escaped l) (sym c.in-Some.ensures.steps.0) ∙ c.loop-c.invariant

@@ -3,8 +3,7 @@ use Rattle.mxf_hand.proofs.HandLaws.{are_told, one_hand, told_after}
 use Rattle.mxf_hand.proofs.putting.put_together.Goals as goal
 
 pub returns-clause-views : goal.returns-clause-views
-returns-clause-views g c = λ given h told is.
-    c.in_ok-views.ensures.rounds h (told_after c.in_ok-hand.ensures.told
+returns-clause-views g c = λ given h told is. c.in_ok-views.ensures.rounds h (told_after c.in_ok-hand.ensures.told
     (are_told given h told is c.in_ok-hand.ensures.given (c.in_ok-hand.ensures.runs given told)))
 
 pub returns-clause-hand : goal.returns-clause-hand

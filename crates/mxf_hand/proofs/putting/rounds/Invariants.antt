@@ -6,8 +6,6 @@ use Rattle.mxf_hand.specs.Rounds.{put_together, rounds}
 use Rattle.mxf_hand.proofs.putting.rounds.Given as goal
 
 abbrev pub invariant-loop-number : goal.invariant-loop-number
-invariant-loop-number g l =
-    (g.S.Sources.told l.sources ≡ g.S.Sources.told l.initial.sources)
-    × ((h : HandBytes)
+invariant-loop-number g l = (g.S.Sources.told l.sources ≡ g.S.Sources.told l.initial.sources) × ((h : HandBytes)
     → AreToldIn (g.S.Sources.told l.initial.sources) l.hand.given.extents l.hand.runs h
     → AreBarren h l.barren × (rounds (64 - l.number) h l.views ≡ put_together h l.initial.views))

@@ -51,8 +51,7 @@ returns-clause-added g c = λ h t b.
     let read = c.in_ok-reading.reading.notes in
     let more = map cut (option_list c.in_ok-reading.reading.head) in
     same_growth c.args.found.now c.add_reading.new.self read (packets_of h notes p) (made ++ [])
-    (made_of h notes p) more
-    (read_heads_of h notes p)
+    (made_of h notes p) more (read_heads_of h notes p)
     (is.notes ∙ ap (λ (o : Option ℕ). option_map_or (read_packets h p.end) o []) some)
     (append-nil made ∙ ap (made_by h p.hole.end) (ap (map note) c.deref-2.ensures.value ∙ fits))
     (ap (map cut) is.head ∙ ap (λ (o : Option ℕ). map cut (option_map_or (read_heads h p.end) o [])) some)

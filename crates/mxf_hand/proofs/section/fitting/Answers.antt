@@ -26,6 +26,5 @@ returns-clause-fitting g c = λ notes h t listed.
     let test = λ (n : NoteParts). (n.offset == c.start_by-start.result) && fits h n in
     let heads = c.args.heads.now in
     kept_all note test heads c.loop-head.head-index (map note c.loop-head.fitting.items) (filter test (map note heads))
-    c.loop-head-test.false (c.loop-head.invariant.1 h t)
-    ∙ ap (filter test) listed
+    c.loop-head-test.false (c.loop-head.invariant.1 h t) ∙ ap (filter test) listed
     ∙ (λ i. filter (λ n. (n.offset == c.start_by-start.ensures notes listed i) && fits h n) (heads_to c.args.end notes))

@@ -5,9 +5,7 @@ use Rattle.mxf_hand.specs.Heads.{fits}
 use Rattle.mxf_hand.proofs.section.fitting.Given as goal
 
 abbrev pub invariant-loop-head : goal.invariant-loop-head
-invariant-loop-head g l =
-    (g.S.Sources.told l.sources ≡ g.S.Sources.told l.initial.sources)
-    × ((h : HandBytes)
+invariant-loop-head g l = (g.S.Sources.told l.sources ≡ g.S.Sources.told l.initial.sources) × ((h : HandBytes)
     → AreToldIn (g.S.Sources.told l.initial.sources) l.hand.given.extents l.hand.runs h
     → map (λ x. x.0.now) l.fitting.items ++ filter (λ n. (n.offset == l.start) && fits h n)
     (map (λ x. x.0.now) (drop l.head-index l.heads))

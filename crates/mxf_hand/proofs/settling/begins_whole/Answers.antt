@@ -9,6 +9,5 @@ returns-in-Some c =
     ∙ begins-undisputed c.args.catalogue.now c.args.offset n (sym c.in-Some.ensures.first)
 
 pub returns-in-None : goal.returns-in-None
-returns-in-None c =
-    begins-disputed c.args.catalogue.now c.args.offset (sym c.in-None.ensures.first) c.has_key.result
+returns-in-None c = begins-disputed c.args.catalogue.now c.args.offset (sym c.in-None.ensures.first) c.has_key.result
     (subst (λ s. IsTrue c.has_key.result ↔ In c.args.offset (map (λ o. o) s)) c.requires.starts c.has_key.ensures)

@@ -19,6 +19,5 @@ loop-from-preserved c = λ rest go.
     subst (AreExtents stands end 0) pushed all
 
 pub returns : goal.returns
-returns c =
-    subst (AreExtents (standing_at c.args.standings.now) c.args.end 0) (append-nil c.loop-from.extents.items)
+returns c = subst (AreExtents (standing_at c.args.standings.now) c.args.end 0) (append-nil c.loop-from.extents.items)
     (c.loop-from.invariant [] c.loop-from-test.false)

@@ -4,5 +4,4 @@ use Rattle.mxf_places.specs.Held.{bytes_of}
 use Rattle.mxf_map.proofs.map.bytes_of.Given as goal
 
 abbrev pub invariant-loop-run : goal.invariant-loop-run
-invariant-loop-run l =
-    (l.bytes + bytes_of l.run-iterator ≡ bytes_of l.set) × AllByRecursion IsRun l.run-iterator
+invariant-loop-run l = (l.bytes + bytes_of l.run-iterator ≡ bytes_of l.set) × AllByRecursion IsRun l.run-iterator

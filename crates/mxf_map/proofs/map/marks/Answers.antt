@@ -16,6 +16,5 @@ loop-from-preserved c = λ rest go.
     subst (AreMarks notes c.args.size c.args.end 0) pushed all
 
 pub returns : goal.returns
-returns c =
-    subst (AreMarks c.args.layers.now c.args.size c.args.end 0) (append-nil c.loop-from.marks.items)
+returns c = subst (AreMarks c.args.layers.now c.args.size c.args.end 0) (append-nil c.loop-from.marks.items)
     (c.loop-from.invariant [] c.loop-from-test.false)

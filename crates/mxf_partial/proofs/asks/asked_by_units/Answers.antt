@@ -10,8 +10,7 @@ add_limits-requires c =
     (rise_by (λ (n : NamedPlace). n.place) c.args.named.now).1 (keys_rise c.args.named.now c.requires.rising)
 
 pub returns : goal.returns
-returns c = λ n.
-    asked_are (record { units = c.args.units.now; first = c.args.range.first; count = c.args.range.count })
+returns c = λ n. asked_are (record { units = c.args.units.now; first = c.args.range.first; count = c.args.range.count })
     c.args.named.now c.add_partitions.new.asked.items c.add_ways.new.asked.items c.add_limits.new.asked.items
     c.deref-3.result.now c.deref.result.now c.deref-2.result.now c.new-asked.result.items n c.requires
     c.new-asked.ensures.items (c.deref.ensures.value ∙ c.in_ok-partitions.ensures)

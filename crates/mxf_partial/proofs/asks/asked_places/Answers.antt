@@ -10,13 +10,11 @@ use Rattle.mxf_partial.proofs.asks.asked_places.Goals.{then-is_index_sought+in_o
 use Rattle.mxf_partial.proofs.asks.asked_places.Goals.{else-is_index_sought}
 
 pub add_chosen-requires-clause-rising : goal.add_chosen-requires-clause-rising
-add_chosen-requires-clause-rising c =
-    subst (IsRising nat_cmp) (sym (c.deref.ensures.value ∙ c.in_ok-numbers.ensures))
+add_chosen-requires-clause-rising c = subst (IsRising nat_cmp) (sym (c.deref.ensures.value ∙ c.in_ok-numbers.ensures))
     (numbers_are_rising (record { units = c.args.units.now; first = c.args.range.first; count = c.args.range.count }))
 
 -- The same places in another list.
-moved : (w : WantedParts) (sought : Bool) (before after : List NamedPlace) (n : NamedPlace)
-    → In n after ↔ In n before
+moved : (w : WantedParts) (sought : Bool) (before after : List NamedPlace) (n : NamedPlace) → In n after ↔ In n before
     → In n before ↔ (IsAskedByUnit w n.place n.source ⊎ ((sought ≡ true) × IsAskedByIndex w n.place n.source))
     → In n after ↔ (IsAskedByUnit w n.place n.source ⊎ ((sought ≡ true) × IsAskedByIndex w n.place n.source))
 moved w sought before after n same so = (λ i. so.0 (same.0 i), λ h. same.1 (so.1 h))
@@ -53,11 +51,9 @@ returns-clause-members c = λ n.
           c.requires (b.deref.ensures.value ∙ b.in_ok-numbers.ensures) (c.in_ok-asked.ensures n)
           (subst (λ (l : List NamedPlace). In n l ↔ (In n c.in_ok-asked.asked.items ⊎ (In n c.args.named.now
           × IsOneOf16 (MayIndexOneOf c.args.units.now b.deref.result.now) n.place)))
-          (ap (λ v. v.items) (sym b.asked-is))
-          (b.in_ok-add_chosen.ensures n)))
+          (ap (λ v. v.items) (sym b.asked-is)) (b.in_ok-add_chosen.ensures n)))
       | else-is_index_sought b ↦
           where_not w c.args.is_index_sought c.if-is_index_sought.asked.items n b.if-is_index_sought.false
           (subst (λ (l : List NamedPlace). In n l ↔ IsAskedByUnit w n.place n.source)
-          (ap (λ v. v.items) (sym b.asked-is))
-          (c.in_ok-asked.ensures n))
+          (ap (λ v. v.items) (sym b.asked-is)) (c.in_ok-asked.ensures n))
     ])

@@ -16,7 +16,6 @@ returns-clause-members c = λ n.
     )
 
 pub returns-clause-rising : goal.returns-clause-rising
-returns-clause-rising c =
-    IsNonDecreasingBy-from_sort (λ (n : NamedPlace). n.place) _
+returns-clause-rising c = IsNonDecreasingBy-from_sort (λ (n : NamedPlace). n.place) _
     (c.sort_unstable_by_key.ensures.sorted (λ (n : NamedPlace). n.place)
     (answers_always _ _ _ (λ f a r h k. search rules)))

@@ -21,7 +21,6 @@ returns c =
     let same : c.deref.result.now ≡ kept (starts_for c.args.units.now) =
     c.deref.ensures.value ∙ subst (λ r. IfOk r (λ v. v.items ≡ kept starts)) c.in_ok-places.was h
     ∙ ap kept c.in_ok-starts.ensures in
-    on_ok_weaker c.add_evenly.result (λ m n. or_same (m n)
-    (subst (λ (l : List NamedPlace). IsEvenly16 l n
+    on_ok_weaker c.add_evenly.result (λ m n. or_same (m n) (subst (λ (l : List NamedPlace). IsEvenly16 l n
     ↔ (In n named × IsOneOf16 (MayIndexOneOf c.args.units.now numbers) n.place)) (sym same)
     (chosen_says c.args.units.now numbers named c.requires.named n))) c.add_evenly.ensures

@@ -4,8 +4,7 @@ use Rattle.mxf_partial.proofs.ChosenLaws.{evenly_few, evenly_many, or_same}
 use Rattle.mxf_partial.proofs.between.add_evenly.Goals as goal
 
 pub returns-then-places-gt-MOST_CHOSEN : goal.returns-then-places-gt-MOST_CHOSEN
-returns-then-places-gt-MOST_CHOSEN c =
-    on_ok_weaker c.add_16.result
+returns-then-places-gt-MOST_CHOSEN c = on_ok_weaker c.add_16.result
     (λ m n. or_same (m n) (evenly_many c.args.places.now n c.if-places-gt-MOST_CHOSEN.true)) c.add_16.ensures
 
 pub returns : goal.returns

@@ -31,8 +31,7 @@ returns-clause-starts c =
     let units = c.args.units.now in
     let ss = segments_of c.views.result.now in
     given c ∙ ap (λ (l : List SegmentAtParts). map start_of (filter kept l)) c.segments_in_numbers.ensures.segments
-    ∙ ap (map start_of) (filter_mapped kept without_entries ss)
-    ∙ map-map start_of without_entries (filter kept ss)
+    ∙ ap (map start_of) (filter_mapped kept without_entries ss) ∙ map-map start_of without_entries (filter kept ss)
     ∙ ap (λ (n : ℕ). map start_of (filter (has_index n) ss)) c.index_sid-index_sid.ensures
     ∙ ap (λ (notes : List NoteParts). map start_of (segments_for notes units.index_sid))
     (c.views.ensures ∙ c.holdings.ensures)
@@ -43,7 +42,6 @@ returns-clause-rising c =
     let kept = has_index c.index_sid-index_sid.result in
     let key = λ (s : SegmentAtParts). s.offset in
     let key_of = λ (s : SegmentStart). s.offset in
-    subst (IsNonDecreasingBy key_of) (sym (given c))
-    (never_falls key_of (map start_of (filter kept lent))
+    subst (IsNonDecreasingBy key_of) (sym (given c)) (never_falls key_of (map start_of (filter kept lent))
     (rises-map key start_of key_of (filter kept lent) (λ s h. refl)
     (rises-filter key kept lent ((rise_by key lent).0 c.segments_in_numbers.ensures.rising))))

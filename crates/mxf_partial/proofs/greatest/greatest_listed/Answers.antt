@@ -4,8 +4,7 @@ use Rattle.mxf_partial.proofs.GreatestLaws.{reached_all, reached_more, reached_n
 use Rattle.mxf_partial.proofs.greatest.greatest_listed.Goals as goal
 
 pub loop-unit-init : goal.loop-unit-init
-loop-unit-init c =
-    reached_none c.args.segment.now c.requires c.unsigned_abs-start.result
+loop-unit-init c = reached_none c.args.segment.now c.requires c.unsigned_abs-start.result
     (c.unsigned_abs-start.ensures.value ∙ ap (λ m. unsigned_abs (to_z w64 (of_z w64 m.start))) c.numbers.ensures.numbers
     ∙ abs-kept c.args.segment.now.numbers.start c.numbers.ensures.typed.start)
 

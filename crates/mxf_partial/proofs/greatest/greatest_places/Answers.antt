@@ -34,7 +34,6 @@ loop-segment-preserved c =
     ∙ ap (λ (p : SegmentParts). p.numbers.index_sid) same ∙ e ∙ sym c.index_sid.ensures))
 
 pub returns : goal.returns
-returns c =
-    all_greatest c.args.units.now c.loop-segment.places.items c.sort_once.new.items.items
+returns c = all_greatest c.args.units.now c.loop-segment.places.items c.sort_once.new.items.items
     c.loop-segment.segment-iterator c.in-None.ensures.steps.0 c.loop-segment.invariant c.sort_once.ensures.members
     c.sort_once.ensures.rising

@@ -11,6 +11,5 @@ returns-clause-parted g c = λ r.
     let s = c.args.stream in
     let t = c.args.bound.from + c.args.bound.more in
     let point = IsPartitionPoint-from_clause (λ x. is_below (stream x) (offset x) s t) _ _
-    c.partition_point.ensures.partitioned (parted stream offset tie s t c.args.items.now r)
-    (λ a r q k. search rules) in
+    c.partition_point.ensures.partitioned (parted stream offset tie s t c.args.items.now r) (λ a r q k. search rules) in
     parted_at stream offset tie s t c.args.items.now c.partition_point.result point

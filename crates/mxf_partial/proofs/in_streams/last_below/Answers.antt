@@ -28,8 +28,7 @@ returns-in_default g c = λ r.
           other_before g.T.InStream.stream g.T.InStream.offset g.T.InStream.tie c.args.items.now c.args.stream t
           c.below-count.result r (c.below-count.ensures.parted r) w.in-Some.item.now some
           (slice_get_read c.args.items.now _ _ _ refl (ltb-true _ _ (sym w.in-Some.ensures.lookup.0))
-          w.in-Some.ensures.lookup.1)
-          (λ e. w.if-stream.false (w.stream.ensures ∙ e))
+          w.in-Some.ensures.lookup.1) (λ e. w.if-stream.false (w.stream.ensures ∙ e))
       | in_default-via-in_default w ↦
           let past = ltb-false _ _ (sym w.in_default.ensures.lookup.0) in
           let within = c.below-count.ensures.bound in absurd (omega (arith, past, within, some))

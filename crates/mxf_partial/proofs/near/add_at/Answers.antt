@@ -17,8 +17,7 @@ loop-index-preserved c =
           c.loop-index.asked.items c.loop-index.invariant l _ c.if-has.asked.items (c.has.ensures.0 w.if-has.true)
           (ap (λ v. v.items) w.asked-is ∙ w.in_ok-push.ensures.items
           ∙ ap (λ (n : NamedPlace). c.loop-index.asked.items ++ n ∷ []) w.named.ensures)
-      | else-has w ↦
-          found_skip c.args.items.now c.args.positions.now c.loop-index.index c.args.asked.now.items
+      | else-has w ↦ found_skip c.args.items.now c.args.positions.now c.loop-index.index c.args.asked.now.items
           c.loop-index.asked.items c.loop-index.invariant l c.if-has.asked.items
           (λ h. true_not_false c.has.result (c.has.ensures.1 h) w.if-has.false) (ap (λ v. v.items) w.asked-is)
     ]

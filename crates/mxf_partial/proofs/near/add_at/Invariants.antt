@@ -5,6 +5,5 @@ use Rattle.mxf_partial.proofs.NearLaws.{IsFoundBefore}
 use Rattle.mxf_partial.proofs.near.add_at.Given as goal
 
 abbrev pub invariant-loop-index : goal.invariant-loop-index
-invariant-loop-index l =
-    (n : NamedPlace) → In n l.asked.items
+invariant-loop-index l = (n : NamedPlace) → In n l.asked.items
     ↔ (In n l.initial.asked.items ⊎ IsFoundBefore l.items l.positions l.index n)

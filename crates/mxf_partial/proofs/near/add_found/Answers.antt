@@ -20,15 +20,13 @@ returns c = λ n.
         | inl o ↦ inl o
         | inr f ↦ elim f [
           | inl k ↦ inr k.1
-          | inr g ↦ absurd (true_not_false c.args.found.now.all
-              c.if-not-found.false g.0)
+          | inr g ↦ absurd (true_not_false c.args.found.now.all c.if-not-found.false g.0)
         ]
       ])),
     )
 
 pub returns-then-not-found : goal.returns-then-not-found
-returns-then-not-found c =
-    on_ok_weaker c.add_at.result
+returns-then-not-found c = on_ok_weaker c.add_at.result
     (λ f n. (
       λ h. elim ((f n).0 h) [ inl o ↦ inl o | inr g ↦ inr (inr (c.if-not-found.true, g)) ],
       λ h. (f n).1 (elim h [

@@ -28,7 +28,6 @@ returns c =
     c.add_found.new.asked.items end (c.loop-place.invariant c.requires are)
     (subst (λ (items : List PlaceOf). (n : NamedPlace) → In n c.add_found.new.asked.items
     ↔ (In n c.args.asked.now.items ⊎ (((asked.all ≡ true) × In n named) ⊎ ((asked.all ≡ false) × ((k : ℕ) × (p :
-    PlaceOf)
-    × (slice_get items k ≡ Some p) × LiesIn asked.positions k × (n ≡ named_of p))))))
+    PlaceOf) × (slice_get items k ≡ Some p) × LiesIn asked.positions k × (n ≡ named_of p))))))
     c.deref.ensures.value f))
     c.add_found.ensures

@@ -19,7 +19,6 @@ returns c =
     (λ x r q k. search rules)) in
     let a = on_ok c.extend.result c.in_ok-extend.field-0 first c.in_ok-extend.was in
     let b = on_ok c.extend-2.result c.in_ok-extend-2.field-0 second c.in_ok-extend-2.was in
-    b.0
-    ∙ ap (λ (l : List NamedPlace). l ++ map partition_place lent)
+    b.0 ∙ ap (λ (l : List NamedPlace). l ++ map partition_place lent)
     (a.0 ∙ ap (λ (l : List NamedPlace). l ++ named) c.new-places.ensures.items)
     ∙ ap (λ (l : List NamedPlace). named ++ l) same

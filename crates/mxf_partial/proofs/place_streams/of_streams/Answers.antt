@@ -7,8 +7,7 @@ pub loop-place-preserved : goal.loop-place-preserved
 loop-place-preserved c = λ notes are.
     let l : c.loop-place.place-index < length c.args.places.now = omega (arith, c.loop-place-test.true) in
     elim c.match-stream_of.branch [
-      | in-Some+in_ok-push w ↦
-          placed_push notes c.args.places.now c.loop-place.place-index c.loop-place.items.items _
+      | in-Some+in_ok-push w ↦ placed_push notes c.args.places.now c.loop-place.place-index c.loop-place.items.items _
           (c.loop-place.invariant notes are) l w.in-Some.body_sid c.match-stream_of.items.items
           (w.in-Some.ensures notes are) (ap (λ v. v.items) w.items-is ∙ w.in_ok-push.ensures.items)
       | in_default w ↦

@@ -12,6 +12,5 @@ loop-order-preserved c = λ x.
     (c.in_ok-add_order.ensures x)) (c.loop-order.invariant x)
 
 pub returns : goal.returns
-returns c = λ x.
-    no_order_more c.args.orders.now c.loop-order.order-index c.loop-order.ordered x c.loop-order-test.false
+returns c = λ x. no_order_more c.args.orders.now c.loop-order.order-index c.loop-order.ordered x c.loop-order-test.false
     (c.loop-order.invariant x)

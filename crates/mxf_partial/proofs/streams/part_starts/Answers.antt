@@ -4,8 +4,7 @@ use Rattle.mxf_partial.proofs.StreamLaws.{parts_differ, starts_are}
 use Rattle.mxf_partial.proofs.streams.part_starts.Goals as goal
 
 pub returns-in_err-starts-clause-differ : goal.returns-in_err-starts-clause-differ
-returns-in_err-starts-clause-differ c =
-    parts_differ c.args.units.now.known.notes
+returns-in_err-starts-clause-differ c = parts_differ c.args.units.now.known.notes
     (subst (λ (notes : List NoteParts). IsContent notes) (c.catalogue.ensures ∙ c.views.ensures ∙ c.holdings.ensures)
     c.laws.ensures.catalogue.content)
 
@@ -15,7 +14,6 @@ returns-clause-starts c =
     (c.in_ok-starts.ensures ∙ ap (map start_of) c.parts.ensures) c.sort_once.ensures.members c.sort_once.ensures.rising
 
 pub returns-clause-differ : goal.returns-clause-differ
-returns-clause-differ c =
-    parts_differ c.args.units.now.known.notes
+returns-clause-differ c = parts_differ c.args.units.now.known.notes
     (subst (λ (notes : List NoteParts). IsContent notes) (c.catalogue.ensures ∙ c.views.ensures ∙ c.holdings.ensures)
     c.laws.ensures.catalogue.content)

@@ -6,8 +6,7 @@ returns-then-not-has_place c = λ u are order n. (
   λ i. inl i,
   λ h. elim h [
     | inl k ↦ k
-    | inr k ↦
-        absurd (let t = (c.has_place.ensures u are order).1 k.0 in let f = c.if-not-has_place.true in cc (t, f))
+    | inr k ↦ absurd (let t = (c.has_place.ensures u are order).1 k.0 in let f = c.if-not-has_place.true in cc (t, f))
   ],
 )
 

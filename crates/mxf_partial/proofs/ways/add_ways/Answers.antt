@@ -36,7 +36,6 @@ returns c =
     (subst (λ (notes : List NoteParts). IsContent notes) (c.catalogue.ensures ∙ c.views.ensures ∙ c.holdings.ensures)
     c.laws.ensures.catalogue.content) c.holdings-2.ensures c.parts.ensures
     (λ p. subst (λ (l : List StreamPlace). In p l ↔ In p c.args.places.now) (sym c.deref.ensures.value)
-    (c.in_ok-places.ensures.members p))
-    (c.add_ways_of.ensures c.args.units.now c.in_ok-streams.ensures
+    (c.in_ok-places.ensures.members p)) (c.add_ways_of.ensures c.args.units.now c.in_ok-streams.ensures
     (subst (λ (l : List StreamPlace). IsInOrder (λ p. p.body_sid) (λ p. p.offset) (λ p. 0) l)
     (sym c.deref.ensures.value) c.in_ok-places.ensures.order))

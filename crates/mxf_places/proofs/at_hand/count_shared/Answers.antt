@@ -5,8 +5,7 @@ use Rattle.mxf_places.proofs.CountLaws.{passing, passing-most, passing_counted}
 use Rattle.mxf_places.proofs.at_hand.count_shared.Goals as goal
 
 pub overflow_add-count : goal.overflow_add-count
-overflow_add-count c =
-    grind (arith, has_offset, passing, passing-most, max, count_by, range_with_len)
+overflow_add-count c = grind (arith, has_offset, passing, passing-most, max, count_by, range_with_len)
 
 pub returns : goal.returns
 returns c = grind (arith, has_offset, passing, passing_counted, count_by, range_with_len)

@@ -5,8 +5,7 @@ use Rattle.mxf_places.proofs.HeldLaws.{disputed_runs}
 use Rattle.mxf_places.proofs.held.disputed_in.Goals as goal
 
 pub loop-disputed-init : goal.loop-disputed-init
-loop-disputed-init c =
-    (λ i. union_of_runs (c.new-cover.ensures i) (map covered_run (map (λ d. d.note)
+loop-disputed-init c = (λ i. union_of_runs (c.new-cover.ensures i) (map covered_run (map (λ d. d.note)
     ((c.into_iter-disputed-iterator.ensures.into_iter_gives ∙ c.disputed-disputed-items.ensures.notes) i))))
 
 pub loop-disputed-preserved : goal.loop-disputed-preserved

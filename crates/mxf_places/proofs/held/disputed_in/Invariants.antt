@@ -3,6 +3,5 @@ use Rattle.mxf_views.proofs.Common.{◌≡◌, [], map, union_of_runs, disputed_
 use Rattle.mxf_places.proofs.held.disputed_in.Given as goal
 
 abbrev pub invariant-loop-disputed : goal.invariant-loop-disputed
-invariant-loop-disputed l =
-    union_of_runs l.cover (map covered_run (map (λ d. d.note) l.disputed-iterator))
+invariant-loop-disputed l = union_of_runs l.cover (map covered_run (map (λ d. d.note) l.disputed-iterator))
     ≡ union_of_runs [] (map covered_run (map (λ d. d.note) (disputed_notes l.catalogue)))

@@ -31,7 +31,5 @@ returns-clause-absorbs c =
     c.in_ok-merge_notes.ensures.merged
 
 pub returns-clause-history : goal.returns-clause-history
-returns-clause-history c h =
-    content_with h c.args.views.now c.merge_notes.new.views c.args.offset c.args.bytes.now
-    c.note_packets-absorbed.result
-    (returns-clause-absorbs c)
+returns-clause-history c h = content_with h c.args.views.now c.merge_notes.new.views c.args.offset c.args.bytes.now
+    c.note_packets-absorbed.result (returns-clause-absorbs c)

@@ -28,7 +28,5 @@ returns-in_err-merge_notes-clause-history g c h =
     (returns-in_err-merge_notes-clause-taken g c)
 
 pub returns-clause-history : goal.returns-clause-history
-returns-clause-history g c h =
-    content_from h c.args.views.now c.merge_notes.new.views _ _ c.args.offset c.args.limit
-    c.notes_from-notes.result.outcome
-    (returns-clause-taken g c)
+returns-clause-history g c h = content_from h c.args.views.now c.merge_notes.new.views _ _ c.args.offset c.args.limit
+    c.notes_from-notes.result.outcome (returns-clause-taken g c)

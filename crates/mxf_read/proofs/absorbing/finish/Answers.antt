@@ -7,6 +7,5 @@ returns-in-Ok c = λ o m fed.
     (c.in-Ok.ensures.added o m fed)
 
 pub returns-in-Err : goal.returns-in-Err
-returns-in-Err c = λ o m fed.
-    unfinished o m c.args.piece.now c.add_head.new.self c.report-report.result c.at.result fed
+returns-in-Err c = λ o m fed. unfinished o m c.args.piece.now c.add_head.new.self c.report-report.result c.at.result fed
     (c.report-report.ensures o m fed) c.in-Err.ensures.err c.at.ensures

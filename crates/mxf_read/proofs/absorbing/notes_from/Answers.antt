@@ -4,8 +4,7 @@ use Rattle.mxf_read.proofs.Reports.{of_stream}
 use Rattle.mxf_read.proofs.absorbing.notes_from.Goals as goal
 
 pub returns-clause-taken : goal.returns-clause-taken
-returns-clause-taken g c =
-    subst (λ notes. AbsorbsFrom [] notes (g.R.Read.remaining c.args.from.now)
+returns-clause-taken g c = subst (λ notes. AbsorbsFrom [] notes (g.R.Read.remaining c.args.from.now)
     (g.R.Read.remaining c.fill-outcome.new.from)
     c.args.offset c.args.limit c.fill-outcome.result) (sym c.into_notes.ensures)
     (c.fill-outcome.ensures.taken c.args.offset c.new-piece.ensures)

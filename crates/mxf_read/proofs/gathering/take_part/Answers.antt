@@ -22,8 +22,7 @@ returns-in_ok-push-in-Range-clause-taken g c =
     let left = g.R.Read.remaining in
     subst (λ (p : Part _). Tells left p
     → TakesPart left c.args.number p c.args.levels.now c.add-in-Range.new.self c.args.reports.now
-    c.push-in-Range.new.self)
-    (sym c.in-Range.is)
+    c.push-in-Range.new.self) (sym c.in-Range.is)
     (range_taken left c.args.number c.in-Range.offset c.in-Range.from c.args.levels.now c.add-in-Range.new.self
     c.in_ok-notes-in-Range.notes c.in_ok-notes-in-Range.report c.args.reports.now c.push-in-Range.new.self
     c.in_ok-notes-in-Range.ensures.notes c.in_ok-notes-in-Range.ensures.report c.in_ok-add-in-Range.ensures

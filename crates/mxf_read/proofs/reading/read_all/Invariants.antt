@@ -4,8 +4,7 @@ use Rattle.mxf_read.specs.Feeding.{Feeds}
 use Rattle.mxf_read.proofs.reading.read_all.Given as goal
 
 abbrev pub invariant-reads : goal.invariant-reads
-invariant-reads g l =
-    (taken : List ℕ) × (length taken + l.left ≡ l.initial.left)
+invariant-reads g l = (taken : List ℕ) × (length taken + l.left ≡ l.initial.left)
     × Consumes (g.R.Read.remaining l.initial.from) (g.R.Read.remaining l.from) taken
     × Feeds l.initial.piece l.piece taken × (l.interruptions ≤ 1024) × (l.initial.ticks.count ≤ l.ticks.count)
     × (l.ticks.count + l.left + (1024 - l.interruptions) ≤ l.initial.ticks.count + l.initial.left + 1024)

@@ -4,6 +4,5 @@ use Rattle.mxf_readings.specs.Holdings.{holding}
 use Rattle.mxf_readings.proofs.holding.add_notes.Given as goal
 
 abbrev pub invariant-loop-note : goal.invariant-loop-note
-invariant-loop-note l =
-    l.holdings.items ++ map (holding l.source) l.note-iterator
+invariant-loop-note l = l.holdings.items ++ map (holding l.source) l.note-iterator
     ≡ l.initial.holdings.items ++ map (holding l.source) l.content

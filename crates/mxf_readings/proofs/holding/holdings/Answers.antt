@@ -6,5 +6,4 @@ pub sort_once-requires : goal.sort_once-requires
 sort_once-requires c = holding_cmp-IsAntisymmetric
 
 pub returns : goal.returns
-returns c =
-    sorted_holdings _ _ _ c.in_ok-holdings.ensures c.sort_once.ensures.members c.sort_once.ensures.rising
+returns c = sorted_holdings _ _ _ c.in_ok-holdings.ensures c.sort_once.ensures.members c.sort_once.ensures.rising

@@ -9,8 +9,7 @@ returns t c =
     let back = c.split_at.result.1.now in
     let k = length contents / 2 in
     let halves = ap (λ (l : List (List NoteParts)). l ++ back) c.split_at.ensures.front
-    ∙ ap (λ (l : List (List NoteParts)). take k contents ++ l) c.split_at.ensures.back
-    ∙ take-append-drop k contents in
+    ∙ ap (λ (l : List (List NoteParts)). take k contents ++ l) c.split_at.ensures.back ∙ take-append-drop k contents in
     let joined = halves_joined contents front back c.in-Some.others.now c.in-Some.first.now c.in_ok-front.front
     c.in_ok-back.back c.in-Some.ensures.cases.0 c.laws.ensures.catalogue.content c.laws.ensures.reduced halves
     c.in_ok-front.ensures c.in_ok-back.ensures c.merged.ensures.content c.merged.ensures.reduced in

@@ -5,6 +5,5 @@ use Rattle.mxf_readings.specs.Readings.{is_held}
 use Rattle.mxf_readings.proofs.readings.sources_alone.Given as goal
 
 abbrev pub invariant-loop-at : goal.invariant-loop-at
-invariant-loop-at l =
-    l.sources.items ++ map (λ h. h.source)
+invariant-loop-at l = l.sources.items ++ map (λ h. h.source)
     (filter (λ h. is_only l.holdings h && is_held h.note l.all) (drop l.at l.holdings)) ≡ sources_alone l.all l.holdings

@@ -32,8 +32,7 @@ loop-disputed_place-preserved c =
     ∙ ap (λ l. first ++ l) (sym step ∙ ap (λ l. unseen seen (first_by_place l)) (sym whole))
     ∙ c.loop-disputed_place.invariant in
     elim c.if-branch.branch [
-      | then-branch+in_ok-push w ↦
-          ap (λ v. v.items ++ rest) w.first-is ∙ ap (λ l. l ++ rest) w.in_ok-push.ensures.items
+      | then-branch+in_ok-push w ↦ ap (λ v. v.items ++ rest) w.first-is ∙ ap (λ l. l ++ rest) w.in_ok-push.ensures.items
           ∙ append_assoc first (d ∷ []) rest ∙ told true w.if-branch.true
       | else-branch w ↦ ap (λ v. v.items ++ rest) w.first-is ∙ told false w.if-branch.false
     ]

@@ -18,8 +18,7 @@ returns-clause-members c =
     let told = subst (λ l. AreFirst l entries)
     (c.in_ok-places.ensures ∙ ap (filter_map (named_place_of notes)) c.requires) c.in_ok-sources.ensures in
     IfOk-weaker c.places_in.result (λ v. v.items ≡ places_of entries)
-    (λ v. (n : NamedPlace) → (In n v.items → IsNamedPlace notes n) × (IsNamedPlace notes n → In n v.items))
-    (λ v e n.
+    (λ v. (n : NamedPlace) → (In n v.items → IsNamedPlace notes n) × (IsNamedPlace notes n → In n v.items)) (λ v e n.
     let say = places_say entries n c.places_in.ensures.rising in
     let is = named_is notes entries n told in (
       λ h. is.0 (say.0 (subst (In n) e h)),

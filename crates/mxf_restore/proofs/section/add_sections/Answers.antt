@@ -18,7 +18,6 @@ loop-cut-preserved c =
 pub returns : goal.returns
 returns c =
     let so_far = c.loop-cut.sections.items in
-    c.in_ok-push-2.ensures.items
-    ∙ ap (λ (l : List Section). so_far ++ l)
+    c.in_ok-push-2.ensures.items ∙ ap (λ (l : List Section). so_far ++ l)
     (sym (at_drop_all (sections_from c.args.hole c.loop-cut.first) c.args.cuts.now c.loop-cut.cut-index
     c.loop-cut-test.false)) ∙ c.loop-cut.invariant

@@ -10,7 +10,6 @@ loop-hole-preserved c =
     let none : OffsetRange = record { start = 0; end = None } in
     let hole = get_or c.args.holes.now c.loop-hole.hole-index none in
     appended-step (sections_in c.args.cuts.now) c.args.holes.now c.loop-hole.hole-index none so_far _ _
-    c.loop-hole-test.true
-    (c.in_ok-add_sections.ensures ∙ ap
+    c.loop-hole-test.true (c.in_ok-add_sections.ensures ∙ ap
     (λ (cuts : List ℕ). so_far ++ sections_from hole hole.start cuts) c.cuts_in.ensures)
     c.loop-hole.invariant

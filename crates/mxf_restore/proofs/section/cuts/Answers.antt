@@ -7,6 +7,5 @@ pub returns-clause-cuts : goal.returns-clause-cuts
 unfolding cuts_of
 returns-clause-cuts c =
     let notes = c.args.holdings.now in
-    c.sort_once.ensures.members
-    ∙ ap (union nat_cmp []) (c.in_ok-cuts.ensures ∙ sym (free_left notes c.args.claims.now)
+    c.sort_once.ensures.members ∙ ap (union nat_cmp []) (c.in_ok-cuts.ensures ∙ sym (free_left notes c.args.claims.now)
     ∙ ap (free_cuts_among notes) c.requires)

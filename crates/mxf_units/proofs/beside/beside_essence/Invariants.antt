@@ -4,6 +4,5 @@ use Rattle.mxf_units.proofs.BesideLaws.{cant_be}
 use Rattle.mxf_units.proofs.beside.beside_essence.Given as goal
 
 abbrev pub invariant-loop-note : goal.invariant-loop-note
-invariant-loop-note l =
-    union_of_runs l.cover (map covered_run (filter cant_be l.note-iterator))
+invariant-loop-note l = union_of_runs l.cover (map covered_run (filter cant_be l.note-iterator))
     ≡ union_of_runs [] (map covered_run (filter cant_be (undisputed_notes l.holdings)))

@@ -8,11 +8,9 @@ by_numbers None = refl
 by_numbers (Some p) = refl
 
 pub returns-in_err-partition : goal.returns-in_err-partition
-returns-in_err-partition c =
-    c.from_residual.ensures
+returns-in_err-partition c = c.from_residual.ensures
     ∙ ap (λ (o : Option PartitionParts). option_map previous_of o) c.in_err-partition.ensures ∙ by_numbers _
 
 pub returns : goal.returns
-returns c =
-    ap (λ (p : PartitionParts). Some (previous_of p)) c.partition.view_is
+returns c = ap (λ (p : PartitionParts). Some (previous_of p)) c.partition.view_is
     ∙ ap (λ (o : Option PartitionParts). option_map previous_of o) c.in_ok-partition.ensures ∙ by_numbers _

@@ -19,5 +19,4 @@ returns c =
     let some : 0 < count = omega (arith, c.if-count-eq0.false) in
     let small = small_number s.numbers.start n.segment.start n.typed.start in
     let last = c.min.ensures ∙ ap (λ (at : ℕ). min (at + (count - 1)) greatest_unit) start in
-    subst (IsLastWith (GivesPlace s)) (sym last)
-    (last-of s count c.placed_count-count.ensures.units some small)
+    subst (IsLastWith (GivesPlace s)) (sym last) (last-of s count c.placed_count-count.ensures.units some small)

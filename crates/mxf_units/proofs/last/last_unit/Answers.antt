@@ -51,6 +51,5 @@ loop-segment-preserved c =
     ∙ ap (λ (p : SegmentParts). p.numbers.index_sid) same ∙ e))
 
 pub returns : goal.returns
-returns c =
-    all-passed c.args.views.now c.args.index_sid _ c.loop-segment.last c.in-None.ensures.steps.0
+returns c = all-passed c.args.views.now c.args.index_sid _ c.loop-segment.last c.in-None.ensures.steps.0
     c.loop-segment.invariant

@@ -12,6 +12,5 @@ returns-clause-next c =
     let offset = c.args.place.offset in
     c.offset_above.ensures.offset
     ∙ ap (option_and_then (λ (u : ConstantUnits). option_and_then (offset_above body offset) (place_above offset u)))
-    c.in_ok-first.ensures.value
-    ∙ first-found body offset c.requires.small c.args.above.now
+    c.in_ok-first.ensures.value ∙ first-found body offset c.requires.small c.args.above.now
     ∙ first-is body offset c.requires.small c.args.above.now c.requires.sized c.requires.behind c.requires.rising

@@ -5,9 +5,7 @@ use Rattle.mxf_units.proofs.segments.add_listed.Given as goal
 
 abbrev pub invariant-loop-unit : goal.invariant-loop-unit
 invariant-loop-unit l = record {
-  places : l.places.items
-      ++ filter_map (λ unit. place_in unit l.segment) (range_with_len l.unit (l.end - l.unit))
-      ≡ l.fn.places.items
-      ++ filter_map (λ unit. place_in unit l.segment) (range_with_len l.start (l.end - l.start));
+  places : l.places.items ++ filter_map (λ unit. place_in unit l.segment) (range_with_len l.unit (l.end - l.unit))
+      ≡ l.fn.places.items ++ filter_map (λ unit. place_in unit l.segment) (range_with_len l.start (l.end - l.start));
   small : AllByRecursion IsSmall l.places.items;
 }

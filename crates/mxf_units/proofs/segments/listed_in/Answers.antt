@@ -7,8 +7,7 @@ pub loop-segment-preserved : goal.loop-segment-preserved
 loop-segment-preserved c =
     let so_far = c.loop-segment.places.items in record {
       places = appended-step listed_in c.args.segments.now c.loop-segment.segment-index c.segment-item.result so_far
-          _ _ c.loop-segment-test.true
-          (c.in_ok-add_listed.ensures.places
+          _ _ c.loop-segment-test.true (c.in_ok-add_listed.ensures.places
           ∙ ap (λ (s : SegmentAtParts). so_far ++ listed_in s) c.segment-item.is)
           c.loop-segment.invariant.places;
       small = c.in_ok-add_listed.ensures.small;

@@ -10,6 +10,5 @@ returns-in_err-of c =
     ∙ sym (sized_units 0 c.args.segment.now)
 
 pub returns : goal.returns
-returns c =
-    c.place_above.ensures.place ∙ ap (option_and_then (place_above 0)) (sym c.in_ok-of.was ∙ c.of.ensures.units)
+returns c = c.place_above.ensures.place ∙ ap (option_and_then (place_above 0)) (sym c.in_ok-of.was ∙ c.of.ensures.units)
     ∙ sym (sized_units 0 c.args.segment.now)

@@ -11,8 +11,7 @@ returns-in_err-first c =
     let point = IsPartitionPoint-from_clause (is_up_to c.args.body_sid c.args.offset) _ _
     c.partition_point-passed.ensures.partitioned (parted c.args.body_sid c.args.offset c.args.places.now c.requires)
     (λ a r q k. search rules) in
-    c.from_residual.ensures
-    ∙ ap (λ (o : Option StreamPlace). option_and_then (offset_in c.args.body_sid) o)
+    c.from_residual.ensures ∙ ap (λ (o : Option StreamPlace). option_and_then (offset_in c.args.body_sid) o)
     (c.in_err-first.ensures.value ∙ ap (λ (xs : List StreamPlace). slice_get xs 0) c.split_at.ensures.back)
     ∙ first-found c.args.body_sid c.args.offset c.args.places.now c.partition_point-passed.result
     c.partition_point-passed.ensures.bound c.requires point.0 point.1
@@ -22,8 +21,7 @@ returns c =
     let point = IsPartitionPoint-from_clause (is_up_to c.args.body_sid c.args.offset) _ _
     c.partition_point-passed.ensures.partitioned (parted c.args.body_sid c.args.offset c.args.places.now c.requires)
     (λ a r q k. search rules) in
-    c.offset_in.ensures
-    ∙ ap (λ (o : Option StreamPlace). option_and_then (offset_in c.args.body_sid) o)
+    c.offset_in.ensures ∙ ap (λ (o : Option StreamPlace). option_and_then (offset_in c.args.body_sid) o)
     (c.in_ok-first.ensures.value ∙ ap (λ (xs : List StreamPlace). slice_get xs 0) c.split_at.ensures.back)
     ∙ first-found c.args.body_sid c.args.offset c.args.places.now c.partition_point-passed.result
     c.partition_point-passed.ensures.bound c.requires point.0 point.1

@@ -26,6 +26,5 @@ joined known held hand (Err e) are same is = tt
 pub returns : goal.returns
 returns c =
     joined (record { notes = c.args.holdings.now; at = c.args.at_hand.now }) c.spans-held.result.now c.hand.result.now
-    c.join.result
-    (subst (λ (notes : List NoteParts). (x : ℕ) → LiesIn c.spans-held.result.now x ↔ IsHeld notes x)
+    c.join.result (subst (λ (notes : List NoteParts). (x : ℕ) → LiesIn c.spans-held.result.now x ↔ IsHeld notes x)
     (c.catalogue.ensures ∙ c.views.ensures) c.spans-held.ensures.spans) c.hand.ensures.hand c.join.ensures

@@ -8,8 +8,7 @@ use Rattle.mxf_verify.proofs.ComparedLaws.{compares_bytes, part_apart, part_rise
 use Rattle.mxf_verify.proofs.compared.compare_bytes.Goals as goal
 
 pub of-reading-requires-clause-rising : goal.of-reading-requires-clause-rising
-of-reading-requires-clause-rising g c =
-    subst (IsNonDecreasingBy offset_of) (sym c.in_ok-candidates.ensures.items)
+of-reading-requires-clause-rising g c = subst (IsNonDecreasingBy offset_of) (sym c.in_ok-candidates.ensures.items)
     (part_rises c.args.all.now c.below-first.result (c.max-last.result - c.below-first.result) c.requires.rising)
 
 pub read_all-requires-clause-ahead : goal.read_all-requires-clause-ahead

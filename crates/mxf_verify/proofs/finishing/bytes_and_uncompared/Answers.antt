@@ -16,8 +16,7 @@ pub returns-clause-rising : goal.returns-clause-rising
 returns-clause-rising c = subst IsContent (sym c.in_ok-uncompared.ensures.damaged) c.in_ok-damaged.ensures.rising
 
 pub returns-clause-members : goal.returns-clause-members
-returns-clause-members c = λ n.
-    subst (λ l. In n l ↔ In n (map (λ (d : Differing). d.note.now) c.args.differing.now))
+returns-clause-members c = λ n. subst (λ l. In n l ↔ In n (map (λ (d : Differing). d.note.now) c.args.differing.now))
     (sym c.in_ok-uncompared.ensures.damaged) (c.in_ok-damaged.ensures.members n)
 
 pub returns-clause-bytes : goal.returns-clause-bytes

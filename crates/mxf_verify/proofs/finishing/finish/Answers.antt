@@ -7,8 +7,7 @@ pub bytes_and_uncompared-requires-clause-ranges : goal.bytes_and_uncompared-requ
 bytes_and_uncompared-requires-clause-ranges c = all_from_In _ c.args.seen.ranges.items c.args.seen.ranges_within
 
 pub bytes_and_uncompared-requires-clause-beside : goal.bytes_and_uncompared-requires-clause-beside
-bytes_and_uncompared-requires-clause-beside c =
-    subst (AllByRecursion _) (sym c.deref-2.ensures.value)
+bytes_and_uncompared-requires-clause-beside c = subst (AllByRecursion _) (sym c.deref-2.ensures.value)
     (all_from_In _ c.args.seen.beside.items c.args.seen.beside_within)
 
 pub returns : goal.returns
@@ -18,6 +17,5 @@ returns c = λ sources is.
     verification_of c.args.catalogue.now sources c.args.seen is uncompared c.in_ok-bytes.bytes _ _ c.told.ensures
     (said.verified ∙ c.into_ordered-verified.ensures) said.rising
     (λ n. subst (λ l. In n uncompared.damaged ↔ In n (map (λ (d : Differing). d.note.now) l)) c.deref.ensures.value
-    (said.members n))
-    (said.headed ∙ c.into_ordered-headed.ensures) said.read said.reach c.in_ok-cut.ensures
+    (said.members n)) (said.headed ∙ c.into_ordered-headed.ensures) said.read said.reach c.in_ok-cut.ensures
     (bytes_same c.args.catalogue.now _ _ _ _ _ _ _ _ c.in_ok-bytes.bytes refl refl refl c.deref-2.ensures.value said.bytes)

@@ -10,6 +10,5 @@ loop-member-preserved c =
     c.offset.ensures.offset c.covered_end.ensures.covered c.in_ok-add.ensures.added c.loop-member.invariant
 
 pub returns : goal.returns
-returns c =
-    subst (λ l. (at : ℕ) → LiesIn c.loop-member.bytes at ↔ IsHeldBy l at)
+returns c = subst (λ l. (at : ℕ) → LiesIn c.loop-member.bytes at ↔ IsHeldBy l at)
     (take_all c.loop-member.member-index c.args.members.now c.loop-member-test.false) c.loop-member.invariant

@@ -11,8 +11,7 @@ cover_of_each-requires c =
     c.sort_unstable_by_key.ensures.permutation c.requires)
 
 pub returns : goal.returns
-returns c =
-    IfOk-weaker c.cover_of_each.result (λ (cover : List Run). SameOffsets cover c.deref.result.now)
+returns c = IfOk-weaker c.cover_of_each.result (λ (cover : List Run). SameOffsets cover c.deref.result.now)
     (λ (cover : List Run). SameOffsets cover c.args.runs.items)
     (λ cover same. offsets_permuted c.args.runs.items c.sort_unstable_by_key.new.self.items cover
     c.sort_unstable_by_key.ensures.permutation

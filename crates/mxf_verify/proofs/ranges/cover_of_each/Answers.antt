@@ -22,6 +22,5 @@ loop-run-preserved c =
     ]
 
 pub returns : goal.returns
-returns c =
-    subst (λ (l : List Run). SameOffsets c.loop-run.cover l)
+returns c = subst (λ (l : List Run). SameOffsets c.loop-run.cover l)
     (take_all c.loop-run.run-index c.args.runs.now c.loop-run-test.false) c.loop-run.invariant

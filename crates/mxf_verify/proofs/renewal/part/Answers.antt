@@ -68,21 +68,16 @@ loop-note-preserved c =
     let more_had = c.in_ok-put.ensures.had_essence
     ∙ ap (λ (l : List NoteParts). had.had_essence + length (had_essence (n ∷ []) l)) c.in_ok-opposing.ensures in
     record {
-      added =
-          ap (λ l. reduced_union l (added_of rest new))
+      added = ap (λ l. reduced_union l (added_of rest new))
           (c.in_ok-put.ensures.added ∙ ap (λ l. reduced_union had.added (added_of (n ∷ []) l)) c.in_ok-opposing.ensures)
-          ∙ union-step _ n had.added (added_of rest new)
-          ∙ sym (ap (λ l. reduced_union had.added (added_of l new)) step)
+          ∙ union-step _ n had.added (added_of rest new) ∙ sym (ap (λ l. reduced_union had.added (added_of l new)) step)
           ∙ c.loop-note.invariant.added;
-      dropped =
-          ap (λ l. l ++ dropped_of rest new)
+      dropped = ap (λ l. l ++ dropped_of rest new)
           (c.in_ok-put.ensures.dropped ∙ ap (λ l. had.dropped ++ dropped_of (n ∷ []) l) c.in_ok-opposing.ensures)
           ∙ append_assoc had.dropped (dropped_of (n ∷ []) new) (dropped_of rest new)
           ∙ ap (λ l. had.dropped ++ l) (cond-step _ n (dropped_of rest new))
-          ∙ sym (ap (λ l. had.dropped ++ dropped_of l new) step)
-          ∙ c.loop-note.invariant.dropped;
-      dropped_essence =
-          omega (arith, more, counted, dropped-step n rest new, c.loop-note.invariant.dropped_essence);
+          ∙ sym (ap (λ l. had.dropped ++ dropped_of l new) step) ∙ c.loop-note.invariant.dropped;
+      dropped_essence = omega (arith, more, counted, dropped-step n rest new, c.loop-note.invariant.dropped_essence);
       had_essence = omega (arith, more_had, counted_had, had-step n rest new, c.loop-note.invariant.had_essence);
       dropped_bound = omega (arith, many, more, dropped-one n new, c.loop-note.invariant.dropped_bound);
       had_bound = omega (arith, many, more_had, had-one n new, c.loop-note.invariant.had_bound);

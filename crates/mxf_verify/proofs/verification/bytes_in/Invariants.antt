@@ -4,5 +4,4 @@ use Rattle.mxf_places.specs.Held.{bytes_of}
 use Rattle.mxf_verify.proofs.verification.bytes_in.Given as goal
 
 abbrev pub invariant-loop-run : goal.invariant-loop-run
-invariant-loop-run l =
-    (l.bytes + bytes_of l.run-iterator ≡ bytes_of l.cover) × AllByRecursion IsRun l.run-iterator
+invariant-loop-run l = (l.bytes + bytes_of l.run-iterator ≡ bytes_of l.cover) × AllByRecursion IsRun l.run-iterator

@@ -6,8 +6,7 @@ use Rattle.mxf_verify.proofs.UnitRunLaws.{AreUnitsSoFar}
 use Rattle.mxf_verify.proofs.verified_units.gathered.Given as goal
 
 abbrev pub invariant-loop-number : goal.invariant-loop-number
-invariant-loop-number l =
-    AreUnitsSoFar
+invariant-loop-number l = AreUnitsSoFar
     (λ unit fixity. IsFixityOf l.verified l.altered (unit_of l.units.known l.units.index_sid unit) fixity)
     l.from l.to l.number l.runs.items l.last
     × (l.places.items ++ filter_map (λ unit. place_of (unit_of l.units.known l.units.index_sid unit))

@@ -17,7 +17,6 @@ pub returns-else-extent-end : goal.returns-else-extent-end
 returns-else-extent-end c =
     let behind = c.if-extent-end.false in (
       λ h. let ahead = ltb-true c.args.extent.start c.from-end.result h in absurd (omega (arith, behind, ahead)),
-      λ m.
-          absurd (not_met_behind c.args.cover.now c.args.extent c.end.result c.end.ensures
+      λ m. absurd (not_met_behind c.args.cover.now c.args.extent c.end.result c.end.ensures
           (omega (arith, behind, c.from-end.ensures)) m),
     )

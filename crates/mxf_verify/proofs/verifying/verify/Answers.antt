@@ -11,8 +11,7 @@ parts-init g c =
     record {
       passed = subst (IsPassed all 0) (sym is) (passed_none all);
       seen = λ t. subst (λ (l : List _). HasSeen g.R.Read.remaining c.args.reference.now all 0 l c.in_ok-seen.seen)
-          (sym is)
-          (seen_nothing g.R.Read.remaining c.args.reference.now all c.in_ok-seen.seen c.in_ok-seen.ensures);
+          (sym is) (seen_nothing g.R.Read.remaining c.args.reference.now all c.in_ok-seen.seen c.in_ok-seen.ensures);
     }
 
 pub overflow_add-source : goal.overflow_add-source

@@ -5,6 +5,5 @@ use Rattle.mxf_views.proofs.chain.links_by_definition.Goals as goal
 pub returns : goal.returns
 returns c = record {
   link = link_iff;
-  there = λ notes offset l r. link_at_iff (partitions_of notes) offset l
-      (partitions_rise notes r);
+  there = λ notes offset l r. link_at_iff (partitions_of notes) offset l (partitions_rise notes r);
 }

@@ -23,8 +23,7 @@ invariant_of-self-2 c =
     ∙ (λ i. with_run (run (c.offset.ensures.offset i) (c.covered_end-end.ensures.covered i)) old) in
     record {
       kept = c.append.ensures.kept;
-      covers = subst (λ r. Covers r new) (sym runs)
-          (covers_with n cs ds new old c.self.invariant.kept.reduced
+      covers = subst (λ r. Covers r new) (sym runs) (covers_with n cs ds new old c.self.invariant.kept.reduced
           (above_new n (union_of cs ds) (λ m h. c.requires.above m (subst (λ
           (l : List NoteParts). In m l) c.self.view_is h)))
           c.self.invariant.covers all);

@@ -24,8 +24,7 @@ in_part cs ds notes n p v h =
 
 clear_there : (cs ds notes : List NoteParts) (n : NoteParts) → AreNoteLists cs ds → union_of cs ds ≡ notes → In n cs
     → n.whole ≡ true → IsClear n notes
-clear_there cs ds notes n p v h e =
-    (In-clear_notes n notes).0 (subst (In n) (clear_part cs ds p ∙ ap clear_notes v)
+clear_there cs ds notes n p v h e = (In-clear_notes n notes).0 (subst (In n) (clear_part cs ds p ∙ ap clear_notes v)
     ((In-filter (λ m. m.whole) cs n).1 (h, e)))
 
 -- where a head of the first part stands, no clear note does
@@ -44,8 +43,7 @@ head_alone cs ds notes m offset p v h at head n clear e =
 -- where no note of the first part stands, no clear note does
 none_there : (cs ds notes some : List NoteParts) (offset : ℕ) → AreNoteLists cs ds → union_of cs ds ≡ notes → some ≡ cs
     → ((n : NoteParts) → In n some → n.offset ≢ offset) → (n : NoteParts) → IsClear n notes → n.offset ≢ offset
-none_there cs ds notes some offset p v same none n h =
-    none n (subst (In n) (sym same) (in_part cs ds notes n p v h))
+none_there cs ds notes some offset p v same none n h = none n (subst (In n) (sym same) (in_part cs ds notes n p v h))
 
 pub returns-in_err-note-clause-none : goal.returns-in_err-note-clause-none
 returns-in_err-note-clause-none c =
@@ -78,8 +76,7 @@ returns-else-is_head-clause-found c =
     let lists = c.self.inside.lists in
     let m = c.in_ok-note.note.now in (
       clear_there lists.undisputed.items lists.disputed.items c.args.self.now m c.self.invariant.kept.parts
-          c.self.view_is
-          (subst (In m) c.deref.ensures.value c.in_ok-note.ensures.found.0)
+          c.self.view_is (subst (In m) c.deref.ensures.value c.in_ok-note.ensures.found.0)
           (is_whole m.whole (sym c.is_head.ensures ∙ c.if-is_head.false)),
       c.in_ok-note.ensures.found.1,
     )

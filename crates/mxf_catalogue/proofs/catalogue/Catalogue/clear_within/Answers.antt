@@ -24,8 +24,7 @@ returns-clause-notes c =
 pub returns-clause-catalogue : goal.returns-clause-catalogue
 returns-clause-catalogue c =
     let lists = c.self.inside.lists in
-    subst IsCatalogue c.self.view_is
-    (union_is lists.undisputed.items lists.disputed.items c.self.invariant.kept.parts)
+    subst IsCatalogue c.self.view_is (union_is lists.undisputed.items lists.disputed.items c.self.invariant.kept.parts)
 
 pub returns-clause-apart : goal.returns-clause-apart
 returns-clause-apart c =

@@ -11,6 +11,5 @@ returns-else-not-end_by c =
     let o = c.offset.ensures.offset in (
       λ t. absurd (cc (t)),
       λ h. absurd (above_new n all (λ m i. let l : end_of m ≤ c.offset.result = c.end_by.ensures.0 f m i in
-          omega (arith, l, o))
-          (subst (λ (l : List NoteParts). has_note l n) (sym c.self.view_is) h)),
+          omega (arith, l, o)) (subst (λ (l : List NoteParts). has_note l n) (sym c.self.view_is) h)),
     )

@@ -11,6 +11,5 @@ invariant_of-result c =
     let none = c.new-lists.ensures in
     let covers = subst (λ (l : List NoteParts). Covers spans l) c.deref.ensures.value c.in_ok-spans.ensures in
     subst (λ (l : List NoteParts). AreCatalogueFields notes l c.new-lists.result.disputed_spans.items spans)
-    (sym none.disputed)
-    (subst (λ (l : List Run). AreCatalogueFields notes [] l spans) (sym none.disputed_spans)
+    (sym none.disputed) (subst (λ (l : List Run). AreCatalogueFields notes [] l spans) (sym none.disputed_spans)
     (whole_apart notes spans c.requires.catalogue c.requires.reduced c.requires.apart covers))

@@ -8,8 +8,7 @@ use Rattle.mxf_catalogue.proofs.catalogue.Catalogue.rebuild.Goals as goal
 pub into_notes-own-requires-clause-room : goal.into_notes-own-requires-clause-room
 into_notes-own-requires-clause-room c =
     subst (λ (p : NoteLists). p.disputed.items ≢ [] → length (union_of p.undisputed.items p.disputed.items) ≤
-    vec_capacity c.in-Ok.room.own)
-    (sym c.replace.ensures.value) c.in-Ok.ensures.own
+    vec_capacity c.in-Ok.room.own) (sym c.replace.ensures.value) c.in-Ok.ensures.own
 
 pub returns-clause-merged : goal.returns-clause-merged
 returns-clause-merged c =

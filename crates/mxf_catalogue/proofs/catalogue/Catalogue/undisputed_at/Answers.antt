@@ -13,8 +13,7 @@ returns c =
     c.deref.ensures.value ∙ undisputed_part lists.undisputed.items lists.disputed.items c.self.invariant.kept.parts
     ∙ ap undisputed_notes c.self.view_is in record {
       first = elim c.at_offset.result as (λ r. IfSome r (λ n. In n.now c.deref.result.now × (n.now.offset ≡
-          c.args.offset))
-          → IfNone r ((n : NoteParts) → In n c.deref.result.now → n.offset ≢ c.args.offset)
+          c.args.offset)) → IfNone r ((n : NoteParts) → In n c.deref.result.now → n.offset ≢ c.args.offset)
           → option_copied r ≡ find (λ n. n.offset == c.args.offset) (undisputed_notes all)) [
             | Some n ↦ λ found none. sym (undisputed_at-found c.args.offset all n.now (subst (In n.now) searched
                 found.0)

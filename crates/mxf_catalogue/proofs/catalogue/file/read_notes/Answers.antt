@@ -68,7 +68,6 @@ loop-i-preserved c =
       front = subst (λ (l : List NoteParts). IsFront c.args.start.version c.args.bytes.now c.args.start.count l
           c.in_ok-note.after.now) (sym items)
           (front_next c.args.start.version c.args.bytes.now c.loop-i.rest.now c.in_ok-note.after.now c.args.start.count
-          notes n i.front
-          (omega (arith, i.counted, c.loop-i-test.true)) c.in_ok-note.ensures.note rises red);
+          notes n i.front (omega (arith, i.counted, c.loop-i-test.true)) c.in_ok-note.ensures.note rises red);
       counted = ap length items ∙ length-append notes (n ∷ []) ∙ ap (λ k. k + 1) i.counted;
     }

@@ -22,6 +22,5 @@ returns-in_default c =
     record {
       bound = c.partition_point.ensures.bound;
       below = λ k d l h. leb-true _ _ (point.0 k d l h);
-      above =
-          λ k d l h. leb-false _ _ (point.1 k d l h);
+      above = λ k d l h. leb-false _ _ (point.1 k d l h);
     }

@@ -24,7 +24,6 @@ returns-in_default-clause-items c =
           let apart = w.if-last-run.false in
           with_run_behind 0 (length runs - 1) c.args.run last runs c.requires.cover.maximal (omega (arith, within))
           (get_or_from_slice_get runs (length runs - 1) last last at) (omega (arith, low, apart)) c.requires.run.order
-      | in_default-via-in_default w ↦
-          with_run_first c.args.run runs (subst (λ (l : List Run). None
+      | in_default-via-in_default w ↦ with_run_first c.args.run runs (subst (λ (l : List Run). None
           ≡ slice_get l (length l - 1)) c.deref.ensures.value w.in_default.ensures.value)
     ]

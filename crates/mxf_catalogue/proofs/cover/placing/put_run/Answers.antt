@@ -5,8 +5,7 @@ use Rattle.mxf_catalogue.proofs.CoverLaws.{IsCover-with_run}
 use Rattle.mxf_catalogue.proofs.cover.placing.put_run.Goals as goal
 
 pub append_run-requires-clause-above : goal.append_run-requires-clause-above
-append_run-requires-clause-above c offset h =
-    (c.last_end.ensures c.args.run.start).0 c.if-last_end-run.true offset
+append_run-requires-clause-above c offset h = (c.last_end.ensures c.args.run.start).0 c.if-last_end-run.true offset
     (subst (λ l. LiesIn l offset) (sym c.deref.ensures.value) h)
 
 pub returns-then-last_end-run-clause-cover : goal.returns-then-last_end-run-clause-cover

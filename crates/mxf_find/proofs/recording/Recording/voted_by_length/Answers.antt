@@ -11,8 +11,7 @@ returns-then-not-tells-clause-none c =
     untold_length c.args.tells c.args.self.now c.args.note.now (untrue _ c.if-not-tells.true)
 
 pub returns-in_err-other-clause-none : goal.returns-in_err-other-clause-none
-returns-in_err-other-clause-none c =
-    subst (λ o. IfNone o (IsNoneOf (λ n. not (c.args.note.now.whole && n.whole)
+returns-in_err-other-clause-none c = subst (λ o. IfNone o (IsNoneOf (λ n. not (c.args.note.now.whole && n.whole)
     && voted_by c.args.tells c.args.self.now c.args.note.now n) c.args.self.now)) (sym c.from_residual.ensures)
     (no_length c.args.tells c.args.self.now c.args.note.now c.in_err-other.ensures.none)
 

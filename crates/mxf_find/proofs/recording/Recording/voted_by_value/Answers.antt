@@ -19,6 +19,5 @@ returns-clause-some c =
     (λ n is. value_vote c.args.tells c.args.self.now c.args.note.now n.now (unfalse _ c.if-not-tells.false) whole is)
 
 pub returns-clause-none : goal.returns-clause-none
-returns-clause-none c =
-    IfNone_then c.teller_by_value.result c.teller_by_value.ensures.none
+returns-clause-none c = IfNone_then c.teller_by_value.result c.teller_by_value.ensures.none
     (λ none. no_value c.args.tells c.args.self.now c.args.note.now none)

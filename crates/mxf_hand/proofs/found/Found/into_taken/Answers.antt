@@ -13,6 +13,5 @@ returns c = λ packets made heads found.
       found.read,
       c.in_ok-add_taken.ensures read found.starts
           ∙ ap (λ (l : List CutHead). reduced_union c.args.self.made (map note (filter (is_taken read) l))) found.cut
-          ∙ ap (λ (l : List NoteParts). reduced_union l taken) found.put
-          ∙ sym (union_append [] made taken),
+          ∙ ap (λ (l : List NoteParts). reduced_union l taken) found.put ∙ sym (union_append [] made taken),
     )

@@ -5,13 +5,10 @@ use Rattle.mxf_hand.specs.Given.{AreBytesOf, AreTold, SourceParts, bytes_between
 use Rattle.mxf_hand.proofs.given.Given.feed_from.Given as goal
 
 abbrev pub invariant-reads : goal.invariant-reads
-invariant-reads g l =
-    (done : List ℕ) × (g.S.Sources.told l.sources ≡ g.S.Sources.told l.initial.sources)
+invariant-reads g l = (done : List ℕ) × (g.S.Sources.told l.sources ≡ g.S.Sources.told l.initial.sources)
     × (l.initial.at ≤ l.at) × (l.at + l.left ≡ l.initial.at + l.initial.left) × Fed l.initial.at done l.piece
-    × ((given : List SourceParts) (byte : ℕ → ℕ)
-    → AreTold (g.S.Sources.told l.initial.sources) l.self.extents given
-    → AreBytesOf given byte l.initial.at (l.initial.at + l.initial.left)
-    → done ≡ bytes_between byte l.initial.at l.at)
+    × ((given : List SourceParts) (byte : ℕ → ℕ) → AreTold (g.S.Sources.told l.initial.sources) l.self.extents given
+    → AreBytesOf given byte l.initial.at (l.initial.at + l.initial.left) → done ≡ bytes_between byte l.initial.at l.at)
 
 abbrev pub decreases-reads : goal.decreases-reads
 decreases-reads g l = l.left

@@ -23,8 +23,7 @@ invariant_of-result c =
     let given = c.in_ok-given.ensures
     ∙ ap (λ (l : List Place). union_of_runs [] (map run_of l)) (c.deref-4.ensures.value ∙ places) in
     subst (λ (g : List Run). ArePlaces extents c.in_ok-places.places.items c.in_ok-overlaps.overlaps.items g)
-    (sym given)
-    (subst (λ (o : List Place). ArePlaces extents c.in_ok-places.places.items o
+    (sym given) (subst (λ (o : List Place). ArePlaces extents c.in_ok-places.places.items o
     (union_of_runs [] (map run_of (places_above 0 spans)))) (sym overlaps)
     (subst (λ (l : List Place). ArePlaces extents l (overlaps_below 0 spans)
     (union_of_runs [] (map run_of (places_above 0 spans)))) (sym places) (are_places extents spans are)))

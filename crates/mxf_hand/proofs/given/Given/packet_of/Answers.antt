@@ -6,8 +6,7 @@ use Rattle.mxf_hand.proofs.NotingLaws.{can_spell, covered_head, head_length, tak
 use Rattle.mxf_hand.proofs.given.Given.packet_of.Goals as goal
 
 pub unwrap-ber-requires : goal.unwrap-ber-requires
-unwrap-ber-requires g c =
-    some_where c.new.result _ _ c.new.ensures
+unwrap-ber-requires g c = some_where c.new.result _ _ c.new.ensures
     (can_spell c.args.head.now c.width.result c.length.result c.offset-offset.ensures.note c.width.ensures
     c.length.ensures)
 

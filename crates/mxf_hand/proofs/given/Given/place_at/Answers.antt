@@ -5,8 +5,7 @@ use Rattle.mxf_hand.proofs.PlaceLaws.{HaveOffsets, have_offsets, none_given}
 use Rattle.mxf_hand.proofs.given.Given.place_at.Goals as goal
 
 pub place_in-requires-clause-some : goal.place_in-requires-clause-some
-place_in-requires-clause-some c =
-    subst HaveOffsets (sym c.deref.ensures.value) (have_offsets _ _ _ _ c.self.invariant)
+place_in-requires-clause-some c = subst HaveOffsets (sym c.deref.ensures.value) (have_offsets _ _ _ _ c.self.invariant)
 
 pub returns-clause-none : goal.returns-clause-none
 returns-clause-none c =

@@ -35,7 +35,6 @@ returns-in_ok-push-in_default-clause-added c =
           let within = slice_get_within ds (length ds - 1) last at in
           with_near_behind (length ds - 1) last c.args.next ds (omega (arith, within))
           (get_or_from_slice_get ds (length ds - 1) last last at) (sym w.is_near.ensures ∙ w.if-is_near.false)
-      | in_default-via-in_default w ↦
-          with_near_first ds c.args.next (subst (λ (l : List Difference). None
+      | in_default-via-in_default w ↦ with_near_first ds c.args.next (subst (λ (l : List Difference). None
           ≡ slice_get l (length l - 1)) c.deref.ensures.value w.in_default.ensures.value)
     ]

@@ -4,5 +4,4 @@ use Rattle.mxf_hand.specs.Places.{spans_from}
 use Rattle.mxf_hand.proofs.given.placing.spans_in_turn.Given as goal
 
 abbrev pub invariant-loop-source : goal.invariant-loop-source
-invariant-loop-source l =
-    l.spans.items ++ spans_from l.source (drop l.source l.extents) ≡ spans_from 0 l.extents
+invariant-loop-source l = l.spans.items ++ spans_from l.source (drop l.source l.extents) ≡ spans_from 0 l.extents

@@ -64,8 +64,7 @@ returns-then-not-stand_at-clause-fits g c = λ h t.
     (λ x b low high is. told.bytes x b (lies x low high) is) in
     sym (unfit h n bytes c.in_ok-spelled.spelled.items c.offset-start.result from to c.in_ok-spelled.ensures
     c.offset-start.ensures.note start (omega (arith, first)) (omega (arith, first, inside, width))
-    (omega (arith, last, width)) read
-    (λ x low high. subst (λ (l : List Run). LiesIn l x) (sym t.lie) (lies x low high))
+    (omega (arith, last, width)) read (λ x low high. subst (λ (l : List Run). LiesIn l x) (sym t.lie) (lies x low high))
     (subst (λ (l : List ℕ). (from - c.offset-start.result) + length bytes ≤ length l
     → (i : ℕ) × (i < length bytes) × (get_or l ((from - c.offset-start.result) + i) 0 ≢ get_or bytes i 0))
     c.deref-in-loop-run.ensures.value
@@ -100,8 +99,7 @@ loop-run-preserved g c =
           → get_or others ((from - c.offset-start.result) + i) 0 ≡ get_or bytes i 0 =
           subst (λ (l : List ℕ). (i : ℕ) → i < length bytes
           → get_or l ((from - c.offset-start.result) + i) 0 ≡ get_or bytes i 0)
-          c.deref-in-loop-run.ensures.value
-          (subst (λ (l : List ℕ). (i : ℕ) → i < length l
+          c.deref-in-loop-run.ensures.value (subst (λ (l : List ℕ). (i : ℕ) → i < length l
           → get_or c.deref-in-loop-run.result.now ((from - c.offset-start.result) + i) 0 ≡ get_or l i 0)
           c.deref.ensures.value (c.stand_at.ensures.agree c.if-not-stand_at.false)) in
           elim (c.loop-run.invariant.2 h t x low high at) [

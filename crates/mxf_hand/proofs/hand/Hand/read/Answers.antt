@@ -11,15 +11,13 @@ pub reading-requires : goal.reading-requires
 reading-requires g c = λ x low high.
     let is = c.read_to-to.ensures
     ∙ ap (λ (a : HandParts). read_to a.runs c.args.end c.args.from) (sym c.self.view_is) in
-    c.self.invariant.1 x (read_lies c.self.inside.runs c.args.end c.args.from x low
-    (subst (λ (n : ℕ). x < n) is high))
+    c.self.invariant.1 x (read_lies c.self.inside.runs c.args.end c.args.from x low (subst (λ (n : ℕ). x < n) is high))
 
 pub returns-clause-reading : goal.returns-clause-reading
 returns-clause-reading g c =
     subst (λ (a : HandParts). (h : HandBytes) → AreToldIn (g.S.Sources.told c.args.sources.now) a.given.extents a.runs h
     → IfOk c.reading.result (λ r. IsReading c.args.from (read_bytes h c.args.end c.args.from) r.notes r.head))
-    c.self.view_is
-    (λ h t.
+    c.self.view_is (λ h t.
     let from = c.args.from in
     let end = c.args.end in
     let runs = c.self.inside.runs in

@@ -13,7 +13,6 @@ returns-in_err-put_to g c =
     )
 
 pub returns : goal.returns
-returns g c =
-    rw (← c.self.view_is, ← c.self.invariant.1, ← c.bytes.ensures.bytes)
+returns g c = rw (← c.self.view_is, ← c.self.invariant.1, ← c.bytes.ensures.bytes)
     (WritesPart-after _ _ _ _ _ _ _ _ _ c.in_ok-put.ensures.written.0 c.in_ok-put.ensures.written.1
     (WritesPart-after _ _ _ _ _ _ _ _ _ c.in_ok-put_to.ensures.0 c.in_ok-put_to.ensures.1 c.put-2.ensures.written))

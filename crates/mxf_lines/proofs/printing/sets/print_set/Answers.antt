@@ -25,6 +25,5 @@ returns-clause-lines g c =
     (sym c.in-Some.is ∙ c.set_items.ensures) in
     subst (Prints c.args.printer.now.fields.form (Puts {X = Unit {0}} g.W.Write.contents c.args.writer.now
     c.print_to.new.writer c.args.printer.now.progress c.print_to.new.printer.progress) c.print_to.result)
-    (label ∙ (first ∙ (offset ∙ (copy
-    ∙ items))))
+    (label ∙ (first ∙ (offset ∙ (copy ∙ items))))
     c.print_to.ensures.lines

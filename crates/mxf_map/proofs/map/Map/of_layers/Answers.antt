@@ -11,8 +11,7 @@ returns c =
       hand = c.hand_bytes.ensures;
       gaps = c.in_ok-gaps.ensures
           ∙ ap (λ (l : List NoteParts). gaps_below l c.end-end.result) c.holdings-holdings.ensures;
-      disputed = c.disputed.ensures
-          ∙ ap (λ (l : List NoteParts). length (disputed_notes l))
+      disputed = c.disputed.ensures ∙ ap (λ (l : List NoteParts). length (disputed_notes l))
           (c.catalogue.ensures ∙ c.views.ensures ∙ c.holdings-holdings.ensures);
       cell = c.cell_size-cell.ensures.size;
       marks = c.in_ok-marks.ensures;

@@ -15,7 +15,6 @@ returns c =
     ap (λ (l : List PartitionParts). map offset (filter test l)) c.partitions_in_numbers.ensures.partitions
     ∙ ap (map offset) (filter_mapped test in_numbers ps) ∙ map-map offset in_numbers (filter test ps) in
     let h = items_from_collect _ c.collect.ensures.ran (YieldsList-from_map _ offset
-    (YieldsList-at c.map-offsets.ensures.source (YieldsList-from_filter _ test
-    (YieldsList-from_slice lent cc)
+    (YieldsList-at c.map-offsets.ensures.source (YieldsList-from_filter _ test (YieldsList-from_slice lent cc)
     c.filter.ensures.closure (λ x r q k. search rules)))
     c.map-offsets.ensures.closure (λ x r q k. search rules)) in search (same, rules)

@@ -9,7 +9,6 @@ set_of-requires c =
     (random_index_within c.args.catalogue.now c.laws.ensures.catalogue)
 
 pub returns : goal.returns
-returns c =
-    offsets_of c.set_of.result c.deref.result.now (random_index_offsets (clear_notes c.args.catalogue.now))
+returns c = offsets_of c.set_of.result c.deref.result.now (random_index_offsets (clear_notes c.args.catalogue.now))
     (BeginsRandomIndex c.args.catalogue.now) (c.deref.ensures.value ∙ c.in_ok-offsets.ensures)
     (random_index_begin c.args.catalogue.now) c.set_of.ensures

@@ -4,6 +4,5 @@ use Rattle.mxf_map.specs.Layers.{zone_notes}
 use Rattle.mxf_map.proofs.map.offsets.zone.Given as goal
 
 abbrev pub invariant-loop-note : goal.invariant-loop-note
-invariant-loop-note l =
-    union_of_runs l.set (map run_of (zone_notes l.zone l.note-iterator))
+invariant-loop-note l = union_of_runs l.set (map run_of (zone_notes l.zone l.note-iterator))
     ≡ union_of_runs [] (map run_of (zone_notes l.zone (clear_notes l.catalogue)))

@@ -16,7 +16,6 @@ returns-clause-near c =
       named = c.in_ok-named.ensures notes
           (subst (λ (l : List ListedStream). AreListed notes l) (sym c.deref.ensures.value) listed);
       places = subst (λ (l : List NamedPlace). AreOfStreams notes l c.in_ok-of_streams.field-0.items)
-          (c.deref-3.ensures.value ∙ all)
-          (c.in_ok-of_streams.ensures notes
+          (c.deref-3.ensures.value ∙ all) (c.in_ok-of_streams.ensures notes
           (subst (λ (l : List ListedStream). AreListed notes l) (sym c.deref-2.ensures.value) listed));
     }

@@ -16,8 +16,7 @@ use Rattle.mxf_partial.proofs.plan.UnitPlan.of.Goals as goal
 named : (c : goal.After-deref-3) → AreNamed c.args.units.now.known.notes c.in_ok-named.named.items
 named c = record {
   rising = c.in_ok-named.ensures.rising;
-  members = λ n.
-      subst (λ notes. In n c.in_ok-named.named.items ↔ IsNamedPlace notes n) c.holdings-2.ensures
+  members = λ n. subst (λ notes. In n c.in_ok-named.named.items ↔ IsNamedPlace notes n) c.holdings-2.ensures
       (c.in_ok-named.ensures.members n);
 }
 
@@ -26,8 +25,7 @@ finding_orders-requires-clause-named c =
     subst (AreNamed c.args.units.now.known.notes) (sym c.deref-3.ensures.value) (named c)
 
 pub wanted_bytes-requires : goal.wanted_bytes-requires
-wanted_bytes-requires c =
-    subst (RiseBy (λ (n : NamedPlace). n.place)) (sym c.deref-5.ensures.value)
+wanted_bytes-requires c = subst (RiseBy (λ (n : NamedPlace). n.place)) (sym c.deref-5.ensures.value)
     ((rise_by (λ (n : NamedPlace). n.place) c.in_ok-named.named.items).1 (keys_rise c.in_ok-named.named.items
     c.in_ok-named.ensures.rising))
 

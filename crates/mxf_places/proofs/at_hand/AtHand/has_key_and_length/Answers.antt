@@ -15,5 +15,4 @@ returns-in-Some c =
     ∙ ap (λ (a : AtHandParts). has_offsets a.hand start (start + 25)) c.self.view_is
 
 pub returns-in-None : goal.returns-in-None
-returns-in-None c =
-    grind (arith, has_offsets-says, false_from_ne_true, has_offsets, greatest_end, all-In)
+returns-in-None c = grind (arith, has_offsets-says, false_from_ne_true, has_offsets, greatest_end, all-In)

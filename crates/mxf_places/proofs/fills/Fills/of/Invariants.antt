@@ -5,8 +5,7 @@ use Rattle.mxf_places.specs.declared.fills.Fill.{Fill}
 use Rattle.mxf_places.proofs.fills.Fills.of.Given as goal
 
 abbrev pub invariant-loop-fill : goal.invariant-loop-fill
-invariant-loop-fill l =
-    (done : List Fill) × (l.fills.items ++ done ≡ fills_among (undisputed_notes l.catalogue))
+invariant-loop-fill l = (done : List Fill) × (l.fills.items ++ done ≡ fills_among (undisputed_notes l.catalogue))
     × ((x : ℕ) → over_in l.ends x ≡ over_list done x)
 
 abbrev pub decreases-loop-fill : goal.decreases-loop-fill

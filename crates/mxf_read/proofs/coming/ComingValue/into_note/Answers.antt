@@ -18,15 +18,13 @@ unwrap-requires-in-Digested c =
     c.width-in-Digested.ensures.length (ap is_gathered c.in-Digested.is))
 
 pub returns-in-Gathered : goal.returns-in-Gathered
-returns-in-Gathered c = λ m taken.
-    (rw c.unwrap.ensures at c.kept.ensures.note)
+returns-in-Gathered c = λ m taken. (rw c.unwrap.ensures at c.kept.ensures.note)
     ∙ same_note c.args.self m c.width.result _ _ _ c.requires.left taken c.width.ensures.width
     (gathered c.args.self c.in-Gathered.value c.in-Gathered.is c.requires.left) (ap is_gathered c.in-Gathered.is)
     (gathered_bytes c.args.self c.in-Gathered.value m c.in-Gathered.is taken)
 
 pub returns-in-Digested : goal.returns-in-Digested
-returns-in-Digested c = λ m taken.
-    (rw c.unwrap-in-Digested.ensures at c.digested.ensures).1
+returns-in-Digested c = λ m taken. (rw c.unwrap-in-Digested.ensures at c.digested.ensures).1
     ∙ same_note c.args.self m c.width-in-Digested.result c.value-in-Digested.result _ _ c.requires.left taken
     c.width-in-Digested.ensures.width
     c.value-in-Digested.ensures (ap is_gathered c.in-Digested.is)

@@ -8,8 +8,7 @@ returns-then-left-gt0-clause-fed c = λ o m x knows come.
     c.requires.goes_on refl c.requires.head
 
 pub returns-clause-fed : goal.returns-clause-fed
-returns-clause-fed c = λ o m x knows come.
-    noted o m x c.args.self.now _ c.args.value c.into_note-note.result knows come
+returns-clause-fed c = λ o m x knows come. noted o m x c.args.self.now _ c.args.value c.into_note-note.result knows come
     (omega (arith, c.left.ensures, c.if-left-gt0.false)) c.into_note-note.ensures c.in_ok-add.ensures.added
     c.end-end.ensures
     c.requires.goes_on c.requires.value c.requires.head

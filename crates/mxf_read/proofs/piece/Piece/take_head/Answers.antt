@@ -28,8 +28,7 @@ returns-in_ok-go_on-in-Ok c =
     record {
       some = omega arith;
       room = omega (arith, room, used);
-      fed = λ o m fed.
-          c.in_ok-go_on-in-Ok.ensures.fed o m (take (16 + c.from.result) bytes)
+      fed = λ o m fed. c.in_ok-go_on-in-Ok.ensures.fed o m (take (16 + c.from.result) bytes)
           (record { notes = fed.knows.notes; at = fed.knows.at })
           (begun o m bytes p v (16 + c.from.result) fed c.requires.goes_on c.requires.head now used made.offset
           made.none);

@@ -45,8 +45,7 @@ returns-in_ok-go_on-in-Ok c =
     record {
       some = omega (arith, below, width, c.from.ensures, c.len-known.ensures, p.head.ok.0);
       room = omega (arith, below, room, width, c.from.ensures, c.len-known.ensures, p.head.ok.0);
-      fed = λ o m fed.
-          c.in_ok-go_on-in-Ok.ensures.fed o m (take used c.args.bytes.now)
+      fed = λ o m fed. c.in_ok-go_on-in-Ok.ensures.fed o m (take used c.args.bytes.now)
           (record { notes = fed.knows.notes; at = fed.knows.at })
           (begun o m c.args.bytes.now p v used fed c.requires.goes_on c.requires.head now is made.offset made.none);
     }
@@ -62,8 +61,7 @@ returns-then-not-may_go_on c =
     record {
       some = omega (arith, few, c.len-known.ensures, p.head.ok.0, c.min-count.ensures, c.requires.more);
       room = omega (arith, c.min-count.ensures);
-      fed = λ o m fed.
-          stopped o m _ p _ c.in-Err.stop fed c.requires.goes_on c.requires.head lacks
+      fed = λ o m fed. stopped o m _ p _ c.in-Err.stop fed c.requires.goes_on c.requires.head lacks
           (λ t. let yes = c.may_go_on.ensures.1 t in absurd (cc (yes, c.if-not-may_go_on.true))) refl refl refl;
     }
 
@@ -78,7 +76,6 @@ returns-else-not-may_go_on c =
     record {
       some = omega (arith, few, c.len-known.ensures, p.head.ok.0, c.min-count.ensures, c.requires.more);
       room = omega (arith, c.min-count.ensures);
-      fed = λ o m fed.
-          held_more o m _ p _ c.in-Err.stop fed c.requires.goes_on c.requires.head lacks
+      fed = λ o m fed. held_more o m _ p _ c.in-Err.stop fed c.requires.goes_on c.requires.head lacks
           (c.may_go_on.ensures.0 c.if-not-may_go_on.false) refl refl c.requires.goes_on c.requires.head items;
     }

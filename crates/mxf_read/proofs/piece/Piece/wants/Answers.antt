@@ -6,11 +6,9 @@ use Rattle.mxf_read.proofs.piece.Piece.wants.Goals as goal
 pub returns-then-not-has_stopped-clause-enough : goal.returns-then-not-has_stopped-clause-enough
 returns-then-not-has_stopped-clause-enough c = λ e o m x len fed.
     elim c.if-left-gt0.branch [
-      | then-left-gt0 w ↦
-          cut_tells o m x c.args.self.now c.args.left
+      | then-left-gt0 w ↦ cut_tells o m x c.args.self.now c.args.left
           (none_if c.args.self.now.stop (sym w.has_stopped.ensures
-          ∙ not-true _ (sym w.value-is ∙ c.if-not-has_stopped.true))) len
-          (sym c.is_cut.ensures ∙ not-false _ e) fed
+          ∙ not-true _ (sym w.value-is ∙ c.if-not-has_stopped.true))) len (sym c.is_cut.ensures ∙ not-false _ e) fed
       | else-left-gt0 w ↦ none_left o m x c.args.self.now (omega arith) fed
     ]
 

@@ -12,8 +12,7 @@ returns c =
     let claims = c.self.invariant.0 in
     let heads = c.self.invariant.1 in
     let head = c.around-head.result in
-    c.asked.ensures
-    ∙ asked_is at notes p head c.claim_at-claim.result c.end_by-end.result c.needed_end.result
+    c.asked.ensures ∙ asked_is at notes p head c.claim_at-claim.result c.end_by-end.result c.needed_end.result
     (c.around-head.ensures.start ∙ ap (λ ns. start_of ns p.first) heads)
     (c.around-head.ensures.needed ∙ ap (λ ns. needed_of ns (start_of ns p.first) p.first) heads)
     (c.claim_at-claim.ensures ∙ ap (find (is_claimed head.offset)) claims) c.end_by-end.ensures c.needed_end.ensures

@@ -16,8 +16,7 @@ returns-in_err-put-2 g c =
     let p = err_from_is_err_and c.from_residual-in_err-put-2.result c.from_residual-in_err-put-2.ensures.1 in
     let count = big_bytes 4 c.self.inside.count in
     let size = big_bytes 4 c.self.inside.size in
-    rw (p.1, p.2, ← c.self.view_is)
-    (Stops-second _ _ _ _ _ _ _ _ count size c.self.inside.items.now refl
+    rw (p.1, p.2, ← c.self.view_is) (Stops-second _ _ _ _ _ _ _ _ count size c.self.inside.items.now refl
     (rw c.to_be_bytes.ensures at c.in_ok-put.ensures.written)
     (rw c.to_be_bytes-2.ensures at c.in_err-put-2.ensures.written))
 
@@ -26,8 +25,6 @@ returns g c =
     let count = big_bytes 4 c.self.inside.count in
     let size = big_bytes 4 c.self.inside.size in
     let items = c.self.inside.items.now in
-    rw (← c.self.view_is)
-    (WritesPart-second _ _ _ _ _ _ _ _ count (size ++ items) refl
-    (rw c.to_be_bytes.ensures at c.in_ok-put.ensures.written)
-    (WritesPart-second _ _ _ _ _ _ _ _ size items refl
+    rw (← c.self.view_is) (WritesPart-second _ _ _ _ _ _ _ _ count (size ++ items) refl
+    (rw c.to_be_bytes.ensures at c.in_ok-put.ensures.written) (WritesPart-second _ _ _ _ _ _ _ _ size items refl
     (rw c.to_be_bytes-2.ensures at c.in_ok-put-2.ensures.written) c.put-3.ensures.written))

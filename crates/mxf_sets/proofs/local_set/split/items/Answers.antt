@@ -23,8 +23,7 @@ returns-then-not-is_empty-clause-cut c =
     grind (arith, left_of c.args.value.now, at_none c.loop-after.rest.now c.in_default.ensures)
 
 pub invariant_of-result : goal.invariant_of-result
-invariant_of-result c =
-    sym c.loop-after.invariant.0 ∙ (at_none c.loop-after.rest.now c.in_default.ensures).1
+invariant_of-result c = sym c.loop-after.invariant.0 ∙ (at_none c.loop-after.rest.now c.in_default.ensures).1
     ∙ empty_from_test c.loop-after.rest.now c.if-not-is_empty.ensures
 
 pub returns-clause-whole : goal.returns-clause-whole

@@ -14,6 +14,5 @@ pub returns : goal.returns
 returns g c =
     let value = c.item.inside.value.now in
     let parts = ap (λ (h : List ℕ). h ++ value) (sym c.item_head.ensures) in
-    rw (← c.item.view_is)
-    (WritesPart-second _ _ _ _ _ _ _ _ c.item_head.result value parts
+    rw (← c.item.view_is) (WritesPart-second _ _ _ _ _ _ _ _ c.item_head.result value parts
     c.in_ok-put.ensures.written c.put-2.ensures.written)

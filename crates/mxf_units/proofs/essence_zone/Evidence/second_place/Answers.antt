@@ -11,9 +11,7 @@ first_above-requires c =
     (places-rise (places_above 0 (segments_of c.self.inside.holdings.now)))
 
 pub returns : goal.returns
-returns c =
-    c.first_above.ensures
-    ∙ ap (λ (xs : List StreamPlace). least_above 0 (offsets_in c.args.body_sid xs))
+returns c = c.first_above.ensures ∙ ap (λ (xs : List StreamPlace). least_above 0 (offsets_in c.args.body_sid xs))
     (c.deref.ensures.value ∙ c.self.invariant.0)
     ∙ least-in_order c.args.body_sid 0 (places_above 0 (segments_of c.self.inside.holdings.now))
     ∙ ap (λ (notes : List NoteParts). next_of (segments_of notes) c.args.body_sid 0) c.self.view_is

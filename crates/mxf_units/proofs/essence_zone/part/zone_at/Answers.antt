@@ -8,8 +8,7 @@ returns c =
     let point = IsPartitionPoint-from_clause (is_behind c.args.body_sid c.args.offset) _ _
     c.partition_point-passed.ensures.partitioned (parted c.args.body_sid c.args.offset parts c.requires)
     (λ a r q k. search rules) in
-    c.by_first.ensures
-    ∙ found c.args.body_sid c.args.offset parts _ c.partition_point-passed.result
+    c.by_first.ensures ∙ found c.args.body_sid c.args.offset parts _ c.partition_point-passed.result
     (settled c.args.body_sid c.args.offset parts c.partition_point-passed.result c.partition_point-passed.ensures.bound
     c.requires point.0 point.1)
     c.split_at.ensures.back

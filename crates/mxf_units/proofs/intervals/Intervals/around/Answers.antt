@@ -26,7 +26,6 @@ returns g c =
     (subst (λ (xs : List _). AllWithin (λ x. c.args.at < first x) xs c.begun_by-begun.result (length xs))
     c.deref.ensures.value begun.above)
     (subst (λ (xs : List ℕ). AllWithin (λ x. x < c.args.at) xs 0 c.ended_below.result) c.deref-3.ensures.value
-    ended.below)
-    (c.split_at.ensures.front ∙ ap (take c.begun_by-begun.result) c.deref-2.ensures.value)
+    ended.below) (c.split_at.ensures.front ∙ ap (take c.begun_by-begun.result) c.deref-2.ensures.value)
     (c.split_at.ensures.back ∙ ap (drop c.begun_by-begun.result) c.deref-2.ensures.value)
     (c.split_at-2.ensures.back ∙ ap (λ k. drop k front) c.min-ended.ensures))

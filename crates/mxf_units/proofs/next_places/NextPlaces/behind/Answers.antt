@@ -11,8 +11,7 @@ pub lesser_above-next-requires-clause-sized : goal.lesser_above-next-requires-cl
 lesser_above-next-requires-clause-sized c =
     (all_around first_number end_number AreSized _ _ _ _ c.around.ensures c.self.invariant.2).0
 
-pub lesser_above-next-requires-clause-small_next :
-    goal.lesser_above-next-requires-clause-small_next
+pub lesser_above-next-requires-clause-small_next : goal.lesser_above-next-requires-clause-small_next
 lesser_above-next-requires-clause-small_next c = λ x e.
     let l = small-least c.args.place.body_sid c.args.place.offset c.self.inside.listed.items x c.self.invariant.1
     (sym (c.first_above-listed.ensures

@@ -13,19 +13,16 @@ around c =
     c.from.ensures c.around.ensures
 
 pub returns-clause-place : goal.returns-clause-place
-returns-clause-place c =
-    subst (λ (u : UnitsParts). place_of c.around.result.0.now c.args.unit
+returns-clause-place c = subst (λ (u : UnitsParts). place_of c.around.result.0.now c.args.unit
     ≡ place_of (segments_for u.known.notes u.index_sid) c.args.unit) c.self.view_is
     (near-place c.args.unit c.ranges.unit.fits _ _ _ _ c.self.invariant.0 (around c))
 
 pub returns-clause-entry : goal.returns-clause-entry
-returns-clause-entry c =
-    subst (λ (u : UnitsParts). entry_of c.around.result.0.now c.args.unit
+returns-clause-entry c = subst (λ (u : UnitsParts). entry_of c.around.result.0.now c.args.unit
     ≡ entry_of (segments_for u.known.notes u.index_sid) c.args.unit) c.self.view_is
     (near-entry c.args.unit c.ranges.unit.fits _ _ _ _ c.self.invariant.0 (around c))
 
 pub returns-clause-given : goal.returns-clause-given
-returns-clause-given c = λ p.
-    subst (λ (u : UnitsParts). is_given p c.args.unit c.around.result.0.now
+returns-clause-given c = λ p. subst (λ (u : UnitsParts). is_given p c.args.unit c.around.result.0.now
     ≡ is_given p c.args.unit (segments_for u.known.notes u.index_sid)) c.self.view_is
     (near-given c.args.unit c.ranges.unit.fits _ _ _ _ c.self.invariant.0 (around c) p)

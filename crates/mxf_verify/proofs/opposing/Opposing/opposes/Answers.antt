@@ -15,16 +15,14 @@ begun : (c : goal.Joined-to_head)
 begun c =
     let b = c.below-begun.ensures in
     begun-count _ _ _ _ c.covered_end.result c.below-begun.result c.self.invariant c.deref.ensures.value b.bound b.below
-    b.above
-    ∙ ap (λ e. count_by (λ m. nat_lt m.offset e) c.self.inside.catalogue.now) c.covered_end.ensures.covered
+    b.above ∙ ap (λ e. count_by (λ m. nat_lt m.offset e) c.self.inside.catalogue.now) c.covered_end.ensures.covered
 
 ended : (c : goal.Joined-to_head)
     → c.up_to-ended.result ≡ count_by (λ m. nat_le (covered_end m) c.args.note.now.offset) c.self.inside.catalogue.now
 ended c =
     let u = c.up_to-ended.ensures in
     ended-count _ _ _ _ c.offset.result c.up_to-ended.result c.self.invariant c.deref-2.ensures.value u.bound u.below
-    u.above
-    ∙ ap (λ o. count_by (λ m. nat_le (covered_end m) o) c.self.inside.catalogue.now) c.offset.ensures.offset
+    u.above ∙ ap (λ o. count_by (λ m. nat_le (covered_end m) o) c.self.inside.catalogue.now) c.offset.ensures.offset
 
 pub overflow_sub-result : goal.overflow_sub-result
 overflow_sub-result c =

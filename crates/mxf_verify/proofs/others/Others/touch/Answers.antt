@@ -37,18 +37,14 @@ ended c =
     u.above
     ∙ ap (λ o. count_by (λ m. nat_le (covered_end m) o) (notes_at c.self.inside.notes.items)) c.offset.ensures.offset
 
-packets_up_to : (c : goal.After-heads_below)
-    → c.heads_up_to.result
+packets_up_to : (c : goal.After-heads_below) → c.heads_up_to.result
     ≡ count_by (λ m. is_le (note_cmp (head_note m) c.args.note.now)) (notes_at c.self.inside.notes.items)
-packets_up_to c =
-    c.heads_up_to.ensures
+packets_up_to c = c.heads_up_to.ensures
     ∙ ap (λ rs. count_by (λ m. is_le (note_cmp (head_note m) c.args.note.now)) (notes_at rs)) c.deref-3.ensures.value
 
-packets_below : (c : goal.After-heads_below)
-    → c.heads_below.result
+packets_below : (c : goal.After-heads_below) → c.heads_below.result
     ≡ count_by (λ m. is_lt (note_cmp (head_note m) c.args.note.now)) (notes_at c.self.inside.notes.items)
-packets_below c =
-    c.heads_below.ensures
+packets_below c = c.heads_below.ensures
     ∙ ap (λ rs. count_by (λ m. is_lt (note_cmp (head_note m) c.args.note.now)) (notes_at rs)) c.deref-4.ensures.value
 
 pub overflow_sub-packets : goal.overflow_sub-packets
@@ -69,5 +65,4 @@ returns c =
     let packets : c.heads_up_to.result - c.heads_below.result ≡ count_by (λ m. is_same_note (head_note m) n) notes =
     omega (arith, all, packets_up_to c, packets_below c) in
     touched-by_counts n notes c.below-begun.result c.up_to-ended.result (c.heads_up_to.result - c.heads_below.result)
-    (begun c) (ended c) packets
-    ∙ ap (is_touched n) c.self.view_is
+    (begun c) (ended c) packets ∙ ap (is_touched n) c.self.view_is

@@ -71,8 +71,7 @@ returns-then-not-branch g c =
             record {
               taken = last;
               left = subst (λ k. AllWithin (λ r. IsTrue (is_digested r.now) → k < covered_end r.now) notes place
-                  (length notes)) last.at
-                  (left_notes offset bytes notes init place new.at d h c.requires.apart
+                  (length notes)) last.at (left_notes offset bytes notes init place new.at d h c.requires.apart
                   (subst (λ (x : Bor NoteParts). IsTrue (is_digested x.now)) named digested)
                   (subst (λ (x : Bor NoteParts). new.at < covered_end x.now) named behind));
             },

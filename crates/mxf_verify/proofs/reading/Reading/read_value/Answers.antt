@@ -99,13 +99,11 @@ returns-in-Some g c d =
           two.taken (omega (arith, again, within))
           (subst (λ (x : Bor NoteParts). IsTrue (is_digested x.now)) (named ∙ sym note) (c.requires.digested d))
           (subst (λ (x : Bor NoteParts). offset + length (bytes ++ first.more) ≡ x.now.offset + front_size x.now)
-          (sym note) ahead)
-          (subst (λ (x : Bor NoteParts). read.at ≡ covered_end x.now) (sym note)
+          (sym note) ahead) (subst (λ (x : Bor NoteParts). read.at ≡ covered_end x.now) (sym note)
           (c.if-self-end.true ∙ c.covered_end-end.ensures.covered))
           (front_within (get_or read.candidates.items place d).note.now)
           (subst (λ (x : Bor NoteParts). c.is_digest_of.result ≡ bytes_eq (sha256 second.more) x.now.held)
-          (sym note) same)
-          (c.say.ensures.candidates d) c.say.ensures.at);
+          (sym note) same) (c.say.ensures.candidates d) c.say.ensures.at);
       reached = λ e. c.say.ensures.at ∙ c.if-self-end.true ∙ c.covered_end-end.ensures.covered
           ∙ ap (λ (x : Bor NoteParts). covered_end x.now) (sym named);
       ended = λ e. absurd (true≢false e);

@@ -46,9 +46,7 @@ returns c =
     let l : has_note later n → ⊥ = λ h. let t = c.has.ensures.1 h in cc (t, c.if-has.false) in
     let f : IsOpposed n later → ⊥ = λ o. let t = c.opposes.ensures.1 o in cc (t, c.if-opposes.false) in
     record {
-      added =
-          c.in_ok-add.ensures.added
-          ∙ ap (λ m. reduced_with m c.args.self.now.added) c.in_ok-clone_in.ensures.equal
+      added = c.in_ok-add.ensures.added ∙ ap (λ m. reduced_with m c.args.self.now.added) c.in_ok-clone_in.ensures.equal
           ∙ ap (reduced_union c.args.self.now.added) (sym (lacked-added n later l f));
       dropped = sym (ap (λ l. c.args.self.now.dropped ++ l) (not_opposed-dropped n later f)
           ∙ append-nil c.args.self.now.dropped);

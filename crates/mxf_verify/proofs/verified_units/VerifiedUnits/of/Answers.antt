@@ -10,8 +10,7 @@ use Rattle.mxf_verify.proofs.verified_units.VerifiedUnits.of.Goals as goal
 pub invariant_of-result : goal.invariant_of-result
 invariant_of-result c =
     let u = c.args.units.now in
-    units-counted
-    (λ (unit : ℕ) (fixity : UnitFixity). IsFixityOf c.verified-verified.result.now c.altered.result.now
+    units-counted (λ (unit : ℕ) (fixity : UnitFixity). IsFixityOf c.verified-verified.result.now c.altered.result.now
     (unit_of u.known u.index_sid unit) fixity) c.args.from c.args.to c.in_ok-runs.runs.items c.requires.order
     c.requires.bound c.in_ok-runs.ensures.runs
 

@@ -45,8 +45,7 @@ loop-note-preserved c =
     record {
       partitions = appended_next kept_partition _ _ _ _ _ _ n _ inv.partitions e (ap partition_in of ∙ is.partition)
           put.partitions;
-      segments = appended_next kept_segment _ _ _ _ _ _ n _ inv.segments e (ap segment_in of ∙ is.segment)
-          put.segments;
+      segments = appended_next kept_segment _ _ _ _ _ _ n _ inv.segments e (ap segment_in of ∙ is.segment) put.segments;
       rips = appended_next kept_random_index_pack _ _ _ _ _ _ n _ inv.rips e
           (ap random_index_pack_in of ∙ is.rip) put.random_index_packs;
       unreadable = appended_next kept_unreadable_pack _ _ _ _ _ _ n _ inv.unreadable e

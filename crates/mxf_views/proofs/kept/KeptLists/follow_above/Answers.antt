@@ -50,8 +50,7 @@ returns c =
     kept_by _ _ _ _ _ _ _
     (new.partitions ∙ kept_above b notes k.0 k.1 kept_partition _ (ap (λ (p : KeptParts). p.partitions) k.2))
     (new.segments ∙ kept_above b notes k.0 k.1 kept_segment _ (ap (λ (p : KeptParts). p.segments) k.2))
-    (new.random_index_packs
-    ∙ kept_above b notes k.0 k.1 kept_random_index_pack _ (ap (λ (p : KeptParts). p.rips) k.2))
+    (new.random_index_packs ∙ kept_above b notes k.0 k.1 kept_random_index_pack _ (ap (λ (p : KeptParts). p.rips) k.2))
     (new.unreadable_packs
     ∙ kept_above b notes k.0 k.1 kept_unreadable_pack _ (ap (λ (p : KeptParts). p.unreadable) k.2))
     (c.follow_copies_above.ensures.copies ∙ ap copies_of c.of-sums.ensures.notes)

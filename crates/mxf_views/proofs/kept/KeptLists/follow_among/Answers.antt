@@ -68,16 +68,12 @@ returns c =
     (ap (λ (p : KeptParts). p.partitions) k.kept) at.partition)
     (c.put.ensures.segments ∙ ap (with_found (λ s. s.offset) (segment_in c.at.result)) left.segments.items
     ∙ list_after _ _ _ k kept_segment (λ s. s.offset) offset-kept_segment _ _
-    (ap (λ (p : KeptParts). p.segments) k.kept) at.segment)
-    (c.put.ensures.random_index_packs
+    (ap (λ (p : KeptParts). p.segments) k.kept) at.segment) (c.put.ensures.random_index_packs
     ∙ ap (with_found (λ o. o) (random_index_pack_in c.at.result)) left.random_index_packs.items
     ∙ list_after _ _ _ k kept_random_index_pack (λ o. o) offset-kept_rip _ _
-    (ap (λ (p : KeptParts). p.rips) k.kept) at.random_index_pack)
-    (c.put.ensures.unreadable_packs
+    (ap (λ (p : KeptParts). p.rips) k.kept) at.random_index_pack) (c.put.ensures.unreadable_packs
     ∙ ap (with_found (λ o. o) (unreadable_pack_in c.at.result)) left.unreadable_packs.items
     ∙ list_after _ _ _ k kept_unreadable_pack (λ o. o) offset-kept_unreadable _ _
-    (ap (λ (p : KeptParts). p.unreadable) k.kept) at.unreadable_pack)
-    (c.follow_copies.ensures
+    (ap (λ (p : KeptParts). p.unreadable) k.kept) at.unreadable_pack) (c.follow_copies.ensures
     ∙ copies_after _ _ _ k _ (ap (λ (v : Vec CopyInfo Global). v.items) (c.put.ensures.copies ∙ left.copies)
-    ∙ ap (λ (p : KeptParts). p.copies) k.kept))
-    (c.refill_reaches.ensures ∙ ap reaches_of c.deref.ensures.value)
+    ∙ ap (λ (p : KeptParts). p.copies) k.kept)) (c.refill_reaches.ensures ∙ ap reaches_of c.deref.ensures.value)

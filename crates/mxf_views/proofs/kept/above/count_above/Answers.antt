@@ -37,6 +37,5 @@ loop-copy-preserved c =
       prefaces = 0;
       status = OpenIncomplete;
     } in
-    ap (set c.loop-copy.copies i) c.counted_above.ensures
-    ∙ ap (λ l. set l i (f (get_or l i d))) c.loop-copy.invariant
+    ap (set c.loop-copy.copies i) c.counted_above.ensures ∙ ap (λ l. set l i (f (get_or l i d))) c.loop-copy.invariant
     ∙ next_changed f old d i c.loop-copy-test.true

@@ -2,7 +2,6 @@ use Rattle.mxf_views.proofs.Common.{◌≡◌, ◌++◌, drop, map, take, counte
 use Rattle.mxf_views.proofs.kept.above.count_above.Given as goal
 
 abbrev pub invariant-loop-copy : goal.invariant-loop-copy
-invariant-loop-copy l =
-    l.copies
+invariant-loop-copy l = l.copies
     ≡ map (λ c. counted_above l.sums.notes l.sums.boundary l.starting c c.start) (take l.copy-index l.fn.copies)
     ++ drop l.copy-index l.fn.copies

@@ -63,11 +63,8 @@ returns-clause-copies c =
     ∙ ap (drop at) c.deref_mut.ensures.value) in
     let rest = length-map (drop at old) count in
     let size = length-drop at old in
-    c.append_copies.ensures
-    ∙ ap (λ l. l ++ added)
+    c.append_copies.ensures ∙ ap (λ l. l ++ added)
     (rest_written old lent c.count_above.new.copies at c.args.copies.now.len c.deref_mut.ensures.value whole
     (omega (arith, few, whole)) (ap length counted ∙ rest ∙ size) ∙ ap (λ l. take at old ++ l) counted
-    ∙ map_rest count old at stay)
-    ∙ ap (λ l. map count old ++ l) (ap (copies_among (clear_notes notes)) c.requires.new
-    ∙ kept_copies (clear_notes notes) (clear_from b notes))
-    ∙ copies_at b notes k.0 starting old k.1 k.2 can_start
+    ∙ map_rest count old at stay) ∙ ap (λ l. map count old ++ l) (ap (copies_among (clear_notes notes)) c.requires.new
+    ∙ kept_copies (clear_notes notes) (clear_from b notes)) ∙ copies_at b notes k.0 starting old k.1 k.2 can_start

@@ -8,8 +8,7 @@ loop-other-init c =
     let notes = c.args.catalogue.now in
     let left = c.into_iter-other-iterator.result in
     subst (λ start. HullSoFar x notes start c.end-end.result left) (sym c.offset-start.ensures.offset)
-    (subst (λ end. HullSoFar x notes x.offset end left) (sym c.end-end.ensures)
-    (hull_of_one x notes left
+    (subst (λ end. HullSoFar x notes x.offset end left) (sym c.end-end.ensures) (hull_of_one x notes left
     (c.into_iter-other-iterator.ensures.into_iter_gives ∙ c.clear_touching-other-items.ensures.notes)))
 
 pub loop-other-preserved : goal.loop-other-preserved

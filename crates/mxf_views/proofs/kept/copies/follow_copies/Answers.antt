@@ -8,7 +8,6 @@ pub put-requires-clause-rising : goal.put-requires-clause-rising
 put-requires-clause-rising c =
     let a = c.args.arrival.now in
     let notes = c.args.catalogue.now in
-    keys_never_fall (λ (c : CopyInfo). c.partition) _ (subst CopiesRise
-    (sym (c.renew.ensures.items
+    keys_never_fall (λ (c : CopyInfo). c.partition) _ (subst CopiesRise (sym (c.renew.ensures.items
     ∙ ap (map (renewed notes a.start a.end a.can_bring_start)) c.leave.ensures.items))
     (kept_copies_rise notes a.start a.end a.can_bring_start c.args.copies.now.items c.requires.rising))

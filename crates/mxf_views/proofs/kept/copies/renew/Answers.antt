@@ -21,5 +21,4 @@ loop-copy-preserved c =
     let within : i < length old = subst (λ (l : List CopyInfo). i < length l) c.deref_mut-copy-items.ensures.value
     c.loop-copy-test.true in
     ap (set c.loop-copy.copy-items i) c.renewed.ensures
-    ∙ ap (λ (l : List CopyInfo). set l i (f (get_or l i d))) c.loop-copy.invariant
-    ∙ next_changed f old d i within
+    ∙ ap (λ (l : List CopyInfo). set l i (f (get_or l i d))) c.loop-copy.invariant ∙ next_changed f old d i within

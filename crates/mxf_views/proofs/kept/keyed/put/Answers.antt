@@ -12,8 +12,7 @@ returns g c =
     let at = c.up_to-at.ensures in
     let items = c.deref.result.now in
     let place = c.up_to-at.result in
-    c.in-Ok.ensures.items
-    ∙ ap (λ l. insert l place c.args.item) (sym c.deref.ensures.value)
+    c.in-Ok.ensures.items ∙ ap (λ l. insert l place c.args.item) (sym c.deref.ensures.value)
     ∙ inserted key c.args.item items place at.bound
     (subst (λ (k : ℕ). AllWithin (λ d. key d ≤ k) items 0 place) c.key.ensures at.below)
     (subst (λ (k : ℕ). AllWithin (λ d. k < key d) items place (length items)) c.key.ensures at.above)

@@ -4,8 +4,7 @@ use Rattle.mxf_views.proofs.ReachLaws.{first_reaches, length-reaches_from, none_
 use Rattle.mxf_views.proofs.kept.reaches.copy_around.Goals as goal
 
 pub below-at-requires : goal.below-at-requires
-below-at-requires c =
-    subst IsNonDecreasing (sym c.requires.reaches) (reaches_never_fall 0 c.args.copies.now)
+below-at-requires c = subst IsNonDecreasing (sym c.requires.reaches) (reaches_never_fall 0 c.args.copies.now)
 
 pub returns-in_err-copy : goal.returns-in_err-copy
 returns-in_err-copy c =
@@ -17,8 +16,7 @@ returns-in_err-copy c =
     let below : AllWithin (λ r. r < end_of n) (reaches_of copies) 0 at.result =
     subst (λ (e : ℕ). AllWithin (λ r. r < e) (reaches_of copies) 0 at.result) end
     (subst (λ (rs : List ℕ). AllWithin (λ r. r < c.end.result) rs 0 at.result) c.requires.reaches at.ensures.below) in
-    c.from_residual.ensures
-    ∙ sym (none_reaches n 0 copies at.result fits below
+    c.from_residual.ensures ∙ sym (none_reaches n 0 copies at.result fits below
     (ltb-false at.result (length copies) (sym c.in_err-copy.ensures.lookup.0)))
 
 pub returns : goal.returns

@@ -11,8 +11,7 @@ returns-then-has-clause-added c =
     sym (reduced_with-present c.args.note c.args.self.now r p held)
 
 pub returns-then-has-clause-history : goal.returns-then-has-clause-history
-returns-then-has-clause-history c = λ h e.
-    returns-then-has-clause-added c ∙ ap (reduced_with c.args.note) e
+returns-then-has-clause-history c = λ h e. returns-then-has-clause-added c ∙ ap (reduced_with c.args.note) e
 
 pub returns-then-has-clause-repeated : goal.returns-then-has-clause-repeated
 returns-then-has-clause-repeated c = (

@@ -16,8 +16,7 @@ known_own notes n = (
   ],
 )
 
-located_own : (notes : List NoteParts) → AreReduced notes → (n : NoteParts)
-    → In n notes ↔ IsLocated (has_note notes) n
+located_own : (notes : List NoteParts) → AreReduced notes → (n : NoteParts) → In n notes ↔ IsLocated (has_note notes) n
 located_own notes r n = In-located (has_note notes) notes r (known_own notes) n
 
 pub returns-in-Ok-clause-run : goal.returns-in-Ok-clause-run

@@ -4,8 +4,7 @@ use Rattle.mxf_views.proofs.KeptLaws.{partitions_in_numbers, partitions_rise_by}
 use Rattle.mxf_views.proofs.views.Views.partitions_in_numbers.Goals as goal
 
 pub returns-clause-partitions : goal.returns-clause-partitions
-returns-clause-partitions c =
-    c.deref.ensures.value ∙ ap (λ (k : KeptParts). k.partitions) c.self.invariant
+returns-clause-partitions c = c.deref.ensures.value ∙ ap (λ (k : KeptParts). k.partitions) c.self.invariant
     ∙ partitions_in_numbers c.self.inside.catalogue ∙ ap (λ notes. map in_numbers (partitions_of notes)) c.self.view_is
 
 pub returns-clause-rising : goal.returns-clause-rising

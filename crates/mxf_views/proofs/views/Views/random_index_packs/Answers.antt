@@ -4,8 +4,5 @@ use Rattle.mxf_views.proofs.views.Views.random_index_packs.Goals as goal
 
 pub returns : goal.returns
 unfolding rips_of
-returns c =
-    c.of.ensures
-    ∙ notes_at_offsets is_rip_note c.self.inside.catalogue _
-    (c.deref.ensures.value ∙ ap (λ (k : KeptParts). k.rips) c.self.invariant)
-    ∙ ap rips_of c.self.view_is
+returns c = c.of.ensures ∙ notes_at_offsets is_rip_note c.self.inside.catalogue _
+    (c.deref.ensures.value ∙ ap (λ (k : KeptParts). k.rips) c.self.invariant) ∙ ap rips_of c.self.view_is

@@ -9,8 +9,7 @@ pub returns-in_err-put_start : goal.returns-in_err-put_start
 returns-in_err-put_start g c =
     let p = err_from_is_err_and c.from_residual.result c.from_residual.ensures.1 in
     let count : c.len.result ≡ length c.args.self.now = c.len.ensures in
-    rw (p.1, p.2)
-    (fails_in_first _ _ _ _ _ (file_bytes c.args.self.now) (start_bytes Two c.len.result)
+    rw (p.1, p.2) (fails_in_first _ _ _ _ _ (file_bytes c.args.self.now) (start_bytes Two c.len.result)
     (flat_map (note_bytes Two) c.args.self.now)
     (ap (λ (n : ℕ). start_bytes Two n ++ flat_map (note_bytes Two) c.args.self.now)
     (sym count)) c.in_err-put_start.ensures)

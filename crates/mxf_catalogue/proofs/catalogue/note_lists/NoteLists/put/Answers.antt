@@ -33,8 +33,7 @@ returns-then-are_apart_from-clause-kept c =
     subst (λ l. AreKeptLists l ds few) (sym c.put.ensures.items)
     (kept_with_clear n cs ds few c.offset.ensures.note c.requires.kept c.requires.new (λ h.
     let t = c.have-2.ensures.1 (subst (λ m. In m (union_of cs ds)) (sym c.to_head.ensures) h) in
-    let f = c.if-have.false in cc (t, f))
-    (c.are_apart_from.ensures.far c.if-are_apart_from.true))
+    let f = c.if-have.false in cc (t, f)) (c.are_apart_from.ensures.far c.if-are_apart_from.true))
 
 pub returns-then-are_apart_from-clause-content : goal.returns-then-are_apart_from-clause-content
 returns-then-are_apart_from-clause-content c =
@@ -61,8 +60,7 @@ returns-clause-kept c =
     (subst (λ l. AreKeptLists (away_from n cs) (disputed_with n cs ds) l) (sym spans)
     (kept_with_disputed n cs ds few c.offset.ensures.note c.requires.kept c.requires.new (λ h.
     let t = c.have-2.ensures.1 (subst (λ m. In m (union_of cs ds)) (sym c.to_head.ensures) h) in
-    let f = c.if-have.false in cc (t, f))
-    (c.are_apart_from.ensures.near c.if-are_apart_from.false))))
+    let f = c.if-have.false in cc (t, f)) (c.are_apart_from.ensures.near c.if-are_apart_from.false))))
 
 pub returns-clause-content : goal.returns-clause-content
 returns-clause-content c =

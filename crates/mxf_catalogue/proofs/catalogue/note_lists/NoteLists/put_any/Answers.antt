@@ -57,8 +57,7 @@ returns-clause-whole c =
     (c.covered_end.ensures.covered i)) old) in
     record {
       kept = c.put.ensures.kept;
-      covers = subst (λ r. Covers r new) (sym runs)
-          (covers_with c.args.note cs ds new old c.requires.whole.kept.reduced
+      covers = subst (λ r. Covers r new) (sym runs) (covers_with c.args.note cs ds new old c.requires.whole.kept.reduced
           (λ h. let t = c.tell.ensures.1 h in let f = c.if-tell.false in cc (t, f)) c.requires.whole.covers
           c.put.ensures.content);
     }

@@ -8,5 +8,4 @@ loop-partition-init c =
     let ps = partitions_of c.args.views.now in
     let told = λ (os : List ℕ). c.args.self.now ++ map (finding c.args.code) os in
     ap (λ (l : List PartitionParts). told (map (λ p. p.offset) (filter (is_partition_cause c.args.code ps) l)))
-    c.partitions_in_numbers-partition-items.ensures.partitions
-    ∙ ap told (causes_in_numbers c.args.code ps ps)
+    c.partitions_in_numbers-partition-items.ensures.partitions ∙ ap told (causes_in_numbers c.args.code ps ps)

@@ -6,8 +6,7 @@ use Rattle.mxf_findings.proofs.finding.collected.Collected.add_resolved.Goals as
 -- two lists of offsets
 both : (fs : List Finding) (xs ys : List ℕ)
     → (fs ++ map (finding F13) xs) ++ map (finding F13) ys ≡ fs ++ map (finding F13) (xs ++ ys)
-both fs xs ys =
-    append_assoc fs (map (finding F13) xs) (map (finding F13) ys)
+both fs xs ys = append_assoc fs (map (finding F13) xs) (map (finding F13) ys)
     ∙ ap (λ l. fs ++ l) (sym (map-append (finding F13) xs ys))
 
 pub returns-in-Some : goal.returns-in-Some
@@ -20,11 +19,8 @@ returns-in-Some c =
     let storage = ap (λ s. lost_beside preface s c.resolved.inside.packages) (sym c.in-Some.is) in
     let first = c.in_ok-add_lost.ensures ∙ ap (λ fs. old ++ fs) names in
     let beside = lost_beside preface (Some c.in-Some.storage) c.as_slice-in-Some.result.now in
-    subst (λ r. OnOk c.add_behind.result
-    (c.add_behind.new.self ≡ old ++ map (finding F13) (lost_by r)))
-    c.resolved.view_is
-    (on_ok_weaker c.add_behind.result (λ p. p
-    ∙ ap (λ fs. fs ++ map (finding F13) beside) first
+    subst (λ r. OnOk c.add_behind.result (c.add_behind.new.self ≡ old ++ map (finding F13) (lost_by r)))
+    c.resolved.view_is (on_ok_weaker c.add_behind.result (λ p. p ∙ ap (λ fs. fs ++ map (finding F13) beside) first
     ∙ ap (λ xs. (old ++ map (finding F13) held) ++ map (finding F13) xs) (packages ∙ storage)
     ∙ both old held (lost_beside preface c.resolved.inside.storage c.resolved.inside.packages))
     c.add_behind.ensures)

@@ -21,6 +21,5 @@ returns c =
     let all = unreadable_offsets (sets_of s.catalogue.now s.partition) in
     same_bool c.is_among.result (is_unreadable n)
     (λ t. there.0 (subst (λ (o : ℕ). In o all) at (subst (λ (l : List ℕ). In c.offset.result l) offsets
-    (c.is_among.ensures.0 t))))
-    (λ t. c.is_among.ensures.1 (subst (λ (l : List ℕ). In c.offset.result l) (sym offsets)
+    (c.is_among.ensures.0 t)))) (λ t. c.is_among.ensures.1 (subst (λ (l : List ℕ). In c.offset.result l) (sym offsets)
     (subst (λ (o : ℕ). In o all) (sym at) (there.1 t))))

@@ -14,8 +14,7 @@ copied : (items all : List BytesAt) (i position count : ℕ) (b : BytesAt) (back
 copied items all i position count b back front rest same within is from part len = (
   source_of b,
   drop count back,
-  ap (λ (xs : List BytesAt). slice_get (sources_of xs) i) (sym same)
-      ∙ slice_get-map source_of all i
+  ap (λ (xs : List BytesAt). slice_get (sources_of xs) i) (sym same) ∙ slice_get-map source_of all i
       ∙ ap (option_map source_of) (slice_get_read all (length all) i b refl within is),
   sym from ∙ sym (take-append-drop count back) ∙ ap (λ (t : List ℕ). t ++ drop count back) (sym part)
       ∙ ap (λ (t : List ℕ). t ++ drop count back) (sym (take_at front rest count len)),

@@ -8,6 +8,5 @@ returns c =
     let a = front_of c.self.inside.kept in
     let b = front_of c.other.inside.kept in search (
       rules,
-      cmp-tails a.key b.key c.self.invariant.label
-          c.other.invariant.label,
+      cmp-tails a.key b.key c.self.invariant.label c.other.invariant.label,
     )

@@ -10,8 +10,7 @@ returns-in_default c =
     elim c.if-begins_as_label.branch [
       | then-begins_as_label w ↦ rw w.result-is
           (head_short c.args.bytes.now short (c.begins_as_label.ensures.0 w.if-begins_as_label.true))
-      | else-begins_as_label w ↦ rw w.result-is
-          (head_not_ul c.args.bytes.now
+      | else-begins_as_label w ↦ rw w.result-is (head_not_ul c.args.bytes.now
           (λ h. let t = c.begins_as_label.ensures.1 h in let f = w.if-begins_as_label.false in cc))
     ]
 
@@ -19,8 +18,7 @@ pub returns-in_err-ber : goal.returns-in_err-ber
 returns-in_err-ber c =
     let p = err_from_is_err_and c.from_residual.result c.from_residual.ensures.1 in
     let k = c.in-Some.ensures.cases in
-    rw (p.1, p.2)
-    (head_fault c.args.bytes.now c.in-Some.start.now c.in-Some.rest.now c.in_err-ber.field-0.0 k.0 k.1 k.2
+    rw (p.1, p.2) (head_fault c.args.bytes.now c.in-Some.start.now c.in-Some.rest.now c.in_err-ber.field-0.0 k.0 k.1 k.2
     c.in-Some-from_bytes.ensures.0 c.in_err-ber.ensures)
 
 pub returns : goal.returns

@@ -5,8 +5,7 @@ use Rattle.mxf_klv.proofs.writing.progress.Progress.put.Given as goal
 abbrev pub invariant-loop-rest : goal.invariant-loop-rest
 invariant-loop-rest g l =
     (done : List ℕ) × (l.initial.rest ≡ done ++ l.rest) × Appends (g.W.Write.contents l.initial.writer)
-    (g.W.Write.contents l.writer) done
-    × (l.self.written ≡ counted (l.initial.self.written + length done)) ×
+    (g.W.Write.contents l.writer) done × (l.self.written ≡ counted (l.initial.self.written + length done)) ×
     (l.initial.self.interruptions ≤ l.self.interruptions)
 
 abbrev pub decreases-loop-rest : goal.decreases-loop-rest

@@ -16,8 +16,7 @@ pub returns-clause-lines : goal.returns-clause-lines
 returns-clause-lines g c =
     let renewed = c.args.self.renewed.now in
     let last : PrintedLine = renewed_line c.args.self.is_saved (length renewed.catalogue)
-    (length (disputed_notes renewed.catalogue))
-    (length renewed.dropped) in
+    (length (disputed_notes renewed.catalogue)) (length renewed.dropped) in
     let each = λ (n : NoteParts). dropped_line n ∷ [] in
     let same = sym (flat_map-map each (λ (d : DroppedNote). d.note.now) c.as_slice.result.now)
     ∙ ap (flat_map each) c.as_slice.ensures in

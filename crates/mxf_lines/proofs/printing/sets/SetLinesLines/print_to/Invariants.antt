@@ -9,5 +9,4 @@ invariant-each g l =
     let content = l.fn.self.0.now in
     Leads l.initial.printer.fields.form (g.W.Write.contents l.initial.writer) l.initial.printer.progress.written
     (flat_map (set_lines content) (clear_notes content)) l.printer.fields.form (g.W.Write.contents l.writer)
-    l.printer.progress.written (flat_map (set_lines content) l.note-iterator)
-    × AreLabelsIn content l.labels
+    l.printer.progress.written (flat_map (set_lines content) l.note-iterator) × AreLabelsIn content l.labels

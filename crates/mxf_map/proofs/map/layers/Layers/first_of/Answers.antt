@@ -13,6 +13,5 @@ returns-then-says c =
     c.loop-mark-test.true c.loop-mark.invariant (c.says.ensures.0 c.if-says.true)
 
 pub returns : goal.returns
-returns c =
-    none_found c.args.self.now c.args.from c.args.to c.loop-mark.mark-index c.args.marks.now c.requires
+returns c = none_found c.args.self.now c.args.from c.args.to c.loop-mark.mark-index c.args.marks.now c.requires
     c.loop-mark-test.false c.loop-mark.invariant

@@ -22,8 +22,7 @@ returns-in-Header c =
 pub returns-in-Footer : goal.returns-in-Footer
 returns-in-Footer c =
     told (known c.self.inside) _ c.args.from c.args.to _ marks.Footer c.meets-in-Footer.result c.self.view_is
-    c.in-Footer.is
-    (partition_met c.self.inside.holdings c.args.from c.args.to parts.Footer c.self.inside.footers
+    c.in-Footer.is (partition_met c.self.inside.holdings c.args.from c.args.to parts.Footer c.self.inside.footers
     c.meets-in-Footer.result c.self.invariant.footers_are c.meets-in-Footer.ensures)
 
 pub returns-in-Body : goal.returns-in-Body
@@ -62,20 +61,17 @@ returns-else-not-is_any_held c =
     c.if-not-is_any_held.false)
 
 pub returns-in-Empty : goal.returns-in-Empty
-returns-in-Empty c =
-    told (known c.self.inside) _ c.args.from c.args.to _ marks.Empty _ c.self.view_is c.in-Empty.is
+returns-in-Empty c = told (known c.self.inside) _ c.args.from c.args.to _ marks.Empty _ c.self.view_is c.in-Empty.is
     (none_held (known c.self.inside) c.args.from c.args.to c.is_any_held-in-Empty.result c.is_any_held-in-Empty.ensures)
 
 pub returns-in-Part : goal.returns-in-Part
-returns-in-Part c =
-    told (known c.self.inside) _ c.args.from c.args.to _ marks.Part _ c.self.view_is c.in-Part.is
+returns-in-Part c = told (known c.self.inside) _ c.args.from c.args.to _ marks.Part _ c.self.view_is c.in-Part.is
     (some_lacks (known c.self.inside) c.args.from c.args.to c.are_all_held.result c.are_all_held.ensures)
 
 pub returns-in-Metadata : goal.returns-in-Metadata
 returns-in-Metadata c =
     told (known c.self.inside) _ c.args.from c.args.to _ marks.Metadata c.meets-in-Metadata.result c.self.view_is
-    c.in-Metadata.is
-    (zone_met c.self.inside.holdings c.args.from c.args.to zones.Metadata c.self.inside.metadata
+    c.in-Metadata.is (zone_met c.self.inside.holdings c.args.from c.args.to zones.Metadata c.self.inside.metadata
     c.meets-in-Metadata.result c.self.invariant.metadata_is c.meets-in-Metadata.ensures)
 
 pub returns-in-Index : goal.returns-in-Index

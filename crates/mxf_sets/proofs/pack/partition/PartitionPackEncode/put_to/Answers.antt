@@ -17,16 +17,14 @@ returns-in_err-put-2 g c =
     let p = err_from_is_err_and c.from_residual-in_err-put-2.result c.from_residual-in_err-put-2.ensures.1 in
     let numbers = numbers_bytes c.self.inside.numbers in
     let labels = batch_bytes c.self.inside.containers in
-    rw (p.1, p.2, ← c.self.view_is)
-    (Stops-second _ _ _ _ _ _ _ _ numbers c.self.inside.pattern labels refl
+    rw (p.1, p.2, ← c.self.view_is) (Stops-second _ _ _ _ _ _ _ _ numbers c.self.inside.pattern labels refl
     (rw c.to_bytes.ensures.bytes at c.in_ok-put.ensures.written) c.in_err-put-2.ensures.written)
 
 pub returns : goal.returns
 returns g c =
     let numbers = numbers_bytes c.self.inside.numbers in
     let labels = batch_bytes c.self.inside.containers in
-    rw (← c.self.view_is)
-    (WritesPart-second _ _ _ _ _ _ _ _ numbers (c.self.inside.pattern ++ labels) refl
+    rw (← c.self.view_is) (WritesPart-second _ _ _ _ _ _ _ _ numbers (c.self.inside.pattern ++ labels) refl
     (rw c.to_bytes.ensures.bytes at c.in_ok-put.ensures.written)
     (WritesPart-second _ _ _ _ _ _ _ _ c.self.inside.pattern labels refl
     c.in_ok-put-2.ensures.written c.put_to.ensures))

@@ -12,8 +12,6 @@ returns c =
     record {
       partition = ap partition_in of ∙ is.partition ∙ ap (option_and_then kept_partition) at;
       segment = ap segment_in of ∙ is.segment ∙ ap (option_and_then kept_segment) at;
-      random_index_pack =
-          ap random_index_pack_in of ∙ is.rip ∙ ap (option_and_then kept_random_index_pack) at;
-      unreadable_pack =
-          ap unreadable_pack_in of ∙ is.unreadable ∙ ap (option_and_then kept_unreadable_pack) at;
+      random_index_pack = ap random_index_pack_in of ∙ is.rip ∙ ap (option_and_then kept_random_index_pack) at;
+      unreadable_pack = ap unreadable_pack_in of ∙ is.unreadable ∙ ap (option_and_then kept_unreadable_pack) at;
     }

@@ -33,9 +33,7 @@ prefaces_all c =
 
 covered_bound : (c : After-counts-above)
     → covered_of c.args.start c.args.bytes (clear_notes c.self.inside.catalogue.now) ≤ c.args.bytes
-covered_bound c =
-    covered_fits c.args.start c.args.bytes (clear_notes c.self.inside.catalogue.now)
-    c.laws.ensures.apart
+covered_bound c = covered_fits c.args.start c.args.bytes (clear_notes c.self.inside.catalogue.now) c.laws.ensures.apart
 
 prefaces_bound : (c : After-counts-above)
     → prefaces_of c.args.start c.args.bytes (clear_notes c.self.inside.catalogue.now) < 2 ^ 64

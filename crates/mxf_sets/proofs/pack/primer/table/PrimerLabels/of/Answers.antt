@@ -16,8 +16,7 @@ loop-entry-init c =
     (λ item. length item ≡ c.primer.inside.entries.size) xs) own
     c.items-entry-items.ensures.size in (
       subst (λ (xs : List (List ℕ)). IsTold c.new-labels.result.entries xs (batch_items c.args.primer.now))
-          (sym entries)
-          (told_none c.new-labels.result.entries c.args.primer.now c.new-labels.ensures.empty),
+          (sym entries) (told_none c.new-labels.result.entries c.args.primer.now c.new-labels.ensures.empty),
       subst (λ (xs : List (List ℕ)). AllByRecursion (λ entry. length entry ≡ 18) xs)
           (sym (c.into_iter-entry-iterator.ensures.into_iter_gives ∙ own))
           (entries_wide c.primer.inside.entries c.primer.invariant wide),

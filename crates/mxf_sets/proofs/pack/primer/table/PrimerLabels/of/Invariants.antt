@@ -4,6 +4,5 @@ use Rattle.mxf_sets.proofs.TableLaws.{IsTold}
 use Rattle.mxf_sets.proofs.pack.primer.table.PrimerLabels.of.Given as goal
 
 abbrev pub invariant-loop-entry : goal.invariant-loop-entry
-invariant-loop-entry l =
-    IsTold l.labels.entries l.entry-iterator (batch_items l.fn.primer)
+invariant-loop-entry l = IsTold l.labels.entries l.entry-iterator (batch_items l.fn.primer)
     × AllByRecursion (λ entry. length entry ≡ 18) l.entry-iterator
