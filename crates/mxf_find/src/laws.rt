@@ -26,8 +26,8 @@ pub fn one_most_voted()
     ensures { (votes : List ℕ) (a b : ℕ) → IsMostVoted votes a → IsMostVoted votes b → a ≡ b }
 {}
 
-/// A law of [`Match`](crate::Match): its offset is that of a note of the recording less the place of the fragment's note
-/// that votes by it.
+/// A law of [`Match`](crate::Match): its offset is that of a note of the recording less the place of the fragment's
+/// note that votes by it.
 pub fn shifts_are_offsets()
     ensures { (f : FragmentParts) (p n : NoteParts) → place f p ≤ greatest_end
         → offset_of (shift f p n) ≡ pos n.offset -ℤ pos (place f p) }

@@ -4,8 +4,8 @@ ghost use Rattle.std.specs.List.Sorted.{IsNonDecreasingBy};
 ghost use Rattle.mxf_klv.specs.Parts.{NoteParts};
 ghost use Rattle.mxf_read.specs.declared.gathering.report.PieceReport.{PieceReport};
 ghost use Rattle.mxf_hand.specs.declared.given.Extent.{Extent};
-ghost use Rattle.mxf_hand.specs.Settling.{IsWholeStop, begins_whole, disputed_starts, is_all_held};
-ghost use Rattle.mxf_hand.specs.Settling.{is_source_held, is_whole_stop, settled};
+ghost use Rattle.mxf_hand.specs.Settling.{IsWholeStop, begins_whole, disputed_starts, is_all_held, is_source_held};
+ghost use Rattle.mxf_hand.specs.Settling.{is_whole_stop, settled};
 
 use crate::given::Extent;
 use mxf_catalogue::{Catalogue, Disputed};

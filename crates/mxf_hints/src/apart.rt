@@ -12,8 +12,8 @@ use std::fmt;
 use std::rt::Files;
 
 /// Tells what of the sources doesn't go together: those that begin elsewhere by their partition packs, a second header
-/// partition, those that begin elsewhere by the packet before them or by the end of the recording. Whether it is left to
-/// tell that packets of several sources are disputed.
+/// partition, those that begin elsewhere by the packet before them or by the end of the recording. Whether it is left
+/// to tell that packets of several sources are disputed.
 pub fn tell_apart<R: Files + Eprint + AllocGlobal>(
     rt: &R,
     sources: &[Source<'_>],

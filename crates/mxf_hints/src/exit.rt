@@ -12,8 +12,8 @@ pub enum Exit {
     /// All was printed; also help.
     Done,
     /// All was printed, and something was found: a finding, or a piece that doesn't end with a packet; something to
-    /// restore; a strict join or renewal with bytes after a stop or disputed notes; an edit unit without a place or with
-    /// several, or one that is neither held whole nor at hand; a disputed note; a packet that differs, or not all
+    /// restore; a strict join or renewal with bytes after a stop or disputed notes; an edit unit without a place or
+    /// with several, or one that is neither held whole nor at hand; a disputed note; a packet that differs, or not all
     /// verified that is asked for; a fragment that isn't found in one recording alone. Or nothing was saved, since no
     /// note is to be kept, or the renewal is by another recording.
     Found,

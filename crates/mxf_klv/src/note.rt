@@ -1,13 +1,12 @@
 //! Notes: what is known of a packet at an offset (this project's profile).
-ghost use Rattle.std.specs.Prelude.{◌≡◌, ◌↔◌, ◌+◌, ◌<◌, ◌≤◌, length, vec_len, true, false, not};
-ghost use Rattle.std.specs.Prelude.{IfOk, IfErr, IfSome, IfNone, IsOk, IsErr, IsTrue, IsErrOf};
+ghost use Rattle.std.specs.Prelude.{◌≡◌, ◌↔◌, ◌+◌, ◌<◌, ◌≤◌, length, vec_len, true, false, not, IfOk, IfErr, IfSome};
+ghost use Rattle.std.specs.Prelude.{IfNone, IsOk, IsErr, IsTrue, IsErrOf};
 ghost use Rattle.std.specs.Option.{SomeIff};
 ghost use Rattle.mxf_klv.specs.Parts.{CanSpell, NoteParts, head_parts, note_parts};
 ghost use Rattle.mxf_klv.specs.Kind.{kind_of};
 ghost use Rattle.mxf_klv.specs.Label.{IsLabel};
 ghost use Rattle.mxf_klv.specs.Note.{CanHead, CanNote, IsNote, greatest_end, keeps, keeps_of, keeps_value, covered_end};
-ghost use Rattle.mxf_klv.specs.Note.{end_of};
-ghost use Rattle.mxf_klv.specs.Note.{head_note, note_cmp, note_of};
+ghost use Rattle.mxf_klv.specs.Note.{end_of, head_note, note_cmp, note_of};
 ghost use Rattle.std.specs.Cmp.{IsTotalOrder};
 ghost use Rattle.std.specs.declared.cmp.Ordering.TheVariants.{Equal};
 ghost use Rattle.mxf_klv.specs.declared.note.NoteFault.TheVariants as faults;

@@ -1,7 +1,7 @@
 //! Searches in a list that rises by a key. How many elements lie below a bound is told by a look at the last, else by
 //! binary search.
-ghost use Rattle.std.specs.Prelude.{◌≡◌, ◌↔◌, ◌<◌, ◌≤◌, ◌&&◌, ℕ, IsTrue, true, filter, length, map, nat_le};
-ghost use Rattle.std.specs.Prelude.{false, nat_lt};
+ghost use Rattle.std.specs.Prelude.{◌≡◌, ◌↔◌, ◌<◌, ◌≤◌, ◌&&◌, ℕ, IsTrue, true, filter, length, map, nat_le, false};
+ghost use Rattle.std.specs.Prelude.{nat_lt};
 ghost use Rattle.std.specs.List.{AllWithin};
 ghost use Rattle.std.specs.List.Sorted.{IsNonDecreasingBy};
 ghost use Rattle.std.specs.Option.{option_map_or};

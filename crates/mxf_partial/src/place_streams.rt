@@ -2,8 +2,8 @@
 ghost use Rattle.std.specs.Prelude.{◌≡◌, ◌++◌, ◌≤◌, ◌^◌, IfOk, MatchOption, List, map};
 ghost use Rattle.mxf_klv.specs.Parts.{NoteParts};
 ghost use Rattle.mxf_views.specs.Partitions.{partitions_of};
-ghost use Rattle.mxf_partial.specs.NearTable.{AreListed, AreOfStreams, IsOfNoStream, IsOfStreams, named_of};
-ghost use Rattle.mxf_partial.specs.NearTable.{entry_of, partition_place, rank};
+ghost use Rattle.mxf_partial.specs.NearTable.{AreListed, AreOfStreams, IsOfNoStream, IsOfStreams, named_of, entry_of};
+ghost use Rattle.mxf_partial.specs.NearTable.{partition_place, rank};
 
 use crate::in_streams::{Bound, InStream, first_from, last_below};
 use mxf_klv::{OutOfMemory, sort_once};

@@ -208,6 +208,7 @@ pub fn claims_in_order()
         → (claim_at notes x ≡ None) ↔ ((c : Claim) → IsClaim notes c → ¬ SpeaksOf c x) }
 
     // What no pack says goes after all claims.
-    ensures gap { (notes : List NoteParts) (c : Claim) → IsClaim notes c → reason_rank c.reason < reason_rank Reason.Gap }
+    ensures gap { (notes : List NoteParts) (c : Claim) → IsClaim notes c
+        → reason_rank c.reason < reason_rank Reason.Gap }
     ensures names { (c : Claim) (x : ℕ) → (named_place c ≡ Some x) ↔ Names c x }
 {}

@@ -1,6 +1,6 @@
 //! Noting the packets of a piece, of bytes at hand or from a reader.
-ghost use Rattle.std.specs.Prelude.{◌≡◌, ◌≢◌, ◌+◌, ◌-◌, ◌<◌, ◌≤◌, ◌++◌, ℕ, List, [], drop, take, length};
-ghost use Rattle.std.specs.Prelude.{IfOk, IfErr, IfSome, Ok, OnOk, OnErr};
+ghost use Rattle.std.specs.Prelude.{◌≡◌, ◌≢◌, ◌+◌, ◌-◌, ◌<◌, ◌≤◌, ◌++◌, ℕ, List, [], drop, take, length, IfOk, IfErr};
+ghost use Rattle.std.specs.Prelude.{IfSome, Ok, OnOk, OnErr};
 ghost use Rattle.mxf_klv.specs.Note.{end_of, greatest_end, note_of};
 ghost use Rattle.mxf_klv.specs.Parts.{NoteParts};
 ghost use Rattle.mxf_klv.specs.PieceReading.{heads_at, notes_in, packets_in, stop_in};

@@ -9,9 +9,9 @@ ghost use Rattle.mxf_read.specs.Absorbs.{report_of};
 ghost use Rattle.mxf_read.specs.Ranges.{LeavesTheRest, no_start, range_notes, range_report};
 ghost use Rattle.mxf_read.specs.Reads.{Takes};
 ghost use Rattle.std.specs.List.{AllByRecursion};
-ghost use Rattle.mxf_read.specs.Gathering.{AllTell, HandedBy, HasFault, IsGatherFault, IsGood, IsLeftBy};
-ghost use Rattle.mxf_read.specs.Gathering.{IsOfAnyPart, IsSavedAs, IsSavedFault, LeavesOfPart, TakesPart, Tells};
-ghost use Rattle.mxf_read.specs.Gathering.{piece_limit, reports_of, saved_limit};
+ghost use Rattle.mxf_read.specs.Gathering.{AllTell, HandedBy, HasFault, IsGatherFault, IsGood, IsLeftBy, IsOfAnyPart};
+ghost use Rattle.mxf_read.specs.Gathering.{IsSavedAs, IsSavedFault, LeavesOfPart, TakesPart, Tells, piece_limit};
+ghost use Rattle.mxf_read.specs.Gathering.{reports_of, saved_limit};
 
 mod fault;
 mod levels;

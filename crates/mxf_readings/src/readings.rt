@@ -1,6 +1,6 @@
 //! Which source of a recording holds which note.
-ghost use Rattle.std.specs.Prelude.{◌≡◌, ◌≢◌, ◌↔◌, ◌≤◌, ◌==◌, ◌++◌, ℕ, [], List, count_by, drop, length, take};
-ghost use Rattle.std.specs.Prelude.{IfNone, IfOk, IfSome, IsTrue};
+ghost use Rattle.std.specs.Prelude.{◌≡◌, ◌≢◌, ◌↔◌, ◌≤◌, ◌==◌, ◌++◌, ℕ, [], List, count_by, drop, length, take, IfNone};
+ghost use Rattle.std.specs.Prelude.{IfOk, IfSome, IsTrue};
 ghost use Rattle.std.specs.List.{AllByRecursion};
 ghost use Rattle.std.specs.List.Sorted.{IsNonDecreasing};
 ghost use Rattle.std.specs.Ordering.{nat_cmp};

@@ -1,6 +1,6 @@
 //! What is ordered of each section of a hole.
-ghost use Rattle.std.specs.Prelude.{◌≡◌, ◌↔◌, ◌++◌, List, Some, false, true, filter, flat_map, map, max, nat_lt};
-ghost use Rattle.std.specs.Prelude.{IfOk, OnOk};
+ghost use Rattle.std.specs.Prelude.{◌≡◌, ◌↔◌, ◌++◌, List, Some, false, true, filter, flat_map, map, max, nat_lt, IfOk};
+ghost use Rattle.std.specs.Prelude.{OnOk};
 ghost use Rattle.std.specs.Option.{option_map, option_map_or};
 ghost use Rattle.mxf_places.specs.AtHand.{AtHandParts, has_offset, has_offsets, up_to_bound};
 ghost use Rattle.mxf_places.specs.Claims.{claim_at, claims_of};

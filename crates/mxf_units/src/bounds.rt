@@ -7,7 +7,8 @@ ghost use Rattle.mxf_klv.specs.Rising.{IsRising, union};
 ghost use Rattle.mxf_views.specs.Partitions.{partitions_of, previous_of};
 ghost use Rattle.mxf_views.specs.RandomIndexView.{rip_view_of};
 ghost use Rattle.mxf_places.specs.Held.{end_of_file};
-ghost use Rattle.mxf_units.specs.EssenceZones.{bounds_of, is_one, is_open_place, names_before, open_place, rip_place_by};
+ghost use Rattle.mxf_units.specs.EssenceZones.{bounds_of, is_one, is_open_place, names_before, open_place};
+ghost use Rattle.mxf_units.specs.EssenceZones.{rip_place_by};
 ghost use Rattle.mxf_units.specs.Streams.{least_above};
 
 use mxf_klv::{OutOfMemory, sort_once, up_to};

@@ -2,7 +2,8 @@
 ghost use Rattle.std.specs.Prelude.{◌≡◌, ◌+◌, ◌*◌, ◌^◌, ◌<◌, ◌≤◌, IfOk, IfSome, List};
 ghost use Rattle.std.specs.List.{AllByRecursion, filter_map};
 ghost use Rattle.std.specs.Option.{option_and_then};
-ghost use Rattle.mxf_units.specs.NextPlaces.{AreSized, constant_units, end_number, first_number, number_of, place_above};
+ghost use Rattle.mxf_units.specs.NextPlaces.{AreSized, constant_units, end_number, first_number, number_of};
+ghost use Rattle.mxf_units.specs.NextPlaces.{place_above};
 ghost use Rattle.mxf_units.specs.Streams.{offset_above};
 
 use crate::intervals::Interval;

@@ -10,9 +10,8 @@ ghost use Rattle.mxf_views.specs.RandomIndexView.{rip_view_of};
 ghost use Rattle.mxf_places.specs.Held.{end_of_file};
 ghost use Rattle.mxf_units.specs.Streams.{in_order, next_of, places_above};
 ghost use Rattle.mxf_units.specs.EssenceZones.{begins_inside, bounds_of, first_packet, is_clip_wrapped, is_one};
-ghost use Rattle.mxf_units.specs.EssenceZones.{is_sure, limit_of};
+ghost use Rattle.mxf_units.specs.EssenceZones.{is_sure, limit_of, rip_place_by, zone_by, zone_of};
 ghost use Rattle.mxf_units.specs.declared.essence_zone.EssenceZone.{EssenceZone};
-ghost use Rattle.mxf_units.specs.EssenceZones.{rip_place_by, zone_by, zone_of};
 
 pub(crate) mod part;
 

@@ -1,6 +1,5 @@
 //! The last edit unit of an index (ST 377-1, Index Table Segment).
-ghost use Rattle.std.specs.Prelude.{◌≡◌, ◌+◌, ◌^◌, ◌<◌, ◌≤◌, ◌↔◌, ℕ, IsTrue, List, MatchOption};
-ghost use Rattle.std.specs.Prelude.{unsigned_abs};
+ghost use Rattle.std.specs.Prelude.{◌≡◌, ◌+◌, ◌^◌, ◌<◌, ◌≤◌, ◌↔◌, ℕ, IsTrue, List, MatchOption, unsigned_abs};
 ghost use Rattle.mxf_klv.specs.Parts.{NoteParts};
 ghost use Rattle.mxf_units.specs.LastUnits.{GivesPlace, HasNoLastUnit, IsEndless, IsLastUnit, IsLastWith, NoneWith};
 

@@ -3,9 +3,8 @@ ghost use Rattle.std.specs.Prelude.{◌≡◌, ◌↔◌, ◌+◌, ◌++◌, ◌
 ghost use Rattle.std.specs.List.{AllByRecursion, filter_map, flat_map};
 ghost use Rattle.mxf_klv.specs.Rising.{In};
 ghost use Rattle.mxf_klv.specs.Parts.{NoteParts};
-ghost use Rattle.mxf_views.specs.Places.{SegmentAtParts, segments_of};
+ghost use Rattle.mxf_views.specs.Places.{SegmentAtParts, segments_of, place_in};
 ghost use Rattle.mxf_units.specs.Streams.{IsNextOf, IsSmall, entry_of, in_order, listed_in, next_of, place_of};
-ghost use Rattle.mxf_views.specs.Places.{place_in};
 ghost use Rattle.mxf_units.specs.Streams.{is_other_entry, is_other_place, is_same_place, places_above, segments_for};
 ghost use Rattle.mxf_units.specs.Streams.{gives, is_given, sized_above};
 

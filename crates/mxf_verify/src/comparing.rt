@@ -1,8 +1,8 @@
 //! What notes of two readings say of each other.
 ghost use Rattle.std.specs.Prelude.{◌↔◌, IsTrue};
 ghost use Rattle.mxf_klv.specs.Parts.{NoteParts};
-ghost use Rattle.mxf_verify.specs.Comparing.{Contradicts, IsHeadOf, SharesHeldByte};
-ghost use Rattle.mxf_verify.specs.Comparing.{contradicts, is_head_of, is_held_byte_shared};
+ghost use Rattle.mxf_verify.specs.Comparing.{Contradicts, IsHeadOf, SharesHeldByte, contradicts, is_head_of};
+ghost use Rattle.mxf_verify.specs.Comparing.{is_held_byte_shared};
 
 /// A law: the tests of two notes say what the relations say.
 pub fn contradictions_by_definition()

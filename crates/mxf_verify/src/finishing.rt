@@ -163,7 +163,8 @@ fn bytes_told(
 
 /// The offsets of a cover that lie in neither of two others.
 fn left_of(alloc: Global, all: &Cover, some: &Cover, others: &Cover) -> Result<Cover, OutOfMemory>
-    ensures { IfOk result (λ c. (at : ℕ) → LiesIn c at ↔ (LiesIn all.now at × ¬ LiesIn some.now at × ¬ LiesIn others.now at)) }
+    ensures { IfOk result (λ c. (at : ℕ) → LiesIn c at ↔ (LiesIn all.now at × ¬ LiesIn some.now at
+        × ¬ LiesIn others.now at)) }
 {
     let left = rest_of(alloc, all, some)?;
     rest_of(alloc, &left, others)

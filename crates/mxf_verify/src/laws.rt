@@ -11,11 +11,12 @@ ghost use Rattle.mxf_klv.specs.declared.piece.Stop.TheVariants as stops;
 ghost use Rattle.mxf_catalogue.specs.Content.{AreReduced, IsCatalogue, reduced_union};
 ghost use Rattle.mxf_catalogue.specs.Runs.{LiesIn};
 ghost use Rattle.mxf_readings.specs.Readings.{all_notes};
-ghost use Rattle.mxf_verify.specs.VerificationLaws.{AreAllClear, AreOneByteApart, HasNoEmptyHead, IsWholeReference, SaysSame, SaysWhole};
+ghost use Rattle.mxf_verify.specs.VerificationLaws.{AreAllClear, AreOneByteApart, HasNoEmptyHead, IsWholeReference};
+ghost use Rattle.mxf_verify.specs.VerificationLaws.{SaysSame, SaysWhole};
 ghost use Rattle.mxf_verify.specs.Verifications.{DifferingParts, IsVerification, VerificationParts};
-ghost use Rattle.mxf_verify.specs.Verifying.{IsSaidBy, front_size, held_size, is_digested};
-ghost use Rattle.mxf_verify.specs.Verifying.{DiffersIn, IsAmong, IsCut, IsDiffering, IsHeldBy, IsSameIn, IsUnknownByte};
-ghost use Rattle.mxf_verify.specs.Verifying.{IsUnverifiedByte, IsVerified, Source, Bytes, Saved};
+ghost use Rattle.mxf_verify.specs.Verifying.{IsSaidBy, front_size, held_size, is_digested, DiffersIn, IsAmong, IsCut};
+ghost use Rattle.mxf_verify.specs.Verifying.{IsDiffering, IsHeldBy, IsSameIn, IsUnknownByte, IsUnverifiedByte};
+ghost use Rattle.mxf_verify.specs.Verifying.{IsVerified, Source, Bytes, Saved};
 
 pub use crate::comparing::contradictions_by_definition;
 pub use crate::fixity::one_fixity;

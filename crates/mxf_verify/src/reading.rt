@@ -1,5 +1,5 @@
 //! Reading a source by the notes of a reference.
-ghost use Rattle.std.specs.Prelude.{◌≡◌, ◌+◌, ◌<◌, ◌≤◌, [], ℕ, length, List, OnOk};
+ghost use Rattle.std.specs.Prelude.{◌≡◌, ◌+◌, ◌<◌, ◌≤◌, [], ℕ, length, List, OnOk, IsTrue};
 ghost use Rattle.mxf_klv.specs.Note.{greatest_end};
 ghost use Rattle.std.specs.Str.{bytes_eq};
 ghost use Rattle.sha2.specs.Hashers.{Holds256};
@@ -7,7 +7,6 @@ ghost use Rattle.sha2.specs.Sha256.{sha256};
 ghost use Rattle.std.specs.List.Sorted.{IsNonDecreasingBy};
 ghost use Rattle.mxf_verify.specs.Candidates.{offset_of};
 ghost use Rattle.mxf_verify.specs.Verifying.{is_digested};
-ghost use Rattle.std.specs.Prelude.{IsTrue};
 ghost use Rattle.mxf_read.specs.declared.gathering.fault.PartFault.TheVariants as faults;
 
 use crate::candidate::Candidate;

@@ -67,7 +67,8 @@ impl<'a> Reference<'a> {
         limit: u64,
     ) -> Result<Compared<'a>, PartFault>
         requires { offset ≤ greatest_end }
-        ensures compared { IfOk result (λ c. IfSome (R.remaining from.old) (λ bytes. (all : List Candidate) × AreCandidates self.now all
+        ensures compared { IfOk result (λ c. IfSome (R.remaining from.old) (λ bytes. (all : List Candidate)
+            × AreCandidates self.now all
             × ComparesBytes all offset (offset + min limit (greatest_end - offset))
             (take (min limit (greatest_end - offset)) bytes) c)) }
         ensures within { IfOk result (λ c. c.end ≤ greatest_end) }

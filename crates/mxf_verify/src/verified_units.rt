@@ -1,6 +1,6 @@
 //! The edit units of a reference beside sources.
-ghost use Rattle.std.specs.Prelude.{◌≡◌, ◌↔◌, ◌+◌, ◌++◌, ◌<◌, ◌≤◌, ◌^◌, ℕ, [], IfOk, IsTrue, List, OnOk};
-ghost use Rattle.std.specs.Prelude.{Option, filter};
+ghost use Rattle.std.specs.Prelude.{◌≡◌, ◌↔◌, ◌+◌, ◌++◌, ◌<◌, ◌≤◌, ◌^◌, ℕ, [], IfOk, IsTrue, List, OnOk, Option};
+ghost use Rattle.std.specs.Prelude.{filter};
 ghost use Rattle.std.specs.List.{cons_option};
 ghost use Rattle.mxf_klv.specs.Parts.{NoteParts};
 ghost use Rattle.mxf_klv.specs.Rising.{In, SameMembers};
@@ -9,11 +9,10 @@ ghost use Rattle.mxf_catalogue.specs.declared.run.Run.{Run};
 ghost use Rattle.mxf_units.specs.Units.{UnitsParts, unit_of};
 ghost use Rattle.mxf_verify.specs.Fixities.{AreUnitRuns, AreUnitsOf, AreVerifiedUnits, HasEachByte, IsFixityIn};
 ghost use Rattle.mxf_verify.specs.Fixities.{IsFixityOf, LiesWholeIn, Meets, VerifiedUnitsParts, is_verified, place_of};
-ghost use Rattle.mxf_verify.specs.Fixities.{places_of};
+ghost use Rattle.mxf_verify.specs.Fixities.{places_of, units_in};
 ghost use Rattle.mxf_verify.specs.Verifications.{IsVerification, VerificationParts};
 ghost use Rattle.mxf_verify.specs.Verifying.{IsVerifiedByte, Source};
 ghost use Rattle.mxf_verify.specs.declared.fixity.UnitFixity.TheVariants.{Verified};
-ghost use Rattle.mxf_verify.specs.Fixities.{units_in};
 ghost use Rattle.mxf_verify.specs.declared.unit_places.UnitPlace.{UnitPlace};
 ghost use Rattle.mxf_verify.specs.declared.unit_places.UnitSpan.{UnitSpan};
 ghost use Rattle.mxf_verify.specs.UnitRuns.{AreCounted, TakesUnit};

@@ -1,6 +1,7 @@
 //! A reference beside the parts of a run.
 ghost use Rattle.std.specs.Prelude.{◌≡◌, ◌+◌, ◌<◌, [], ◌∷◌, ℕ, IfErr, IfOk, IfSome, List, OnOk, length};
-ghost use Rattle.mxf_read.specs.Gathering.{AllTell, HandedBy, HasFault, IsGood, IsOfAnyPart, IsSavedFault, Tells, bytes_of};
+ghost use Rattle.mxf_read.specs.Gathering.{AllTell, HandedBy, HasFault, IsGood, IsOfAnyPart, IsSavedFault, Tells};
+ghost use Rattle.mxf_read.specs.Gathering.{bytes_of};
 ghost use Rattle.mxf_read.specs.declared.gathering.part.Part.TheVariants as parts;
 ghost use Rattle.mxf_views.specs.Headline.{IsTheRun};
 ghost use Rattle.mxf_verify.specs.Seen.{SeesNext};

@@ -9,13 +9,12 @@ ghost use Rattle.mxf_sets.specs.Batch.{BatchParts};
 ghost use Rattle.mxf_sets.specs.PackReadings.{primer_at};
 ghost use Rattle.mxf_sets.specs.Readable.{read_as};
 ghost use Rattle.mxf_klv.specs.Rising.{In};
-ghost use Rattle.mxf_views.specs.Copies.{CopiesRise, IsBest, IsCopy, IsPreferred, IsStart, copies_of};
+ghost use Rattle.mxf_views.specs.Copies.{CopiesRise, IsBest, IsCopy, IsPreferred, IsStart, copies_of, preferred_of};
+ghost use Rattle.mxf_views.specs.Copies.{is_candidate, is_above, rank, copies_among, copy_from, copy_of, covered_of};
+ghost use Rattle.mxf_views.specs.Copies.{has_metadata, is_readable_primer, start_of, zone_of, prefaces_of};
 ghost use Rattle.mxf_views.specs.declared.copy.CopyInfo.{CopyInfo};
 ghost use Rattle.std.specs.Iterator.{YieldsFirst, item_count};
 ghost use Rattle.mxf_catalogue.specs.Disputes.{clear_notes};
-ghost use Rattle.mxf_views.specs.Copies.{preferred_of, is_candidate, is_above, rank, copies_among, copy_from};
-ghost use Rattle.mxf_views.specs.Copies.{copy_of, covered_of, has_metadata, is_readable_primer, start_of, zone_of};
-ghost use Rattle.mxf_views.specs.Copies.{prefaces_of};
 
 pub(crate) mod sets;
 pub(crate) mod zone;

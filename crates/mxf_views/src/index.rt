@@ -6,9 +6,9 @@ ghost use Rattle.mxf_sets.specs.Segment.{segment_at};
 ghost use Rattle.mxf_sets.specs.Readable.{read_as};
 ghost use Rattle.mxf_catalogue.specs.Content.{IsContent};
 ghost use Rattle.std.specs.Iterator.{YieldsFirst, item_count};
-ghost use Rattle.mxf_views.specs.Places.{IsSegmentAt, SegmentAtParts, SegmentsRise, segments_of};
+ghost use Rattle.mxf_views.specs.Places.{IsSegmentAt, SegmentAtParts, SegmentsRise, segments_of, place_of};
+ghost use Rattle.mxf_views.specs.Places.{placed_segment, segment_by_kind};
 ghost use Rattle.mxf_views.specs.Kept.{kept_among, kept_segment};
-ghost use Rattle.mxf_views.specs.Places.{place_of, placed_segment, segment_by_kind};
 
 pub(crate) mod place;
 

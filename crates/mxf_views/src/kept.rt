@@ -5,9 +5,9 @@ ghost use Rattle.std.specs.List.{cons_option, filter_map};
 ghost use Rattle.std.specs.List.Sorted.{IsNonDecreasingBy};
 ghost use Rattle.mxf_klv.specs.Parts.{NoteParts};
 ghost use Rattle.mxf_catalogue.specs.Disputes.{clear_notes};
-ghost use Rattle.mxf_views.specs.Kept.{HasArrived, HasRoom, HasRoomForOne, IsAppended, IsLeft, is_kept, kept_in, kept_of};
-ghost use Rattle.mxf_views.specs.Kept.{kept_partition, kept_random_index_pack, kept_segment, kept_unreadable_pack};
-ghost use Rattle.mxf_views.specs.Kept.{nothing_kept, with_found};
+ghost use Rattle.mxf_views.specs.Kept.{HasArrived, HasRoom, HasRoomForOne, IsAppended, IsLeft, is_kept, kept_in};
+ghost use Rattle.mxf_views.specs.Kept.{kept_of, kept_partition, kept_random_index_pack, kept_segment};
+ghost use Rattle.mxf_views.specs.Kept.{kept_unreadable_pack, nothing_kept, with_found};
 ghost use Rattle.mxf_views.specs.KeptAbove.{IsUnionAt, clear_from};
 ghost use Rattle.mxf_views.specs.KeptNotes.{partition_in, random_index_pack_in, segment_in, unreadable_pack_in};
 

@@ -4,10 +4,10 @@ ghost use Rattle.mxf_sets.specs.PackReadings.{part_and_status};
 ghost use Rattle.mxf_klv.specs.Parts.{NoteParts};
 ghost use Rattle.mxf_klv.specs.Rising.{In};
 ghost use Rattle.mxf_catalogue.specs.Content.{IsContent};
-ghost use Rattle.mxf_views.specs.Partitions.{AreInOrder, IsPartition, PartitionParts, partitions_of};
+ghost use Rattle.mxf_views.specs.Partitions.{AreInOrder, IsPartition, PartitionParts, partitions_of, in_numbers};
+ghost use Rattle.mxf_views.specs.Partitions.{is_part, pack_of, partition_at};
 ghost use Rattle.std.specs.Iterator.{YieldsFirst, item_count};
 ghost use Rattle.mxf_views.specs.Kept.{kept_among, kept_partition};
-ghost use Rattle.mxf_views.specs.Partitions.{in_numbers, is_part, pack_of, partition_at};
 
 use crate::placed::NotesAt;
 use mxf_catalogue::Catalogue;

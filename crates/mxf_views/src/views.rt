@@ -1,6 +1,6 @@
 //! Views of a catalogue.
-ghost use Rattle.std.specs.Prelude.{◌≡◌, ◌≢◌, ◌↔◌, ◌==◌, ◌||◌, List, filter, map, not, ◌<◌, ◌^◌, find, length, count_by, []};
-ghost use Rattle.std.specs.Prelude.{IfErr, IfOk, OnOk, OnErr};
+ghost use Rattle.std.specs.Prelude.{◌≡◌, ◌≢◌, ◌↔◌, ◌==◌, ◌||◌, List, filter, map, not, ◌<◌, ◌^◌, find, length};
+ghost use Rattle.std.specs.Prelude.{count_by, [], IfErr, IfOk, OnOk, OnErr, ◌≤◌};
 ghost use Rattle.std.specs.List.{list_all};
 ghost use Rattle.std.specs.Option.{option_copied, option_map};
 ghost use Rattle.mxf_catalogue.specs.Disputes.{SharesByte, clear_notes};
@@ -14,7 +14,6 @@ ghost use Rattle.mxf_views.specs.Partitions.{in_numbers, is_footer, is_greatest,
 ghost use Rattle.mxf_views.specs.Gaps.{gaps_of};
 ghost use Rattle.mxf_views.specs.Copies.{copies_of, preferred_of, sets_of};
 ghost use Rattle.mxf_views.specs.Labels.{is_in_copy, primer_for, primer_of, primer_there};
-ghost use Rattle.std.specs.Prelude.{◌≤◌};
 ghost use Rattle.std.specs.Result.{OkIff};
 ghost use Rattle.mxf_views.specs.Places.{greatest_unit, place_of, segments_of, without_entries};
 ghost use Rattle.mxf_views.specs.RandomIndex.{rips_of};

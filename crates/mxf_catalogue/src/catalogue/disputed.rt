@@ -4,10 +4,9 @@ ghost use Rattle.std.specs.Iterator.{YieldsFirst, item_count};
 ghost use Rattle.mxf_klv.specs.Parts.{NoteParts};
 ghost use Rattle.mxf_klv.specs.Rising.{In};
 ghost use Rattle.mxf_catalogue.specs.Content.{IsContent};
-ghost use Rattle.mxf_catalogue.specs.Disputes.{SharesByte, SharesOffset, Overlaps, IsDisputed, IsClear};
-ghost use Rattle.mxf_catalogue.specs.Disputes.{DisputedParts, IsDisputedOf, disputed_parts};
-ghost use Rattle.mxf_catalogue.specs.Disputes.{is_byte_shared, is_offset_shared, is_overlapped, is_disputed};
-ghost use Rattle.mxf_catalogue.specs.Disputes.{disputed_notes};
+ghost use Rattle.mxf_catalogue.specs.Disputes.{SharesByte, SharesOffset, Overlaps, IsDisputed, IsClear, DisputedParts};
+ghost use Rattle.mxf_catalogue.specs.Disputes.{IsDisputedOf, disputed_parts, is_byte_shared, is_offset_shared};
+ghost use Rattle.mxf_catalogue.specs.Disputes.{is_overlapped, is_disputed, disputed_notes};
 ghost use Rattle.mxf_catalogue.specs.Reach.{StandsIn};
 
 use super::placing::starting_below;

@@ -1,6 +1,6 @@
 //! The file of a catalogue (this project's profile): versions 1 and 2 are read, version 2 is written.
-ghost use Rattle.std.specs.Prelude.{◌≡◌, ◌≢◌, ◌⊎◌, ◌++◌, ◌∷◌, ◌<◌, ◌^◌, ◌↔◌, [], ℕ, List, length, flat_map};
-ghost use Rattle.std.specs.Prelude.{IfErr, IfOk, IsTrue, Result, Ok, Err, Some, slice_get, true, false};
+ghost use Rattle.std.specs.Prelude.{◌≡◌, ◌≢◌, ◌⊎◌, ◌++◌, ◌∷◌, ◌<◌, ◌^◌, ◌↔◌, [], ℕ, List, length, flat_map, IfErr};
+ghost use Rattle.std.specs.Prelude.{IfOk, IsTrue, Result, Ok, Err, Some, slice_get, true, false};
 ghost use Rattle.mxf_klv.specs.Bytes.{AreBytes};
 ghost use Rattle.mxf_klv.specs.Parts.{NoteParts};
 ghost use Rattle.mxf_klv.specs.Rising.{In};

@@ -1,6 +1,6 @@
 //! The two parts of a content: its undisputed notes and its disputed ones.
-ghost use Rattle.std.specs.Prelude.{◌≡◌, ◌≢◌, ◌↔◌, ◌⊎◌, ◌++◌, ◌+◌, ◌<◌, ◌≤◌, ℕ, [], length, map, false};
-ghost use Rattle.std.specs.Prelude.{vec_len, vec_capacity, IsTrue, IfOk, OnOk};
+ghost use Rattle.std.specs.Prelude.{◌≡◌, ◌≢◌, ◌↔◌, ◌⊎◌, ◌++◌, ◌+◌, ◌<◌, ◌≤◌, ℕ, [], length, map, false, vec_len};
+ghost use Rattle.std.specs.Prelude.{vec_capacity, IsTrue, IfOk, OnOk};
 ghost use Rattle.mxf_klv.specs.Parts.{NoteParts};
 ghost use Rattle.mxf_klv.specs.Rising.{In};
 ghost use Rattle.mxf_klv.specs.Note.{end_of, head_note};
@@ -252,7 +252,8 @@ impl NoteLists {
     pub fn list_room(&self, alloc: Global) -> Result<Vec<Note>, AllocError>
         requires { AreInParts self.now }
         ensures empty { IfOk result (λ room. room.items ≡ []) }
-        ensures room { IfOk result (λ room. self.now.disputed.items ≢ [] → length (notes_of self.now) ≤ vec_capacity room) }
+        ensures room { IfOk result (λ room. self.now.disputed.items ≢ []
+            → length (notes_of self.now) ≤ vec_capacity room) }
     {
         if self.disputed.is_empty() {
             return Ok(Vec::new(alloc));

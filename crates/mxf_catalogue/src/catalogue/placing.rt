@@ -1,6 +1,6 @@
 //! Where notes stand in a content: at its end, or by binary search.
-ghost use Rattle.std.specs.Prelude.{◌≡◌, ◌≢◌, ◌↔◌, ◌+◌, ◌<◌, ◌≤◌, ◌++◌, ℕ, take, drop, filter, map, length};
-ghost use Rattle.std.specs.Prelude.{vec_len, vec_capacity, IsTrue, IfErr, IfNone, IfOk, IfSome, OnOk};
+ghost use Rattle.std.specs.Prelude.{◌≡◌, ◌≢◌, ◌↔◌, ◌+◌, ◌<◌, ◌≤◌, ◌++◌, ℕ, take, drop, filter, map, length, vec_len};
+ghost use Rattle.std.specs.Prelude.{vec_capacity, IsTrue, IfErr, IfNone, IfOk, IfSome, OnOk};
 ghost use Rattle.std.specs.List.{AllWithin};
 ghost use Rattle.mxf_klv.specs.Parts.{NoteParts};
 ghost use Rattle.mxf_klv.specs.Note.{end_of, head_note};

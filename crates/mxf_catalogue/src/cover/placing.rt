@@ -1,6 +1,6 @@
 //! Where offsets and runs stand among the runs of a cover: at its end, or by binary search.
-ghost use Rattle.std.specs.Prelude.{◌≡◌, ◌↔◌, ℕ, ◌+◌, ◌<◌, ◌≤◌, ◌++◌, ◌∷◌, take, drop, length};
-ghost use Rattle.std.specs.Prelude.{vec_len, vec_capacity, IsTrue, filter, nat_lt, true, false};
+ghost use Rattle.std.specs.Prelude.{◌≡◌, ◌↔◌, ℕ, ◌+◌, ◌<◌, ◌≤◌, ◌++◌, ◌∷◌, take, drop, length, vec_len, vec_capacity};
+ghost use Rattle.std.specs.Prelude.{IsTrue, filter, nat_lt, true, false};
 ghost use Rattle.std.specs.List.{AllWithin};
 ghost use Rattle.std.specs.Option.{option_map_or};
 ghost use Rattle.mxf_catalogue.specs.Covers.{IsCover, IsRun, is_between, spanned, with_run};

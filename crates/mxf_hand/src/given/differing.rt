@@ -4,8 +4,8 @@ ghost use Rattle.std.specs.List.{AllByRecursion};
 ghost use Rattle.std.specs.List.Sorted.{IsNonDecreasingBy, IsPermutation};
 ghost use Rattle.mxf_klv.specs.Note.{greatest_end};
 ghost use Rattle.mxf_catalogue.specs.Covers.{IsCover, union_of_runs};
-ghost use Rattle.mxf_hand.specs.Differing.{AreJoined, IsDifference, is_near, run_of_difference, with_all};
-ghost use Rattle.mxf_hand.specs.Differing.{with_bytes, with_near};
+ghost use Rattle.mxf_hand.specs.Differing.{AreJoined, IsDifference, is_near, run_of_difference, with_all, with_bytes};
+ghost use Rattle.mxf_hand.specs.Differing.{with_near};
 ghost use Rattle.mxf_hand.specs.declared.given.differing.Difference.{Difference};
 
 use mxf_catalogue::Cover;

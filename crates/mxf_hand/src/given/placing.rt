@@ -4,8 +4,8 @@ ghost use Rattle.std.specs.List.Sorted.{IsNonDecreasingBy, IsPermutation};
 ghost use Rattle.mxf_klv.specs.Rising.{In};
 ghost use Rattle.mxf_catalogue.specs.Covers.{IsCover, IsRun, union_of_runs};
 ghost use Rattle.mxf_catalogue.specs.Runs.{LiesIn};
-ghost use Rattle.mxf_hand.specs.Places.{AreSpans, LiesInExtent, overlaps_below, places_above, run_of};
-ghost use Rattle.mxf_hand.specs.Places.{some_place, spans_from};
+ghost use Rattle.mxf_hand.specs.Places.{AreSpans, LiesInExtent, overlaps_below, places_above, run_of, some_place};
+ghost use Rattle.mxf_hand.specs.Places.{spans_from};
 ghost use Rattle.mxf_hand.specs.declared.given.Extent.{Extent};
 ghost use Rattle.mxf_hand.specs.declared.given.Place.{Place};
 

@@ -3,8 +3,8 @@ ghost use Rattle.std.specs.Prelude.{◌≡◌, ◌+◌, ◌^◌, ◌<◌, ◌++�
 ghost use Rattle.mxf_klv.specs.Written.{Writes};
 ghost use Rattle.mxf_find.specs.declared.ranking.Ranked.{Ranked};
 ghost use Rattle.mxf_lines.specs.FindLines.{find_lines, find_status, found_line, found_lines, fragments_line, is_best};
-ghost use Rattle.mxf_lines.specs.FindLines.{match_fields};
-ghost use Rattle.mxf_lines.specs.FindLines.{is_found, recording_word, search_lines, searches_lines, unknown_line};
+ghost use Rattle.mxf_lines.specs.FindLines.{match_fields, is_found, recording_word, search_lines, searches_lines};
+ghost use Rattle.mxf_lines.specs.FindLines.{unknown_line};
 ghost use Rattle.std.specs.Fmt.{signed_decimal};
 ghost use Rattle.mxf_forms.specs.Forms.{digits};
 ghost use Rattle.mxf_lines.specs.Lines.{lines_where};

@@ -1,7 +1,6 @@
 //! What is held of a file, as a picture, and its lines.
 ghost use Rattle.std.specs.Prelude.{◌≡◌, ◌+◌, ◌-◌, ◌*◌, ◌/◌, ◌^◌, ◌<◌, ◌≤◌, ◌∷◌, ℕ, List, Some, decimal, flat_map};
-ghost use Rattle.std.specs.Prelude.{length};
-ghost use Rattle.std.specs.Prelude.{IfNone, IfOk, IfSome, ◌⊎◌};
+ghost use Rattle.std.specs.Prelude.{length, IfNone, IfOk, IfSome, ◌⊎◌};
 ghost use Rattle.mxf_klv.specs.Written.{Writes};
 ghost use Rattle.mxf_map.specs.Map.{IsMap, MapParts};
 ghost use Rattle.mxf_map.specs.declared.extent.MapExtent.{MapExtent};

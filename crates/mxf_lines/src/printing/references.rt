@@ -4,9 +4,9 @@ ghost use Rattle.mxf_klv.specs.Parts.{NoteParts};
 ghost use Rattle.mxf_klv.specs.Written.{Puts};
 ghost use Rattle.mxf_lines.specs.Lines.{lines_where};
 ghost use Rattle.mxf_lines.specs.Printing.{Prints};
-ghost use Rattle.mxf_lines.specs.ReferenceLines.{AreRecordsIn, IsAmong, IsNotAmong, found_record, lines_of_record, lines_of_reference};
-ghost use Rattle.mxf_lines.specs.ReferenceLines.{named_lines, owner_of, record_of, reference_line, reference_lines};
-ghost use Rattle.mxf_lines.specs.ReferenceLines.{target_fields};
+ghost use Rattle.mxf_lines.specs.ReferenceLines.{AreRecordsIn, IsAmong, IsNotAmong, found_record, lines_of_record};
+ghost use Rattle.mxf_lines.specs.ReferenceLines.{lines_of_reference, named_lines, owner_of, record_of, reference_line};
+ghost use Rattle.mxf_lines.specs.ReferenceLines.{reference_lines, target_fields};
 ghost use Rattle.mxf_forms.specs.Writing.{with_fields};
 ghost use Rattle.mxf_lines.specs.declared.printing.line.record.Named.{Named};
 

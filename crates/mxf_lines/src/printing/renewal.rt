@@ -3,8 +3,7 @@ ghost use Rattle.std.specs.Prelude.{◌≡◌, length};
 ghost use Rattle.mxf_catalogue.specs.Disputes.{disputed_notes};
 ghost use Rattle.mxf_klv.specs.Written.{Writes};
 ghost use Rattle.mxf_lines.specs.Printing.{Prints};
-ghost use Rattle.mxf_lines.specs.RenewalLines.{dropped_line, renewal_lines, renewed_line, renewed_name};
-ghost use Rattle.mxf_lines.specs.RenewalLines.{renewed_words};
+ghost use Rattle.mxf_lines.specs.RenewalLines.{dropped_line, renewal_lines, renewed_line, renewed_name, renewed_words};
 
 use super::AnswerFault;
 use super::line::write_note_fields;

@@ -5,8 +5,8 @@ ghost use Rattle.mxf_klv.specs.Note.{greatest_end};
 ghost use Rattle.mxf_klv.specs.Rising.{In};
 ghost use Rattle.mxf_catalogue.specs.Disputes.{clear_notes};
 ghost use Rattle.mxf_views.specs.Partitions.{partitions_of};
-ghost use Rattle.mxf_map.specs.Layers.{AreOffsets, BeginsPartition, BeginsRandomIndex, LiesInZone, is_of_zone};
-ghost use Rattle.mxf_map.specs.Layers.{is_part, partition_offsets, random_index_offsets};
+ghost use Rattle.mxf_map.specs.Layers.{AreOffsets, BeginsPartition, BeginsRandomIndex, LiesInZone, is_of_zone, is_part};
+ghost use Rattle.mxf_map.specs.Layers.{partition_offsets, random_index_offsets};
 
 use mxf_catalogue::{Catalogue, Cover};
 use mxf_klv::{Kind, OutOfMemory};

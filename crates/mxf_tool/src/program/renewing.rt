@@ -13,8 +13,8 @@ use std::alloc::{AllocError, Global};
 /// Writes the catalogue of what the earlier sources hold together, renewed by the later ones, and prints what was
 /// dropped. Its place is held before the first source is opened.
 ///
-/// Unless all is to be dropped, nothing is written if all partition packs of a later source say that its OFFSET is wrong
-/// by one number of bytes, or if more essence of the earlier sources is dropped than the later ones have of it.
+/// Unless all is to be dropped, nothing is written if all partition packs of a later source say that its OFFSET is
+/// wrong by one number of bytes, or if more essence of the earlier sources is dropped than the later ones have of it.
 pub fn print_renewal<'a, R: System>(
     rt: &R,
     inputs: Inputs<'_, 'a>,

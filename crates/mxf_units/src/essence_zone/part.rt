@@ -2,8 +2,8 @@
 ghost use Rattle.std.specs.Prelude.{◌≡◌, ◌==◌, [], IfOk, map, reverse};
 ghost use Rattle.mxf_klv.specs.Rising.{union};
 ghost use Rattle.mxf_views.specs.Partitions.{partitions_of};
-ghost use Rattle.mxf_units.specs.EssenceZones.{IsFalling, begins_with, by_first, by_second, zone_at};
-ghost use Rattle.mxf_units.specs.EssenceZones.{part_cmp, part_of, parts_of};
+ghost use Rattle.mxf_units.specs.EssenceZones.{IsFalling, begins_with, by_first, by_second, zone_at, part_cmp, part_of};
+ghost use Rattle.mxf_units.specs.EssenceZones.{parts_of};
 
 use super::{EssenceZone, Evidence};
 use crate::standing::UnitStanding;

@@ -2,7 +2,8 @@
 ghost use Rattle.std.specs.Prelude.{◌≡◌};
 ghost use Rattle.mxf_views.specs.Kept.{kept_at, kept_partition, kept_random_index_pack, kept_segment};
 ghost use Rattle.mxf_views.specs.Kept.{kept_unreadable_pack};
-ghost use Rattle.mxf_views.specs.KeptNotes.{kept_note, partition_in, random_index_pack_in, segment_in, unreadable_pack_in};
+ghost use Rattle.mxf_views.specs.KeptNotes.{kept_note, partition_in, random_index_pack_in, segment_in};
+ghost use Rattle.mxf_views.specs.KeptNotes.{unreadable_pack_in};
 
 use crate::index::{SegmentInNumbers, kept_segment};
 use crate::partition::{Partition, partition_at};

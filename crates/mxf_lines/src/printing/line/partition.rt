@@ -3,7 +3,8 @@ ghost use Rattle.std.specs.Prelude.{[], ◌∷◌, length, flat_map, ◌≡◌, 
 ghost use Rattle.mxf_views.specs.Partitions.{link_of, partitions_of};
 ghost use Rattle.mxf_lines.specs.Lines.{chain_line, gap_line};
 ghost use Rattle.mxf_lines.specs.PartitionLines.{container_line, container_lines, linked_fields, pack_fields};
-ghost use Rattle.mxf_lines.specs.PartitionLines.{part_fields, partition_line, partition_lines, pattern_fields, place_fields};
+ghost use Rattle.mxf_lines.specs.PartitionLines.{part_fields, partition_line, partition_lines, pattern_fields};
+ghost use Rattle.mxf_lines.specs.PartitionLines.{place_fields};
 ghost use Rattle.mxf_forms.specs.Writing.{with_fields};
 
 use super::{AllocError, Each, Line, Series, Then};

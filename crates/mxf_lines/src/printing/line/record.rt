@@ -3,8 +3,8 @@ ghost use Rattle.std.specs.Prelude.{◌≡◌, [], ◌∷◌, ◌++◌, List, If
 ghost use Rattle.mxf_forms.specs.Forms.{Field};
 ghost use Rattle.mxf_lines.specs.ReferenceLines.{hex_fields, identification_lines, kind_fields, named_word};
 ghost use Rattle.mxf_lines.specs.ReferenceLines.{owner_member, package_details, package_lines, shown_fields};
-ghost use Rattle.mxf_lines.specs.ReferenceLines.{product_lines, text_fields, timestamp_fields};
-ghost use Rattle.mxf_lines.specs.ReferenceLines.{property_word, tracks_fields, uid_fields, value_line, value_lines};
+ghost use Rattle.mxf_lines.specs.ReferenceLines.{product_lines, text_fields, timestamp_fields, property_word};
+ghost use Rattle.mxf_lines.specs.ReferenceLines.{tracks_fields, uid_fields, value_line, value_lines};
 ghost use Rattle.mxf_lines.specs.ShownText.{shown_value, shown_char, shown_text};
 ghost use Rattle.mxf_forms.specs.Writing.{with_fields};
 
