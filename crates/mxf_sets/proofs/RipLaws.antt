@@ -75,14 +75,7 @@ same_entries [] [] xs ys len p q e = (refl, e)
 same_entries [] (b ∷ fs) xs ys len p q e = absurd (omega arith)
 same_entries (a ∷ es) [] xs ys len p q e = absurd (omega arith)
 same_entries (a ∷ es) (b ∷ fs) xs ys len p q e =
-    grind (
-      arith,
-      append_assoc,
-      flat_map-cons,
-      same_entry,
-      same_number,
-      same_entries es fs xs ys (omega arith) p.1 q.1,
-    )
+    grind (arith, append_assoc, flat_map-cons, same_entry, same_number, same_entries es fs xs ys (omega arith) p.1 q.1)
 
 -- ---- packs
 
