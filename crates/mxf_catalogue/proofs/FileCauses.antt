@@ -62,10 +62,7 @@ is_head_last : (notes : List NoteParts) (n : NoteParts) → Decided (IsHeadLast 
 is_head_last [] n = inr (λ k. let len = ap length k.1 ∙ length-append k.0 (head_note n ∷ []) in
     absurd (omega (arith, len)))
 is_head_last (x ∷ []) n =
-    elim (same_note x (head_note n)) [
-      | inl e ↦ inl ([], ap (λ y. y ∷ []) e)
-      | inr ne ↦ inr (λ k. only k.0 k.1 ne)
-    ]
+    elim (same_note x (head_note n)) [ inl e ↦ inl ([], ap (λ y. y ∷ []) e) | inr ne ↦ inr (λ k. only k.0 k.1 ne) ]
   where
     only : (front : List NoteParts) → x ∷ [] ≡ front ++ head_note n ∷ [] → (x ≢ head_note n) → ⊥
     only [] e ne = ne (ap (λ (l : List NoteParts). get_or l 0 x) e)
@@ -354,10 +351,7 @@ version_of : (byte : ℕ) → IsKnownVersion byte ⊎ IsUnknownVersion byte
 version_of byte =
     elim (equal byte 1) [
       | inl one ↦ inl (One, one)
-      | inr first ↦ elim (equal byte 2) [
-        | inl two ↦ inl (Two, two)
-        | inr second ↦ inr (neither byte first second)
-      ]
+      | inr first ↦ elim (equal byte 2) [ inl two ↦ inl (Two, two) | inr second ↦ inr (neither byte first second) ]
     ]
   where
     neither : (byte : ℕ) → byte ≢ 1 → byte ≢ 2 → IsUnknownVersion byte

@@ -290,13 +290,7 @@ one_content bytes a b p q = cc (one_reading bytes (Ok a) (Ok b) (λ h. cc) (λ h
 -- what is written is a file of version 2
 pub written_file : (notes : List NoteParts) → IsCatalogue notes → AreReduced notes → length notes < 2 ^ 64
     → (bytes : List ℕ) → bytes ≡ file_bytes notes → IsFileOfVersion Two bytes notes
-written_file notes c r h bytes e = record {
-  catalogue = c;
-  reduced = r;
-  can_have = any notes;
-  fits = h;
-  whole = e;
-}
+written_file notes c r h bytes e = record { catalogue = c; reduced = r; can_have = any notes; fits = h; whole = e }
   where
     any : (ns : List NoteParts) → AllByRecursion (CanHave Two) ns
     any [] = tt

@@ -89,10 +89,7 @@ reduced_union-all a b r p s =
     let u = has-reduced_union n [] (union_of a b) in
     let v = has-reduced_union n a b in
     let w = has-union_of n a b in (
-      λ h. elim (u.0 h) [
-        | inl k ↦ elim k [ inl i ↦ absurd i | inr t ↦ absurd t.1 ]
-        | inr k ↦ v.1 (w.0 k)
-      ],
+      λ h. elim (u.0 h) [ inl k ↦ elim k [ inl i ↦ absurd i | inr t ↦ absurd t.1 ] | inr k ↦ v.1 (w.0 k) ],
       λ h. u.1 (inr (w.1 (v.0 h))),
     ))
 
@@ -135,10 +132,7 @@ pub AreReduced-with_note : (n : NoteParts) (notes : List NoteParts) → AreReduc
 AreReduced-with_note n notes r new alone x h k =
     let w = λ (z : NoteParts). In-with_note z n notes in
     elim ((w x).0 h) [
-      | inl e ↦ elim ((w k.0).0 k.1) [
-        | inl f ↦ k.2 (f ∙ sym e)
-        | inr i ↦ new (inr (k.0, i, k.3 ∙ e))
-      ]
+      | inl e ↦ elim ((w k.0).0 k.1) [ inl f ↦ k.2 (f ∙ sym e) | inr i ↦ new (inr (k.0, i, k.3 ∙ e)) ]
       | inr i ↦ elim ((w k.0).0 k.1) [
         | inl f ↦ alone (subst (λ z. In z notes) (sym k.3 ∙ ap head_note f) i)
         | inr j ↦ r x i (k.0, j, k.2, k.3)
@@ -160,28 +154,17 @@ In-reduced_with x n notes p new =
         | inl e ↦ inl e
         | inr i ↦ inr (
           i,
-          λ e. (r.0 h).1 (
-            n,
-            (w n).1 (inl refl),
-            (λ q. new (inl (subst (λ z. In z notes) (sym q) i))),
-            sym e,
-          ),
+          λ e. (r.0 h).1 (n, (w n).1 (inl refl), (λ q. new (inl (subst (λ z. In z notes) (sym q) i))), sym e),
         )
       ],
       λ h. r.1 (elim h [
         | inl e ↦ (
           (w x).1 (inl e),
-          λ k. elim ((w k.0).0 k.1) [
-            | inl f ↦ k.2 (f ∙ sym e)
-            | inr i ↦ new (inr (k.0, i, k.3 ∙ e))
-          ],
+          λ k. elim ((w k.0).0 k.1) [ inl f ↦ k.2 (f ∙ sym e) | inr i ↦ new (inr (k.0, i, k.3 ∙ e)) ],
         )
         | inr s ↦ (
           (w x).1 (inr s.0),
-          λ k. elim ((w k.0).0 k.1) [
-            | inl f ↦ s.1 (sym k.3 ∙ ap head_note f)
-            | inr i ↦ p x s.0 (k.0, i, k.2, k.3)
-          ],
+          λ k. elim ((w k.0).0 k.1) [ inl f ↦ s.1 (sym k.3 ∙ ap head_note f) | inr i ↦ p x s.0 (k.0, i, k.2, k.3) ],
         )
       ]),
     )

@@ -166,10 +166,7 @@ view_with_disputed x c d p = view_with x c d (away_from x c) (disputed_with x c 
       λ h. elim h [
         | inl e ↦ inr (t.1 (inl e))
         | inr k ↦ elim k [
-          | inl i ↦ elim (touches_or_not x n) [
-            | inl s ↦ inr (t.1 (inr (inr (i, s))))
-            | inr s ↦ inl (a.1 (i, s))
-          ]
+          | inl i ↦ elim (touches_or_not x n) [ inl s ↦ inr (t.1 (inr (inr (i, s)))) | inr s ↦ inl (a.1 (i, s)) ]
           | inr i ↦ inr (t.1 (inr (inl i)))
         ]
       ],
@@ -292,10 +289,7 @@ pub In-disputed_part : (c d : List NoteParts) → AreNoteLists c d → (n : Note
     → In n d ↔ (In n (union_of c d) × IsDisputed n (union_of c d))
 In-disputed_part c d p n =
     let u = union_of c d in (
-      λ h. (
-        (In-union_of n c d).1 (inr h),
-        let s = p.shared n h in (s.0, (In-union_of s.0 c d).1 (inr s.1), s.2, s.3),
-      ),
+      λ h. ((In-union_of n c d).1 (inr h), let s = p.shared n h in (s.0, (In-union_of s.0 c d).1 (inr s.1), s.2, s.3)),
       λ h. disputed_is c d p n h.1 h.0,
     )
 

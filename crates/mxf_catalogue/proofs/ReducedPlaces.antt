@@ -38,10 +38,7 @@ module _ {K : Type 0} {R : K → K → Ordering} (o : IsTotalOrder R) (same : Is
       (between : (x y z : K) → R x y ≡ Less → R y z ≡ Less → tells z ≡ x → tells y ≡ x) where
     -- one that another tells stands below it
     pub teller_above : (x y : K) → y ≢ x → tells y ≡ x → R x y ≡ Less
-    teller_above x y ne t = elim (below y) [
-      | inl e ↦ absurd (ne (sym e ∙ t))
-      | inr l ↦ subst (λ z. R z y ≡ Less) t l
-    ]
+    teller_above x y ne t = elim (below y) [ inl e ↦ absurd (ne (sym e ∙ t)) | inr l ↦ subst (λ z. R z y ≡ Less) t l ]
 
     -- what tells an element that isn't there stands directly behind its place
     pub next_tells : (xs ys : List K) (n w : K) → IsRising R (xs ++ n ∷ ys) → In w (xs ++ ys) → tells w ≡ n
@@ -161,10 +158,7 @@ module _ {K : Type 0} {R : K → K → Ordering} (o : IsTotalOrder R) (same : Is
         elim ((In-append x xs (n ∷ [])).0 i) [
           | inl a ↦ elim ((In-append k.0 xs (n ∷ [])).0 k.1) [
             | inl b ↦ red x a (k.0, b, k.2, k.3)
-            | inr b ↦ elim b [
-              | inl e ↦ by_last xs last r red a (sym (ap tells e) ∙ k.3)
-              | inr z ↦ z
-            ]
+            | inr b ↦ elim b [ inl e ↦ by_last xs last r red a (sym (ap tells e) ∙ k.3) | inr z ↦ z ]
           ]
           | inr a ↦ elim a [
             | inl e ↦ elim ((In-append k.0 xs (n ∷ [])).0 k.1) [

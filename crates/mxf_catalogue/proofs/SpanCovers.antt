@@ -28,10 +28,7 @@ pub LiesInNote-reduced_with : (x : NoteParts) (notes : List NoteParts) (at : ℕ
     → (has_note notes x → ⊥) → LiesInNote (reduced_with x notes) at ↔ (IsCovered x at ⊎ LiesInNote notes at)
 LiesInNote-reduced_with x notes at r new =
     let there = λ (n : NoteParts). In-reduced_with n x notes r new in (
-      λ h. elim ((there h.0).0 h.1) [
-        | inl e ↦ inl (subst (λ n. IsCovered n at) e h.2)
-        | inr i ↦ inr (h.0, i.0, h.2)
-      ],
+      λ h. elim ((there h.0).0 h.1) [ inl e ↦ inl (subst (λ n. IsCovered n at) e h.2) | inr i ↦ inr (h.0, i.0, h.2) ],
       λ h. elim h [
         | inl c ↦ (x, (there x).1 (inl refl), c)
         | inr s ↦ elim (same_note s.0 (head_note x)) [
@@ -48,14 +45,8 @@ Covers-with x runs notes r new c at =
     let w = LiesIn-with_run (covered_run x) runs at in
     let k = c at in
     let l = LiesInNote-reduced_with x notes at r new in (
-      λ h. l.1 (elim (w.0 h) [
-        | inl q ↦ inl (record { from = q.from; before = q.before })
-        | inr q ↦ inr (k.0 q)
-      ]),
-      λ h. w.1 (elim (l.0 h) [
-        | inl s ↦ inl (record { from = s.from; before = s.before })
-        | inr s ↦ inr (k.1 s)
-      ]),
+      λ h. l.1 (elim (w.0 h) [ inl q ↦ inl (record { from = q.from; before = q.before }) | inr q ↦ inr (k.0 q) ]),
+      λ h. w.1 (elim (l.0 h) [ inl s ↦ inl (record { from = s.from; before = s.before }) | inr s ↦ inr (k.1 s) ]),
     )
 
 -- what lies in the run of a note with others that it touches, lies in the note or in one of them

@@ -50,14 +50,7 @@ by_length n notes is i = (
 
 same_packets : (m n : NoteParts) → m.whole ≡ n.whole → m.key ≡ n.key → m.width ≡ n.width → m.length ≡ n.length
     → m.held ≡ n.held → packet_of m ≡ packet_of n
-same_packets m n e k w l h i = record {
-  offset = 0;
-  key = k i;
-  width = w i;
-  length = l i;
-  whole = e i;
-  held = h i;
-}
+same_packets m n e k w l h i = record { offset = 0; key = k i; width = w i; length = l i; whole = e i; held = h i }
 
 pub by_value : (n : NoteParts) (notes : List NoteParts) → IsCatalogue notes → In n notes
     → IsTrue (tells_by_value notes n) ↔ IsTellingByValue n notes

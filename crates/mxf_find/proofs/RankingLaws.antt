@@ -60,10 +60,7 @@ module _ {K : Type 0} {R : K → K → Ordering} (o : IsTotalOrder R) (same : Is
   -- A list that rises is in its order.
   union-rising : (xs : List K) → IsRising R xs → union R [] xs ≡ xs
   union-rising xs r = same_from_members o same (union R [] xs) xs (rising_union xs) r
-      (λ z. let u = In-union o same z [] xs in (
-        λ i. elim (u.0 i) [ inl n ↦ absurd n | inr j ↦ j ],
-        λ i. u.1 (inr i),
-      ))
+      (λ z. let u = In-union o same z [] xs in (λ i. elim (u.0 i) [ inl n ↦ absurd n | inr j ↦ j ], λ i. u.1 (inr i)))
 
   union-members : (xs ys : List K) → SameMembers xs ys → union R [] xs ≡ union R [] ys
   union-members xs ys m = same_from_members o same (union R [] xs) (union R [] ys) (rising_union xs) (rising_union ys)

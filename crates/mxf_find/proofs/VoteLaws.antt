@@ -127,10 +127,7 @@ module _ (t : Tells) (notes : List NoteParts) (p : NoteParts) where
   pub one_voted : (m n : NoteParts) → In m notes → In n notes → IsTrue (voted_by t notes p m)
       → IsTrue (voted_by t notes p n) → m ≡ n
   one_voted m n i j v w =
-      elim (cases_Bool (p.whole && n.whole)) [
-        | inl a ↦ by_value m n i j v w a
-        | inr b ↦ by_length m n i j v w b
-      ]
+      elim (cases_Bool (p.whole && n.whole)) [ inl a ↦ by_value m n i j v w a | inr b ↦ by_length m n i j v w b ]
     where
       front_there : (x : NoteParts) → IsTrue (voted_by t notes p x) → front_of p ≡ front_of x
       front_there x u = elim (cases_Bool (p.whole && x.whole)) [

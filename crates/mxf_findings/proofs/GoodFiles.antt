@@ -47,19 +47,7 @@ filled_well_formed = record {
   previous = (refl, (refl, tt));
   metadata = (
     λ h. metadata_after (fill ∷ []) (drop 4 filled_file) (refl, tt),
-    (
-      tt,
-      (
-        tt,
-        (
-          tt,
-          (
-            λ h. absurd (omega arith),
-            tt,
-          ),
-        ),
-      ),
-    ),
+    (tt, (tt, (tt, (λ h. absurd (omega arith), tt)))),
   );
   index = λ s t sid unit p q h k e f. absurd h;
   random_index = rip_last (partitions_read 0 filled_file) filled_file refl tt;
@@ -78,16 +66,7 @@ twice_filled_well_formed = record {
   previous = (refl, (refl, tt));
   metadata = (
     λ h. metadata_after (fill ∷ fill ∷ []) (drop 5 twice_filled_file) (refl, (refl, tt)),
-    (
-      tt,
-      (
-        tt,
-        (
-          tt,
-          (tt, (λ h. absurd (omega arith), tt)),
-        ),
-      ),
-    ),
+    (tt, (tt, (tt, (tt, (λ h. absurd (omega arith), tt))))),
   );
   index = λ s t sid unit p q h k e f. absurd h;
   random_index = rip_last (partitions_read 0 twice_filled_file) twice_filled_file refl tt;

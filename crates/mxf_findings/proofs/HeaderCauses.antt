@@ -81,10 +81,7 @@ metadata_kind k = (
     | inl t ↦ inl ((primer_kind k).0 t)
     | inr t ↦ inr ((set_kind k).0 t)
   ],
-  λ m. either (is_primer k) (is_set k) (elim m [
-    | inl e ↦ inl ((primer_kind k).1 e)
-    | inr e ↦ inr ((set_kind k).1 e)
-  ]),
+  λ m. either (is_primer k) (is_set k) (elim m [ inl e ↦ inl ((primer_kind k).1 e) | inr e ↦ inr ((set_kind k).1 e) ]),
 )
 
 pub unreadable_set : (n : NoteParts) → (is_unreadable_set n ≡ true)
@@ -151,10 +148,7 @@ In-lost_behind : (preface : ℕ) (t : Target) (packages : List Ref) (o : ℕ) �
 In-lost_behind preface (Found w) packages o =
     let m = In-lost_at w packages o in (
       λ h. let s = m.0 h in inr (ap (λ (x : ℕ). Found x) s.0, s.1),
-      λ h. elim h [
-        | inl s ↦ absurd (s.1 w refl)
-        | inr s ↦ m.1 (let t = s.0 in let same : w ≡ o = cc (t) in same, s.1)
-      ],
+      λ h. elim h [ inl s ↦ absurd (s.1 w refl) | inr s ↦ m.1 (let t = s.0 in let same : w ≡ o = cc (t) in same, s.1) ],
     )
 In-lost_behind preface _ packages o = (
   λ h. elim h [ inl q ↦ inl (q, λ found e. cc) | inr k ↦ absurd k ],

@@ -157,10 +157,7 @@ broken_chain notes o r =
     let c = chain_iff notes r in (
       λ h. elim (is_broken (chain_of notes)) as (λ b. is_broken (chain_of notes) ≡ b
           → In o (if b then 0 ∷ [] else []) → ((o ≡ 0) × ¬ HangTogether notes)) [
-            | true ↦ λ t k. elim k [
-              | inl e ↦ (e, λ w. let f = ap is_broken (c.1 w) in cc (f, t))
-              | inr m ↦ absurd m
-            ]
+            | true ↦ λ t k. elim k [ inl e ↦ (e, λ w. let f = ap is_broken (c.1 w) in cc (f, t)) | inr m ↦ absurd m ]
             | false ↦ λ _ k. absurd k
           ] refl h,
       λ s.

@@ -127,19 +127,7 @@ w_well_formed = record {
   previous = (refl, (refl, (refl, tt)));
   metadata = (
     λ h. absurd (omega arith),
-    (
-      λ h. absurd (omega arith),
-      (
-        tt,
-        (
-          λ h. absurd (omega arith),
-          (
-            tt,
-            (tt, tt),
-          ),
-        ),
-      ),
-    ),
+    (λ h. absurd (omega arith), (tt, (λ h. absurd (omega arith), (tt, (tt, tt))))),
   );
   index = agree_one (segments_read 0 w_file) refl;
   random_index = rip_last (partitions_read 0 w_file) w_file refl refl;

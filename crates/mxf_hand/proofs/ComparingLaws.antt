@@ -249,14 +249,7 @@ module _ (sources : List SourceParts) (extents : List Extent) (have : HaveExtent
       let at = x - s.0.offset in
       let within : at < length s.0.bytes = omega (arith, offset, size, from, before, low, high) in (
         get_or s.0.bytes at 0,
-        (
-          s.0,
-          s.1,
-          record {
-            from = omega (arith, offset, from, low);
-            is = slice_get-get_or s.0.bytes at 0 within;
-          },
-        ),
+        (s.0, s.1, record { from = omega (arith, offset, from, low); is = slice_get-get_or s.0.bytes at 0 within }),
       )
 
   numbered : (x byte : ℕ) → IsGivenAs sources x byte → (k : ℕ) × GivesAt sources k x byte
@@ -321,10 +314,7 @@ module _ (sources : List SourceParts) (extents : List Extent) (have : HaveExtent
               let lies = lies_in_differences joined x in (
                 λ h.
                     let k = (outside x).0 h in
-                    record {
-                      given = (given_offsets x).0 k.0;
-                      alike = λ i. k.1 (lies.1 ((differing x).1 i));
-                    },
+                    record { given = (given_offsets x).0 k.0; alike = λ i. k.1 (lies.1 ((differing x).1 i)) },
                 λ h. (outside x).1 ((given_offsets x).1 h.given, λ i. h.alike ((differing x).0 (lies.0 i))),
               );
         }

@@ -65,10 +65,7 @@ both {K} p q (x ∷ xs) f =
     elim (p x) as (λ b. (q x ≡ true → b ≡ true)
     → filter q (cond b (x ∷ filter p xs) (filter p xs)) ≡ filter q (x ∷ xs)) [
       | true ↦ λ h. elim (q x) as (λ c. cond c (x ∷ filter q (filter p xs)) (filter q (filter p xs))
-          ≡ cond c (x ∷ filter q xs) (filter q xs)) [
-            | true ↦ ap (λ (l : List K). x ∷ l) rest
-            | false ↦ rest
-          ]
+          ≡ cond c (x ∷ filter q xs) (filter q xs)) [ true ↦ ap (λ (l : List K). x ∷ l) rest | false ↦ rest ]
       | false ↦ λ h. elim (q x) as (λ c. (c ≡ true → false ≡ true)
           → filter q (filter p xs) ≡ cond c (x ∷ filter q xs) (filter q xs)) [
             | true ↦ λ k. absurd (let e : false ≡ true = k refl in cc (e))
@@ -127,10 +124,7 @@ kept_more {K} {L} f q xs i d old new whole here grown before =
     let x = get_or xs i d in
     let rest = filter q (map f (drop (i + 1) xs)) in
     let one : filter q (f x ∷ []) ++ rest ≡ filter q (f x ∷ map f (drop (i + 1) xs)) =
-    elim (q (f x)) as (λ b. cond b (f x ∷ []) [] ++ rest ≡ cond b (f x ∷ rest) rest) [
-      | true ↦ refl
-      | false ↦ refl
-    ] in
+    elim (q (f x)) as (λ b. cond b (f x ∷ []) [] ++ rest ≡ cond b (f x ∷ rest) rest) [ true ↦ refl | false ↦ refl ] in
     ap (λ (l : List L). l ++ rest) grown ∙ append_assoc old (filter q (f x ∷ [])) rest
     ∙ ap (λ (l : List L). old ++ l) one
     ∙ ap (λ (l : List L). old ++ l) (sym (at_drop_more (λ (l : List K). filter q (map f l)) xs i d here)) ∙ before

@@ -315,10 +315,7 @@ module _ (l : List PacketParts) (h : HandBytes) (well : IsWellFormed l) (file : 
             λ j.
                 let k = fitted_there behind x j in
                 inl (one_head behind x (head_note m) k.0 k.1 k.2 held refl refl),
-            λ j. elim j [
-              | inl e ↦ subst (λ n. In n (fitting h notes behind)) (sym e) there
-              | inr never ↦ absurd never
-            ],
+            λ j. elim j [ inl e ↦ subst (λ n. In n (fitting h notes behind)) (sym e) there | inr never ↦ absurd never ],
           ))
 
       -- Its value ends in its hole.
@@ -433,10 +430,7 @@ module _ (l : List PacketParts) (h : HandBytes) (well : IsWellFormed l) (file : 
         (elim (held_or_taken m i) [ inl k ↦ inl (inl k) | inr k ↦ inr (inl k) ]) in
         elim is [
           | inl i ↦ packet n i
-          | inr s ↦ elim (packet s.0 s.1) [
-            | inl j ↦ inr (s.0, j, s.2)
-            | inr t ↦ inr (t.0, t.1, ap head_note t.2 ∙ s.2)
-          ]
+          | inr s ↦ elim (packet s.0 s.1) [ inl j ↦ inr (s.0, j, s.2) | inr t ↦ inr (t.0, t.1, ap head_note t.2 ∙ s.2) ]
         ]
 
     pub one_round : AreReduced notes → round h notes ≡ notes_from 0 l

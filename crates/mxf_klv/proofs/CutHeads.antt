@@ -110,10 +110,7 @@ cut_by offset bytes key after l (Some n) h short s =
       none = tt;
     }
 cut_by offset bytes key after l None h short s =
-    record {
-      some = tt;
-      none = heads_at-far offset bytes key after l h (far offset l s);
-    }
+    record { some = tt; none = heads_at-far offset bytes key after l h (far offset l s) }
   where
     far : (offset : ℕ) (l : LengthParts) → (offset + 16 + l.width + l.value ≤ greatest_end → ⊥)
         → greatest_end < offset + (16 + l.width + l.value)

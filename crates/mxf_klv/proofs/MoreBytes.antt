@@ -146,10 +146,7 @@ whole_value at r key l after h near e =
       whole = h.whole;
     }
     in
-    record {
-      stands = packet_at-given at r r [] p spelled (sym (append-nil r)) (omega arith);
-      size = omega arith;
-    }
+    record { stands = packet_at-given at r r [] p spelled (sym (append-nil r)) (omega arith); size = omega arith }
 
 -- ---- what has come of a head
 

@@ -112,10 +112,7 @@ stop-is offset rest none =
     (ends_too_far offset rest) offset (λ e. no-bytes rest e) (λ e. (refl, λ h. both_ways _ e (begins-test rest h)))
     (λ e f. (
       refl,
-      elim (bad-reads (drop 16 rest) f) [
-        | inl p ↦ inl (test-begins rest e, p)
-        | inr p ↦ inr (test-begins rest e, p)
-      ],
+      elim (bad-reads (drop 16 rest) f) [ inl p ↦ inl (test-begins rest e, p) | inr p ↦ inr (test-begins rest e, p) ],
     )) (λ e. (refl, far-is offset rest e)) (λ a b c d.
     let near : EndsTooFar offset rest → ⊥ = λ h. both_ways _ d (is-far offset rest h) in (
       refl,

@@ -81,10 +81,7 @@ module _ (runs : List Run) (m : AreMaximal 0 runs) (from end : ℕ) where
       kept-lies_in x (subst (λ (l : List Run). LiesIn l x) (sym e) (
         r,
         inl refl,
-        record {
-          from = above;
-          before = omega (arith, below);
-        },
+        record { from = above; before = omega (arith, below) },
       ))
 
 -- ---- how bytes stand

@@ -193,7 +193,4 @@ first_below file from to (suc i) =
 -- For each cell a mark fits.
 pub some_mark : (file : KnownParts) (from to : ℕ) → (m : Mark) × IsMark file from to m
 some_mark file from to =
-    elim (first_below file from to 12) [
-      | inl s ↦ s
-      | inr none ↦ absurd (none marks.Whole (omega arith) tt)
-    ]
+    elim (first_below file from to 12) [ inl s ↦ s | inr none ↦ absurd (none marks.Whole (omega arith) tt) ]

@@ -23,10 +23,7 @@ greatest-bound : (xs : List ℕ) (bound : ℕ) → greatest_of (map (λ x. x + 1
 greatest-bound [] bound = (λ h x k. absurd k, λ f. omega arith)
 greatest-bound (y ∷ xs) bound =
     let ih = greatest-bound xs bound in (
-      λ h x k. elim k [
-        | inl e ↦ omega (arith, h, e)
-        | inr i ↦ ih.0 (omega (arith, h)) x i
-      ],
+      λ h x k. elim k [ inl e ↦ omega (arith, h, e) | inr i ↦ ih.0 (omega (arith, h)) x i ],
       λ f. let a = f y (inl refl) in let b = ih.1 (λ x k. f x (inr k)) in omega (arith, a, b),
     )
 

@@ -151,11 +151,7 @@ asked_are w named before_ways before_limits asked limits partitions ways none n 
           | inl m ↦ elim (first.0 m) [
             | inl i ↦ absurd (subst (In n) empty i)
             | inr s ↦ inl (
-              (
-                s.1.0,
-                (partitions_are w s.1.0).0 (subst (In s.1.0) p_is s.1.1),
-                s.1.2,
-              ),
+              (s.1.0, (partitions_are w s.1.0).0 (subst (In s.1.0) p_is s.1.1), s.1.2),
               (are.members n).0 s.0,
             )
           ]
@@ -260,9 +256,6 @@ both_are w named before asked numbers n are is first second =
     let to = chosen_alike (MayIndexOneOf w.units numbers) (MayIndex w) n.place (λ y. numbers_say w numbers y is) in
     let back = chosen_alike (MayIndex w) (MayIndexOneOf w.units numbers) n.place
     (λ y. let s = numbers_say w numbers y is in (s.1, s.0)) in (
-      λ i. elim (second.0 i) [
-        | inl k ↦ inl (first.0 k)
-        | inr k ↦ inr (to k.1, (are.members n).0 k.0)
-      ],
+      λ i. elim (second.0 i) [ inl k ↦ inl (first.0 k) | inr k ↦ inr (to k.1, (are.members n).0 k.0) ],
       λ h. second.1 (elim h [ inl k ↦ inl (first.1 k) | inr k ↦ inr ((are.members n).1 k.1, back k.0) ]),
     )

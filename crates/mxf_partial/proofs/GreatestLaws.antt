@@ -86,10 +86,7 @@ pub reached_more : (s : SegmentParts) (unit : ℕ) (greatest here more : Option 
     → more ≡ greater greatest here → Reached s unit greatest → Reached s (unit + 1) more
 reached_more s unit greatest here more at is r =
     subst (Reached s (unit + 1)) (sym is) record {
-      given = λ g e. elim (greater_from greatest here g e) [
-        | inl f ↦ r.given g f
-        | inr f ↦ (unit, sym at ∙ f)
-      ];
+      given = λ g e. elim (greater_from greatest here g e) [ inl f ↦ r.given g f | inr f ↦ (unit, sym at ∙ f) ];
       others = λ other offset l e. elim (cases_lt other unit) [
         | inl m ↦ greater_left greatest here offset (r.others other offset m e)
         | inr m ↦

@@ -145,10 +145,7 @@ module _ (u : UnitsParts) (named : List NamedPlace) (near : Near) (nm : AreNamed
         ]
       ],
       λ h. elim h [
-        | inl a ↦ elim a [
-          | inl e ↦ inl e
-          | inr f ↦ inr (f.0, f.1, f.2, (has.added f.0 f.1 f.2).1 (inl f.3), f.4)
-        ]
+        | inl a ↦ elim a [ inl e ↦ inl e | inr f ↦ inr (f.0, f.1, f.2, (has.added f.0 f.1 f.2).1 (inl f.3), f.4) ]
         | inr may ↦ elim may [
           | inl n ↦
               let p = near_to x n in
@@ -189,13 +186,7 @@ module _ (u : UnitsParts) (named : List NamedPlace) (near : Near) (nm : AreNamed
         λ h. elim h [
           | inl a ↦ elim a [
             | inl e ↦ inl e
-            | inr f ↦ inr (
-              f.0,
-              f.1,
-              f.2,
-              (more.added f.0 f.1 f.2).1 (inl ((has.added f.0 f.1 f.2).1 (inl f.3))),
-              f.4,
-            )
+            | inr f ↦ inr (f.0, f.1, f.2, (more.added f.0 f.1 f.2).1 (inl ((has.added f.0 f.1 f.2).1 (inl f.3))), f.4)
           ]
           | inr may ↦ elim may [
             | inl n ↦ absurd (no_near any old mid has none x n)
@@ -219,13 +210,7 @@ module _ (u : UnitsParts) (named : List NamedPlace) (near : Near) (nm : AreNamed
           λ y m. let p = named_to y b m in true_not_false own (more.some.1 (
             p.0,
             p.1,
-            (
-              p.3,
-              (
-                omega arith,
-                inl refl,
-              ),
-            ),
+            (p.3, (omega arith, inl refl)),
           )) empty,
           there,
         ))),

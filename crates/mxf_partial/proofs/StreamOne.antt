@@ -27,10 +27,7 @@ low_one notes b s x y differ (inr f) (inr g) =
 
 greatest_at_most : (u : UnitsParts) (b s x y : ℕ) → IsGreatestOffset u b s x → IsGreatestOffset u b s y → x ≤ y
 greatest_at_most u b s x y f g =
-    elim f.some [
-      | inl e ↦ let l = g.above in omega (arith, e, l)
-      | inr e ↦ g.greatest_is x e
-    ]
+    elim f.some [ inl e ↦ let l = g.above in omega (arith, e, l) | inr e ↦ g.greatest_is x e ]
 
 greatest_one : (u : UnitsParts) (b s x y : ℕ) → IsGreatestOffset u b s x → IsGreatestOffset u b s y → x ≡ y
 greatest_one u b s x y f g =

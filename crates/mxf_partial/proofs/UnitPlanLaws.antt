@@ -97,10 +97,7 @@ there_is w orders runs finding cover are = record {
           elim (so.0 h) [ inl k ↦ inl k | inr k ↦ inr (k.0.0, (finding k.0.0).0 k.0.1, k.0.2) ],
           below_end runs x cover h,
         ),
-        λ h. so.1 (elim h.0 [
-          | inl k ↦ inl k
-          | inr k ↦ inr ((k.0, (finding k.0).1 k.1, k.2), h.1)
-        ]),
+        λ h. so.1 (elim h.0 [ inl k ↦ inl k | inr k ↦ inr ((k.0, (finding k.0).1 k.1, k.2), h.1) ]),
       );
 }
 
@@ -136,10 +133,7 @@ one_order_more orders i d old new x less more so =
         ]
         | inr k ↦ inr (subst (λ l. IsOrdered l x) (sym e) ((k.0.0, inr k.0.1, k.0.2), k.1))
       ]),
-      λ h. elim (so.1 h) [
-        | inl k ↦ inl (more.1 (inl k))
-        | inr k ↦ first_or_later (subst (λ l. IsOrdered l x) e k)
-      ],
+      λ h. elim (so.1 h) [ inl k ↦ inl (more.1 (inl k)) | inr k ↦ first_or_later (subst (λ l. IsOrdered l x) e k) ],
     )
   where
     first_or_later : IsOrdered (get_or orders i d ∷ drop (i + 1) orders) x
@@ -203,10 +197,7 @@ wanted_at_says notes named l standings.Unsure x are = by_limit (is_limit_named n
           end = Rattle.mxf_partial.specs.Wanted.reach_of l;
         })) x ↔ WantsAt notes l standings.Unsure x
     by_limit true t = (λ h. absurd h, λ w. absurd (w.0 ((limit_says notes named l are).0 t)))
-    by_limit false t = (
-      λ h. (λ s. let u = (limit_says notes named l are).1 s in cc (t, u), h),
-      λ w. w.1,
-    )
+    by_limit false t = (λ h. (λ s. let u = (limit_says notes named l are).1 s in cc (t, u), h), λ w. w.1)
 wanted_at_says notes named l standings.NotIndexed x are = (λ h. absurd h, λ h. absurd h)
 wanted_at_says notes named l standings.Ambiguous x are = (λ h. absurd h, λ h. absurd h)
 wanted_at_says notes named l standings.NoPartition x are = (λ h. absurd h, λ h. absurd h)

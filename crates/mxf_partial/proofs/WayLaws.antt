@@ -188,10 +188,7 @@ one_part_more notes held places parts i d old mid new n less more so =
     first_or_later : HasWay notes held places (get_or parts i d ∷ drop (i + 1) parts) n
         → In n new ⊎ HasWay notes held places (drop (i + 1) parts) n
     first_or_later k = elim k.1 [
-      | inl f ↦ inl (more.1 (inr (
-        subst (HasPlace notes places) f k.2,
-        subst (λ p. way_from held p ≡ Some n) f k.3,
-      )))
+      | inl f ↦ inl (more.1 (inr (subst (HasPlace notes places) f k.2, subst (λ p. way_from held p ≡ Some n) f k.3)))
       | inr f ↦ inr (k.0, f, k.2, k.3)
     ]
 

@@ -160,10 +160,7 @@ some_is start None g (inr k) = absurd k
 some_is start (Some x) g k = elim (nat_lt start x) as (λ b. nat_lt start x ≡ b
     → In g (if b then record { start = start; end = Some x } ∷ [] else [])
     → (g ≡ record { start = start; end = Some x }) × LiesBetween start (Some x) start) [
-      | true ↦ λ e h. elim h [
-        | inl same ↦ (same, (omega arith, inr (x, refl, ltb-true start x e)))
-        | inr n ↦ absurd n
-      ]
+      | true ↦ λ e h. elim h [ inl same ↦ (same, (omega arith, inr (x, refl, ltb-true start x e))) | inr n ↦ absurd n ]
       | false ↦ λ e h. absurd h
     ] refl k
 
@@ -255,11 +252,7 @@ lacked_is low (r ∷ runs) m start end g k =
         ⊎ ((x : ℕ) × (Some (up_to_bound r.start stop) ≡ Some x) × LiesIn (r ∷ runs) x)
     ends some None = inr (r.start, refl, at_run r runs r.start (omega arith) some)
     ends some (Some e) = elim (cases_lt r.start e) [
-      | inl l ↦ inr (
-        r.start,
-        ap (λ (y : ℕ). Some y) (omega (arith, l)),
-        at_run r runs r.start (omega arith) some,
-      )
+      | inl l ↦ inr (r.start, ap (λ (y : ℕ). Some y) (omega (arith, l)), at_run r runs r.start (omega arith) some)
       | inr l ↦ inl (ap (λ (y : ℕ). Some y) (omega (arith, l)))
     ]
 
@@ -276,10 +269,7 @@ module _ (runs : List Run) (start : ℕ) (end : Option ℕ) where
       | inl below ↦ (
           let next = s.1 in absurd (p.none s.0 (
             omega (arith, next, below),
-            elim l.1 [
-              | inl n ↦ inl n
-              | inr t ↦ (let less = t.2 in inr (t.0, t.1, omega (arith, next, less)))
-            ],
+            elim l.1 [ inl n ↦ inl n | inr t ↦ (let less = t.2 in inr (t.0, t.1, omega (arith, next, less))) ],
           ) s.2))
       | inr k ↦ k
     ]
@@ -404,10 +394,7 @@ rise_from low high (g ∷ gs) l r = let from : high ≤ g.start = r.0 in (omega 
 pub lacking_rise : (low : ℕ) (runs : List Run) → AreMaximal low runs → (start : ℕ) (end : Option ℕ)
     → Rise start (lacking runs start end)
 lacking_rise low [] m start end = elim (option_map_or (λ e. nat_lt start e) end true) as (λ b.
-    Rise start (if b then record { start = start; end = end } ∷ [] else [])) [
-      | true ↦ (omega arith, tt)
-      | false ↦ tt
-    ]
+    Rise start (if b then record { start = start; end = end } ∷ [] else [])) [ true ↦ (omega arith, tt) | false ↦ tt ]
 lacking_rise low (r ∷ runs) m start end =
     let some : r.start < r.end = m.1 in
     let ih = lacking_rise (r.end + 1) runs m.2 (max start r.end) end in

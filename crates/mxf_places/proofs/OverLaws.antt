@@ -21,10 +21,7 @@ record Passed (packets : List NoteParts) (low from to : ℕ) : Type 0 where
 passed_first : (n : NoteParts) (packets : List NoteParts) (low from to : ℕ) → low ≤ n.offset → n.offset ≡ from
     → IsTrue (is_fill (kind_of n.key)) → Passed packets (end_of n) (end_of n) to → Passed (n ∷ packets) low from to
 passed_first n packets low from to above at fill p =
-    let reached : end_of n ≤ to = elim p.later [
-      | inl e ↦ omega (arith, e)
-      | inr l ↦ omega (arith, l)
-    ] in
+    let reached : end_of n ≤ to = elim p.later [ inl e ↦ omega (arith, e) | inr l ↦ omega (arith, l) ] in
     record {
       fills = n ∷ p.fills;
       are = λ m h. elim h [
@@ -59,10 +56,7 @@ passed_over n packets low from to above other p = record {
         ]
     | inr k ↦ p.last m k f
   ];
-  later = elim p.later [
-    | inl same ↦ inl same
-    | inr l ↦ inr (omega (arith, above, l))
-  ];
+  later = elim p.later [ inl same ↦ inl same | inr l ↦ inr (omega (arith, above, l)) ];
 }
 
 passed : (packets : List NoteParts) (low from : ℕ) → AreApart low packets

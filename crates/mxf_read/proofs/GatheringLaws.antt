@@ -71,14 +71,8 @@ module _ {R : Type 0} (left : R → Option (List ℕ)) where
   handed_both [] qs n = (inr, λ h. elim h [ inl k ↦ absurd k | inr k ↦ k ])
   handed_both (p ∷ ps) qs n =
       let more = handed_both ps qs n in (
-        λ h. elim h [
-          | inl k ↦ inl (inl k)
-          | inr k ↦ elim (more.0 k) [ inl a ↦ inl (inr a) | inr b ↦ inr b ]
-        ],
-        λ h. elim h [
-          | inl k ↦ elim k [ inl a ↦ inl a | inr b ↦ inr (more.1 (inl b)) ]
-          | inr k ↦ inr (more.1 (inr k))
-        ],
+        λ h. elim h [ inl k ↦ inl (inl k) | inr k ↦ elim (more.0 k) [ inl a ↦ inl (inr a) | inr b ↦ inr b ] ],
+        λ h. elim h [ inl k ↦ elim k [ inl a ↦ inl a | inr b ↦ inr (more.1 (inl b)) ] | inr k ↦ inr (more.1 (inr k)) ],
       )
 
   -- a part that is a piece hands the notes of that
@@ -120,10 +114,7 @@ module _ {R : Type 0} (left : R → Option (List ℕ)) where
       let same = handed_of piece offset bytes n is in
       subst (λ (rs : List (Part R)). Hands (Absorb h offset bytes) n ↔ HandedBy left rs n) (sym e) (
         λ i. both.1 (elim i [ inl j ↦ inl (a.0 j) | inr j ↦ inr (inl (same.0 j)) ]),
-        λ i. elim (both.0 i) [
-          | inl j ↦ inl (a.1 j)
-          | inr j ↦ elim j [ inl k ↦ inr (same.1 k) | inr k ↦ absurd k ]
-        ],
+        λ i. elim (both.0 i) [ inl j ↦ inl (a.1 j) | inr j ↦ elim j [ inl k ↦ inr (same.1 k) | inr k ↦ absurd k ] ],
       )
   hands_handed (Cut h offset bytes noted) parts n g = absurd g
   hands_handed (Of h) parts n g = hands_handed h parts n g

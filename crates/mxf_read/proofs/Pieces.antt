@@ -89,10 +89,7 @@ head_begins at r n c = ap (λ (m : NoteParts). m.offset) c.head
 -- none where the piece can't go on
 pub no_heads : (at : ℕ) (r : List ℕ) → (IsOpen (stop_of at r) → ⊥) → heads_at at r ≡ []
 no_heads at r final =
-    elim (heads_few at r) [
-      | inl e ↦ e
-      | inr s ↦ absurd (final (subst IsOpen (sym (cut_stops at r s.0 s.2)) tt))
-    ]
+    elim (heads_few at r) [ inl e ↦ e | inr s ↦ absurd (final (subst IsOpen (sym (cut_stops at r s.0 s.2)) tt)) ]
 
 apart_heads : (at : ℕ) (r : List ℕ) → AreApart at (heads_at at r)
 apart_heads at r =

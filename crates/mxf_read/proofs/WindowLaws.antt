@@ -146,10 +146,7 @@ starts_by offset window p m = elim (start_in offset window) as (λ o. start_in o
       | None ↦ λ e. absurd ((no_start_is offset window).0 e p m)
       | Some start ↦ λ e.
           let s = (one_start offset window start).0 e in
-          elim (cases_lt p start) [
-            | inl before ↦ absurd (s.least p before m)
-            | inr there ↦ (start, there, s)
-          ]
+          elim (cases_lt p start) [ inl before ↦ absurd (s.least p before m) | inr there ↦ (start, there, s) ]
     ] refl
 
 pub start_found : (offset : ℕ) (bytes : List ℕ) (p : ℕ) → MayBegin offset bytes p → p + 25 ≤ 33554432

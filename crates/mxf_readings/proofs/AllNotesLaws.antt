@@ -92,10 +92,7 @@ known n contents =
     let some = has_some n contents in (
       λ h.
           let s = some.0 h in
-          elim s.1 [
-            | inl k ↦ inl (held_at n contents s.0 k)
-            | inr k ↦ inr (k.0, held_at k.0 contents s.0 k.1, k.2)
-          ],
+          elim s.1 [ inl k ↦ inl (held_at n contents s.0 k) | inr k ↦ inr (k.0, held_at k.0 contents s.0 k.1, k.2) ],
       λ h. some.1 (elim h [
         | inl k ↦ let t = at_held n contents k in (t.0, inl t.1)
         | inr k ↦ let t = at_held k.0 contents k.1 in (t.0, inr (k.0, t.1, k.2))

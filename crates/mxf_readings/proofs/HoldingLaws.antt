@@ -64,10 +64,7 @@ sorted_holdings contents xs ys from is rising =
           let u = In-union holding_total holding_cmp-IsAntisymmetric h [] xs in
           let m = from_members h 1 contents in
           let a = at_number h.source h.note contents in (
-            λ k. elim (u.0 (subst (In h) is k)) [
-              | inl i ↦ absurd i
-              | inr i ↦ a.0 (m.0 (subst (In h) from i))
-            ],
+            λ k. elim (u.0 (subst (In h) is k)) [ inl i ↦ absurd i | inr i ↦ a.0 (m.0 (subst (In h) from i)) ],
             λ k. subst (In h) (sym is) (u.1 (inr (subst (In h) (sym from) (m.1 (a.1 k))))),
           );
     }

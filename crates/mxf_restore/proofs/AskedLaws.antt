@@ -64,10 +64,7 @@ module _ (at : AtHandParts) (notes : List NoteParts) (content : IsContent notes)
 
   open_says : (x : ℕ) (claim : Option Claim) → claim_at notes x ≡ claim
       → IsTrue (option_map_or (λ c. c.is_open) claim false) ↔ IsOpenAt notes x
-  open_says x None e = (
-    λ t. absurd cc,
-    λ o. let f = (first_says notes x o.0 content).1 o.1 in absurd (cc (e, f)),
-  )
+  open_says x None e = (λ t. absurd cc, λ o. let f = (first_says notes x o.0 content).1 o.1 in absurd (cc (e, f)))
   open_says x (Some c) e = (
     λ t. (c, (first_says notes x c content).0 e, t),
     λ o.
@@ -230,14 +227,7 @@ module _ (at : AtHandParts) (notes : List NoteParts) (content : IsContent notes)
 
     -- A gap up to an end.
     gap : ℕ → ℕ → Order
-    gap start e = record {
-      reason = Gap;
-      start = start;
-      end = Some e;
-      source = None;
-      inside = false;
-      again = false;
-    }
+    gap start e = record { reason = Gap; start = start; end = Some e; source = None; inside = false; again = false }
 
     by : (claim : Option Claim) → claim_at notes (start_of notes p.first) ≡ claim
         → asked_by at notes p (start_of notes p.first) claim ≡ Some o → IsAsked at notes p o

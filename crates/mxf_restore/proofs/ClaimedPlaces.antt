@@ -17,17 +17,11 @@ named_says c o x b Q end =
     → ((if s then o else Some c.from) ≡ Some x) ↔ (Names c x ⊎ (IsOfStretch c × (c.is_open ≡ b) × Q))) [
       | true ↦ λ t. (
         λ e. let k = end.0 e in inr (says.0 t, k.0, k.1),
-        λ k. elim k [
-          | inl n ↦ absurd (n.0 (says.0 t))
-          | inr s ↦ end.1 (s.1, s.2)
-        ],
+        λ k. elim k [ inl n ↦ absurd (n.0 (says.0 t)) | inr s ↦ end.1 (s.1, s.2) ],
       )
       | false ↦ λ f. (
         λ e. inl (λ s. let t = says.1 s in absurd (cc (t, f)), same_Some _ _ e),
-        λ k. elim k [
-          | inl n ↦ ap (λ (z : ℕ). Some z) n.1
-          | inr s ↦ (let t = says.1 s.0 in absurd (cc (t, f)))
-        ],
+        λ k. elim k [ inl n ↦ ap (λ (z : ℕ). Some z) n.1 | inr s ↦ (let t = says.1 s.0 in absurd (cc (t, f))) ],
       )
     ] refl
 

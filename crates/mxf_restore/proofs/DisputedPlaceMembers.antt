@@ -35,10 +35,7 @@ module _ (f : Claim → Option DisputedPlace) (x : ℕ) where
     by = t.by;
     there = inr t.there;
     tells = t.tells;
-    first = λ c e h k same. elim h [
-      | inl s ↦ absurd (none e (ap f (sym s) ∙ k) same)
-      | inr i ↦ t.first c e i k same
-    ];
+    first = λ c e h k same. elim h [ inl s ↦ absurd (none e (ap f (sym s) ∙ k) same) | inr i ↦ t.first c e i k same ];
   }
 
   told_by : (claims : List Claim) (d : DisputedPlace) → ((c : Claim) → GoesUpTo c c) → AreInOrder claims

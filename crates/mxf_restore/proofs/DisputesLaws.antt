@@ -45,10 +45,7 @@ least-one : (x : ℕ) (ds : List DisputedParts)
 least-one x [] = inl refl
 least-one x (d ∷ ds) =
     elim (least-one (min x d.note.offset) ds) [
-      | inl e ↦ elim (either-min x d.note.offset) [
-        | inl a ↦ inl (e ∙ a)
-        | inr b ↦ inr (d, inl refl, sym (e ∙ b))
-      ]
+      | inl e ↦ elim (either-min x d.note.offset) [ inl a ↦ inl (e ∙ a) | inr b ↦ inr (d, inl refl, sym (e ∙ b)) ]
       | inr s ↦ inr (s.0, inr s.1, s.2)
     ]
 
@@ -130,10 +127,7 @@ same-disputes notes c d p q =
     λ i. record { notes = many i; start = start i; end = end i }
 
 pub disputes-some : (notes : List NoteParts) (d : Disputes) → (disputes_of notes ≡ Some d) ↔ AreDisputes notes d
-disputes-some notes d = (
-  λ h. found notes (disputed_notes notes) d refl h,
-  λ a. there (disputed_notes notes) refl a,
-)
+disputes-some notes d = (λ h. found notes (disputed_notes notes) d refl h, λ a. there (disputed_notes notes) refl a)
   where
     there : (all : List DisputedParts) → disputed_notes notes ≡ all → AreDisputes notes d → disputes_in all ≡ Some d
     there [] e a = absurd (subst (In _) e (lists notes a.first.0 a.first.1).1)

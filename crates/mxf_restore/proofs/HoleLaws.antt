@@ -89,10 +89,7 @@ module _ (notes : List NoteParts) where
         let before : x + 1 ≤ s.end = w.before in
         elim (apart 0 (gaps_of notes) s r maximal i k) [
           | inl q ↦ (let f = ap (λ (y : Run). y.start) q in omega (arith, f, from, e))
-          | inr o ↦ elim o [
-            | inl l ↦ omega (arith, l, before, e)
-            | inr l ↦ omega (arith, l, from, e, some)
-          ]
+          | inr o ↦ elim o [ inl l ↦ omega (arith, l, before, e) | inr l ↦ omega (arith, l, from, e, some) ]
         ]
 
     pub closed_is : (r : Run) → In r (gaps_of notes) → is_held notes r.end ≡ true → IsHole notes (closed_hole r)

@@ -104,10 +104,7 @@ module _ (at : AtHandParts) (cover : IsCover at.hand) (p : Section) (o : Order) 
       (filter before_next (if b then begun_at o.start (g ∷ ranges) else g ∷ ranges)) → Begins r) [
         | true ↦ λ h.
             let s = (In-filter before_next (begun_at o.start (g ∷ ranges)) r).0 h in
-            elim (begun_in (g ∷ ranges) r rise s.0) [
-              | inl e ↦ inl e
-              | inr from ↦ inr (in_section r from s.1)
-            ]
+            elim (begun_in (g ∷ ranges) r rise s.0) [ inl e ↦ inl e | inr from ↦ inr (in_section r from s.1) ]
         | false ↦ λ h.
             let s = (In-filter before_next (g ∷ ranges) r).0 h in
             inr (in_section r (rise_above p.first (g ∷ ranges) r rise s.0) s.1)

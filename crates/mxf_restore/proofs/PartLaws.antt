@@ -141,17 +141,10 @@ module _ (at : AtHandParts) where
         → In r (parts_among at p o ranges) ↔ IsPart at p o r.start r.end
     among_say [] rise says r = (
       λ k. elim k [
-        | inl e ↦ inl (
-          λ q l. (says q).1 l,
-          ap (λ (y : OffsetRange). y.start) e,
-          ap (λ (y : OffsetRange). y.end) e,
-        )
+        | inl e ↦ inl (λ q l. (says q).1 l, ap (λ (y : OffsetRange). y.start) e, ap (λ (y : OffsetRange). y.end) e)
         | inr n ↦ absurd n
       ],
-      λ h. elim h [
-        | inl n ↦ inl (λ i. record { start = n.1 i; end = n.2 i })
-        | inr n ↦ absurd ((says n.0).1 n.1)
-      ],
+      λ h. elim h [ inl n ↦ inl (λ i. record { start = n.1 i; end = n.2 i }) | inr n ↦ absurd ((says n.0).1 n.1) ],
     )
     among_say (g ∷ ranges) rise says r = some_say g ranges rise says r
 

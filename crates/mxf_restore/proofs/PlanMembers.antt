@@ -94,10 +94,7 @@ unfolding plan_of found_disputed_places
 disputed_place_members at notes d =
     let all = filter_map (disputed_place_of notes) (claims_of notes) in
     let u = In-union disputed_place_total one_disputed_place d [] (first_by_place all) in
-    let f = first_members d all in (
-      λ k. f.0 (elim (u.0 k) [ inl n ↦ absurd n | inr n ↦ n ]),
-      λ e. u.1 (inr (f.1 e)),
-    )
+    let f = first_members d all in (λ k. f.0 (elim (u.0 k) [ inl n ↦ absurd n | inr n ↦ n ]), λ e. u.1 (inr (f.1 e)))
 
 pub disputed_places_rise : (at : AtHandParts) (notes : List NoteParts)
     → IsRising disputed_place_cmp (plan_of at notes).disputed_places

@@ -30,10 +30,7 @@ below_test : (end : Option ℕ) (x : ℕ) → IsTrue (option_map_or (λ e. nat_l
 below_test None x = (λ t. inl refl, λ b. refl)
 below_test (Some e) x = (
   λ t. inr (e, refl, ltb-true x e t),
-  λ b. elim b [
-    | inl q ↦ absurd cc
-    | inr s ↦ (let q = same_Some e s.0 s.1 in lt-ltb x e (omega (arith, q, s.2)))
-  ],
+  λ b. elim b [ inl q ↦ absurd cc | inr s ↦ (let q = same_Some e s.0 s.1 in lt-ltb x e (omega (arith, q, s.2))) ],
 )
 
 pub below_some : (x e : ℕ) → Below (Some e) x → x < e

@@ -20,10 +20,7 @@ least p (x ∷ xs) c n m e k t =
             | inr j ↦ (
                 let l = offset_le x m (all-In (λ y. note_cmp x y ≡ Less) xs m c.0 j) in omega (arith, same, l))
           ]
-      | false ↦ λ s f. elim k [
-        | inl i ↦ absurd (let u = ap p i in cc (u, t, s))
-        | inr j ↦ least p xs c.1 n m f j t
-      ]
+      | false ↦ λ s f. elim k [ inl i ↦ absurd (let u = ap p i in cc (u, t, s)) | inr j ↦ least p xs c.1 n m f j t ]
     ] refl e
 
 pub head_says : (first : ℕ) (n : NoteParts)

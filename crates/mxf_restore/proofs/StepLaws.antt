@@ -18,10 +18,7 @@ module _ (x : ℕ) where
       ≡ option_or (value_from u (a ∷ above) x) (value_from l below x)
   value-with u a above ih l [] =
       elim (nat_le a.from x) as (λ t. (if t then value_from (option_or a.claim l) (overlay a.claim above l []) x
-      else option_or u l) ≡ option_or (if t then value_from a.claim above x else u) l) [
-        | true ↦ ih l []
-        | false ↦ refl
-      ]
+      else option_or u l) ≡ option_or (if t then value_from a.claim above x else u) l) [ true ↦ ih l [] | false ↦ refl ]
   value-with u a above ih l (b ∷ below) =
       elim (nat_le a.from b.from) as (λ t. nat_le a.from b.from ≡ t → value_from (option_or u l)
       (if t then step a.from a.claim l ∷ overlay a.claim above l (b ∷ below)

@@ -34,10 +34,7 @@ within-is zone offset f limit x is has =
     ] refl
   where
     not_less : (a b : ℕ) → nat_lt a b ≡ false → b ≤ a
-    not_less a b e = elim (cases_lt a b) [
-      | inl l ↦ let t = lt-ltb a b l in absurd (cc (t, e))
-      | inr h ↦ h
-    ]
+    not_less a b e = elim (cases_lt a b) [ inl l ↦ let t = lt-ltb a b l in absurd (cc (t, e)) | inr h ↦ h ]
 
 is-within : (zone : EssenceZone) (offset : ℕ) → zone.body_offset ≤ offset → IsWithin zone offset
     → is_behind zone offset ≡ false

@@ -214,12 +214,7 @@ among-more passed s index_sid unit = (
           place = g.place;
         }
     | inr p ↦
-        record {
-          by = s;
-          held = (In-end s s passed (passed ++ s ∷ []) refl).1 (inr refl);
-          index = p.0;
-          place = p.1;
-        }
+        record { by = s; held = (In-end s s passed (passed ++ s ∷ []) refl).1 (inr refl); index = p.0; place = p.1 }
   ],
 )
 

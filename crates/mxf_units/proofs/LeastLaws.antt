@@ -23,10 +23,7 @@ lesser_step : (low x : ℕ) (xs : List ℕ) (rest : Option ℕ) → low < x → 
 lesser_step low x xs None above is = (
   inl refl,
   above,
-  λ y h l. elim h [
-    | inl e ↦ omega (arith, e)
-    | inr k ↦ let n = is y k in absurd (omega (arith, n, l))
-  ],
+  λ y h l. elim h [ inl e ↦ omega (arith, e) | inr k ↦ let n = is y k in absurd (omega (arith, n, l)) ],
 )
 lesser_step low x xs (Some m) above is =
     elim (cases_lt x m) [
@@ -35,20 +32,14 @@ lesser_step low x xs (Some m) above is =
           subst (λ n. IsLeast low (x ∷ xs) (Some n)) (sym e) (
             inl refl,
             above,
-            λ y h l. elim h [
-              | inl s ↦ omega (arith, s)
-              | inr k ↦ let n = is.2 y k l in omega (arith, n, below)
-            ],
+            λ y h l. elim h [ inl s ↦ omega (arith, s) | inr k ↦ let n = is.2 y k l in omega (arith, n, below) ],
           )
       | inr least ↦
           let e : min x m ≡ m = omega (arith, least) in
           subst (λ n. IsLeast low (x ∷ xs) (Some n)) (sym e) (
             inr is.0,
             is.1,
-            λ y h l. elim h [
-              | inl s ↦ omega (arith, s, least)
-              | inr k ↦ is.2 y k l
-            ],
+            λ y h l. elim h [ inl s ↦ omega (arith, s, least) | inr k ↦ is.2 y k l ],
           )
     ]
 
@@ -57,10 +48,7 @@ skip_step low x xs None far is = λ y h. elim h [ inl e ↦ omega (arith, e, far
 skip_step low x xs (Some m) far is = (
   inr is.0,
   is.1,
-  λ y h l. elim h [
-    | inl e ↦ absurd (omega (arith, e, far, l))
-    | inr k ↦ is.2 y k l
-  ],
+  λ y h l. elim h [ inl e ↦ absurd (omega (arith, e, far, l)) | inr k ↦ is.2 y k l ],
 )
 
 pub least-is : (low : ℕ) (xs : List ℕ) → IsLeast low xs (least_above low xs)
@@ -166,10 +154,7 @@ behind-says body_sid offset p e =
         | inl l ↦ absurd (no (inl l))
         | inr h ↦
             let same : p.body_sid ≡ body_sid = omega (arith, g, h) in
-            elim (cases_lt offset p.offset) [
-              | inl l ↦ inr (same, l)
-              | inr m ↦ absurd (no (inr (same, m)))
-            ]
+            elim (cases_lt offset p.offset) [ inl l ↦ inr (same, l) | inr m ↦ absurd (no (inr (same, m))) ]
       ]
     ]
 
@@ -278,10 +263,7 @@ least-in_order body_sid offset xs = least-same offset (offsets_in body_sid (in_o
           let s = a.0 h in
           b.1 (
             s.0,
-            elim ((In-union place_total place_cmp-IsAntisymmetric s.0 [] xs).0 s.1) [
-              | inl k ↦ absurd k
-              | inr k ↦ k
-            ],
+            elim ((In-union place_total place_cmp-IsAntisymmetric s.0 [] xs).0 s.1) [ inl k ↦ absurd k | inr k ↦ k ],
             s.2,
           ),
       λ h. let s = b.0 h in a.1 (s.0, (In-union place_total place_cmp-IsAntisymmetric s.0 [] xs).1 (inr s.1), s.2),

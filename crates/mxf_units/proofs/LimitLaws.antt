@@ -267,13 +267,7 @@ open-says notes x =
           let s = m.0 h in
           let p = place-says notes s.0 x s.2 in
           let q = and_parts (is_in_file notes x) unknown p.1 in
-          record {
-            by = s.0;
-            claimed = s.1;
-            named = p.0;
-            in_file = q.0;
-            unknown = (unknown-says notes x).0 q.1;
-          },
+          record { by = s.0; claimed = s.1; named = p.0; in_file = q.0; unknown = (unknown-says notes x).0 q.1 },
       λ o. m.1 (
         o.by,
         o.claimed,
@@ -287,14 +281,8 @@ bound-says notes x =
     let a = In-append x (map (λ p. p.offset) (partitions_of notes)) (filter_map (open_place notes) (claims_of notes)) in
     let m = In-map (λ (p : PartitionParts). p.offset) (partitions_of notes) x in
     let o = open-says notes x in (
-      λ h. elim (a.0 h) [
-        | inl k ↦ let s = m.0 k in inl (s.0, s.1, sym s.2)
-        | inr k ↦ inr (o.0 k)
-      ],
-      λ b. a.1 (elim b [
-        | inl s ↦ inl (m.1 (s.0, s.1, sym s.2))
-        | inr k ↦ inr (o.1 k)
-      ]),
+      λ h. elim (a.0 h) [ inl k ↦ let s = m.0 k in inl (s.0, s.1, sym s.2) | inr k ↦ inr (o.0 k) ],
+      λ b. a.1 (elim b [ inl s ↦ inl (m.1 (s.0, s.1, sym s.2)) | inr k ↦ inr (o.1 k) ]),
     )
 
 rip-says : (notes : List NoteParts) (x : ℕ) (view : RipView) → rip_view_of notes ≡ view

@@ -40,10 +40,7 @@ sized-given segments low s q h e =
     let n = s.segment.numbers in
     let unit = max (unsigned_abs n.start) (low / n.unit_bytes + 1) in
     elim (is_constant n) as (λ b. (if b then place_in unit s else None) ≡ Some q
-    → IsStreamPlace segments q.body_sid q.offset) [
-      | true ↦ λ f. given segments s unit q h f
-      | false ↦ λ f. absurd cc
-    ] e
+    → IsStreamPlace segments q.body_sid q.offset) [ true ↦ λ f. given segments s unit q h f | false ↦ λ f. absurd cc ] e
 
 listed-given : (segments : List SegmentAtParts) (s : SegmentAtParts) (q : StreamPlace) → In s segments
     → In q (listed_in s) → IsStreamPlace segments q.body_sid q.offset

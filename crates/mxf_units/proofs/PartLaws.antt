@@ -72,10 +72,7 @@ up_to-says body_sid offset p e =
         | inl l ↦ inl l
         | inr h ↦
             let same : p.body_sid ≡ body_sid = omega (arith, g, h) in
-            elim (cases_lt offset p.body_offset) [
-              | inl l ↦ absurd (no (inr (same, l)))
-              | inr m ↦ inr (same, m)
-            ]
+            elim (cases_lt offset p.body_offset) [ inl l ↦ absurd (no (inr (same, l))) | inr m ↦ inr (same, m) ]
       ]
     ]
 

@@ -29,13 +29,7 @@ module _ (notes : List NoteParts) (index_sid unit : ℕ) where
       let s = (In-filter_map (place_in unit) (segments_for notes index_sid) q).0 h in
       let k = (In-filter (λ s. s.segment.numbers.index_sid == index_sid) (segments_of notes) s.0).0 s.1 in
       let told = by_offset s.0 (stream_offset s.0.segment unit) s.2 in
-      record {
-        by = s.0;
-        held = k.0;
-        index = eqb-true _ _ k.1;
-        body = told.0;
-        offset = told.1;
-      }
+      record { by = s.0; held = k.0; index = eqb-true _ _ k.1; body = told.0; offset = told.1 }
     where
       by_offset : (s : SegmentAtParts) (o : Option ℕ) → option_map (in_stream s) o ≡ Some q
           → (s.segment.numbers.body_sid ≡ q.body_sid) × (o ≡ Some q.offset)

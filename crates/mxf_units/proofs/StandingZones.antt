@@ -216,14 +216,7 @@ module _ (notes : List NoteParts) (body_sid offset : ℕ) where
             elim x.zone as (λ (o : Option EssenceZone). x.zone ≡ o → is_some o ≡ true) [
               | Some u ↦ λ f. refl
               | None ↦ λ f. let n = none-behind y x less (by ∙ sym bx) (sym same) f in absurd (cc (n, e))
-            ] refl in (
-              s.0,
-              t.0,
-              last,
-              last_y,
-              apart,
-              inl (ap is_some zone ∙ known, ap is_some (zone_y ∙ e)),
-            )
+            ] refl in (s.0, t.0, last, last_y, apart, inl (ap is_some zone ∙ known, ap is_some (zone_y ∙ e)))
         | None ↦ grind (arith, ok_or, last, zone, one, last_y, apart, zone-is)
       ] refl
 

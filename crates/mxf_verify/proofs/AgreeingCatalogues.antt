@@ -126,10 +126,7 @@ module _ (reference : List NoteParts) (contents : List (List NoteParts)) where
   all_of_each : ((c : List NoteParts) → In c contents → HasEach reference c) → HasEach reference (all_notes contents)
   all_of_each each m i =
       let s = had_by_one m contents (inl i) in
-      elim s.2 [
-        | inl k ↦ each s.0 s.1 m k
-        | inr h ↦ has_head h.0 m reference (each s.0 s.1 h.0 h.1) h.2
-      ]
+      elim s.2 [ inl k ↦ each s.0 s.1 m k | inr h ↦ has_head h.0 m reference (each s.0 s.1 h.0 h.1) h.2 ]
 
 module _ (reference : List NoteParts) (contents : List (List NoteParts)) (v : VerificationParts)
     (told : IsVerification reference (map Saved contents) v) where

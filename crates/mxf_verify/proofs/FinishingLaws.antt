@@ -101,10 +101,7 @@ touched_says sources n = (
 
 -- the same of runs with the same offsets, and of ranges that are the same
 pub met_alike : (a b : List Run) (n : NoteParts) → SameOffsets a b → IsMet a n ↔ IsMet b n
-met_alike a b n same = (
-  λ h. (h.0, (same h.0).0 h.1, h.2, h.3),
-  λ h. (h.0, (same h.0).1 h.1, h.2, h.3),
-)
+met_alike a b n same = (λ h. (h.0, (same h.0).0 h.1, h.2, h.3), λ h. (h.0, (same h.0).1 h.1, h.2, h.3))
 
 pub within_alike : (a b : List Run) (n : NoteParts) → SameMembers a b → IsWithinOne a n ↔ IsWithinOne b n
 within_alike a b n same = grind arith
@@ -368,10 +365,7 @@ verification_of reference sources seen is u b cut v told verified rises damaged 
     let damaged_says = damaged_members reference sources seen is in
     let damaged_those : AreThose reference (IsDiffering reference sources) u.damaged = record {
       rising = rises;
-      members = λ n. (
-        λ h. (damaged_says n).0 ((damaged n).0 h),
-        λ h. (damaged n).1 ((damaged_says n).1 h),
-      );
+      members = λ n. (λ h. (damaged_says n).0 ((damaged n).0 h), λ h. (damaged n).1 ((damaged_says n).1 h));
     } in
     let left = left_out_says reference sources seen is u verified_those.members damaged_those.members headed_those.members read reach in
     record {

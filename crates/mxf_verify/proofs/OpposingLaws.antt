@@ -41,9 +41,6 @@ opposed-by_test n notes =
     let contradicted = contradicted-by_test n notes in (
       λ h.
           let p = and_parts (not (is_had n notes)) (is_contradicted n notes) h in
-          record {
-            lacked = λ k. not-true-false (is_had n notes) p.0 (had.1 k);
-            contradicted = contradicted.0 p.1;
-          },
+          record { lacked = λ k. not-true-false (is_had n notes) p.0 (had.1 k); contradicted = contradicted.0 p.1 },
       λ o. and_from _ _ (not_true (is_had n notes) (λ t. o.lacked (had.0 t))) (contradicted.1 o.contradicted),
     )

@@ -37,10 +37,7 @@ pub some_end : {K : Type 0} (P : K → Type 0) (xs : List K) (y : K)
     → ((x : K) × In x (xs ++ y ∷ []) × P x) ↔ (((x : K) × In x xs × P x) ⊎ P y)
 some_end P xs y =
     let both = some_both P xs (y ∷ []) in (
-      λ h. elim (both.0 h) [
-        | inl s ↦ inl s
-        | inr (x, k, p) ↦ elim k [ inl e ↦ inr (subst P e p) | inr z ↦ absurd z ]
-      ],
+      λ h. elim (both.0 h) [ inl s ↦ inl s | inr (x, k, p) ↦ elim k [ inl e ↦ inr (subst P e p) | inr z ↦ absurd z ] ],
       λ h. both.1 (elim h [ inl s ↦ inl s | inr p ↦ inr (y, inl refl, p) ]),
     )
 
@@ -175,9 +172,6 @@ rest-offsets all known others cover whole result other low covered rest same at 
       (elim (lies_or_not all at) [ inl k ↦ k | inr n ↦ absurd (none (inl (w.0, n))) ], λ k. none (inr k)),
   λ h. (same at).1 ((rest at).1 (
     low at h.0,
-    λ k. elim ((other at).0 ((covered at).0 k)) [
-      | inl s ↦ s.1 h.0
-      | inr s ↦ h.1 s
-    ],
+    λ k. elim ((other at).0 ((covered at).0 k)) [ inl s ↦ s.1 h.0 | inr s ↦ h.1 s ],
   )),
 )

@@ -71,10 +71,7 @@ known-renewed n old new =
       ],
       λ h. r.1 (elim h [
         | inl k ↦ elim k [ inl i ↦ inl (inl i) | inr p ↦ inr (inl ((In-kept n old new).1 p)) ]
-        | inr s ↦ elim s.1 [
-          | inl i ↦ inl (inr (s.0, i, s.2))
-          | inr p ↦ inr (inr (s.0, (In-kept s.0 old new).1 p, s.2))
-        ]
+        | inr s ↦ elim s.1 [ inl i ↦ inl (inr (s.0, i, s.2)) | inr p ↦ inr (inr (s.0, (In-kept s.0 old new).1 p, s.2)) ]
       ]),
     )
 
@@ -131,10 +128,7 @@ has-all : (n : NoteParts) (old new : List NoteParts) → dropped_of old new ≡ 
     → has_note (renewed_of old new) n
 has-all n old new e h =
     let each = λ (m : NoteParts) (i : In m old). elim (had_or_dropped m old new i) as (λ _. has_note
-    (renewed_of old new) m) [
-      | inl k ↦ k
-      | inr d ↦ absurd (subst (λ l. In m l) e ((In-dropped m old new).1 d))
-    ] in
+    (renewed_of old new) m) [ inl k ↦ k | inr d ↦ absurd (subst (λ l. In m l) e ((In-dropped m old new).1 d)) ] in
     elim h [ inl i ↦ each n i | inr s ↦ has_head s.0 n (renewed_of old new) (each s.0 s.1) s.2 ]
 
 kept-old : (n : NoteParts) (old new : List NoteParts) → has_note (kept_of old new) n → has_note old n

@@ -25,10 +25,7 @@ pub saved_end : (sources : List Source) (s : Source) (notes : List NoteParts)
     → In (Saved notes) (sources ++ s ∷ []) ↔ (In (Saved notes) sources ⊎ (Saved notes ≡ s))
 saved_end sources s notes =
     let both = In-append (Saved notes) sources (s ∷ []) in (
-      λ h. elim (both.0 h) [
-        | inl k ↦ inl k
-        | inr k ↦ elim k [ inl e ↦ inr e | inr z ↦ absurd z ]
-      ],
+      λ h. elim (both.0 h) [ inl k ↦ inl k | inr k ↦ elim k [ inl e ↦ inr e | inr z ↦ absurd z ] ],
       λ h. elim h [ inl k ↦ both.1 (inl k) | inr e ↦ both.1 (inr (inl e)) ],
     )
 
@@ -179,10 +176,7 @@ seen_bytes reference sources old new number offset end bytes told same differing
           );
       came =
           let either = Decides-or old.came (nat_lt offset end) is.came (some_byte offset end bytes ends) in
-          let all = bytes_end sources s in (
-            λ h. all.1 (either.0 (sym came ∙ h)),
-            λ h. came ∙ either.1 (all.0 h),
-          );
+          let all = bytes_end sources s in (λ h. all.1 (either.0 (sym came ∙ h)), λ h. came ∙ either.1 (all.0 h));
     }
 
 -- a catalogue that has no note has no byte
@@ -191,10 +185,7 @@ no_byte : (notes : List NoteParts) (b : Bool) → (IsTrue b ↔ (notes ≡ [])) 
 no_byte [] b says = grind (arith, false≢true)
 no_byte (n ∷ notes) true says = grind arith
 no_byte (n ∷ notes) false says = (
-  λ h. (
-    n.offset,
-    (n, inl refl, record { from = omega arith; before = let l = holds_first n in omega arith }),
-  ),
+  λ h. (n.offset, (n, inl refl, record { from = omega arith; before = let l = holds_first n in omega arith })),
   λ h. refl,
 )
 
@@ -253,10 +244,7 @@ seen_saved reference sources old new number is_empty saved told same headed diff
           );
       came =
           let either = Decides-or old.came (not is_empty) is.came (no_byte saved is_empty empty) in
-          let all = bytes_end sources s in (
-            λ h. all.1 (either.0 (sym came ∙ h)),
-            λ h. came ∙ either.1 (all.0 h),
-          );
+          let all = bytes_end sources s in (λ h. all.1 (either.0 (sym came ∙ h)), λ h. came ∙ either.1 (all.0 h));
     }
 
 -- what lies in runs and one more ends at or below a bound where these do

@@ -137,10 +137,7 @@ leads_last = record {
       let parts = or_parts _ _ f in
       let end : (asked_end p.extent) ≤ (asked_end q.extent) = ltb-false _ _ parts.0 in
       elim (cases_eq (asked_end p.extent) (asked_end q.extent)) [
-        | inl e ↦ elim (and_cases _ _ parts.1) [
-          | inl k ↦ absurd (eqb-false _ _ k e)
-          | inr k ↦ inr (e, ltb-false _ _ k)
-        ]
+        | inl e ↦ elim (and_cases _ _ parts.1) [ inl k ↦ absurd (eqb-false _ _ k e) | inr k ↦ inr (e, ltb-false _ _ k) ]
         | inr k ↦ inl (omega (arith, k))
       ];
 }

@@ -76,10 +76,7 @@ brings_by_primer : (x : NoteParts) → is_readable_primer x ≡ true → can_bri
 unfolding can_bring_start is_readable_primer
 brings_by_primer x e =
     let k : is_primer (kind_of x.key) ≡ true = (and_parts _ _ e).0 in
-    elim (is_fill (kind_of x.key)) as (λ b. (b || is_primer (kind_of x.key)) ≡ true) [
-      | true ↦ refl
-      | false ↦ k
-    ]
+    elim (is_fill (kind_of x.key)) as (λ b. (b || is_primer (kind_of x.key)) ≡ true) [ true ↦ refl | false ↦ k ]
 
 -- So a copy of which the test says that it can't change isn't met.
 unmet : (x : NoteParts) (notes : List NoteParts) (start end : ℕ) (p : PartitionParts) (c : CopyInfo) → IsNew x notes

@@ -86,10 +86,7 @@ offsets_from [] reached top offset r = elim (nat_lt reached top) as (λ b. nat_l
           | inl l ↦ (
             record { start = reached; end = top },
             inl refl,
-            record {
-              from = g.above;
-              before = omega (arith, l);
-            },
+            record { from = g.above; before = omega (arith, l) },
           )
           | inr s ↦ absurd s.1
         ],

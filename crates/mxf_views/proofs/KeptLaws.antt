@@ -107,10 +107,7 @@ mapped f take [] = refl
 mapped f take (n ∷ ns) =
     let ih = mapped f take ns in
     elim (take n) as (λ o. cons_option (option_map f o) (filter_map (λ n. option_map f (take n)) ns)
-    ≡ map f (cons_option o (filter_map take ns))) [
-      | None ↦ ih
-      | Some x ↦ ap (λ l. f x ∷ l) ih
-    ]
+    ≡ map f (cons_option o (filter_map take ns))) [ None ↦ ih | Some x ↦ ap (λ l. f x ∷ l) ih ]
 
 pub partitions_in_numbers : (notes : List NoteParts)
     → kept_among kept_partition notes ≡ map in_numbers (partitions_of notes)

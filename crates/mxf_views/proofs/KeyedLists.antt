@@ -80,10 +80,7 @@ module _ {A : Type 0} (key : A → ℕ) where
   length-with_keyed c [] = refl
   length-with_keyed c (d ∷ cs) =
       elim (nat_lt (key c) (key d)) as (λ b. length (cond b (c ∷ d ∷ cs) (d ∷ with_keyed key c cs))
-      ≡ suc (suc (length cs))) [
-        | true ↦ refl
-        | false ↦ ap suc (length-with_keyed c cs)
-      ]
+      ≡ suc (suc (length cs))) [ true ↦ refl | false ↦ ap suc (length-with_keyed c cs) ]
 
   pub length-with_found : (o : Option A) (cs : List A) → length (with_found key o cs) ≤ length cs + 1
   length-with_found None cs = omega arith

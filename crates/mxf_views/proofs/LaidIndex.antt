@@ -53,10 +53,7 @@ place-given sid unit s = elim (s.segment.numbers.index_sid == sid) as (λ b.
     cond b (option_map (At s.segment.numbers.body_sid) (stream_offset s.segment unit)) None
     ≡ option_map place_at (cond b (place_in unit s) None)) [
       | true ↦ elim (stream_offset s.segment unit) as (λ o. option_map (At s.segment.numbers.body_sid) o
-          ≡ option_map place_at (option_map (in_stream s) o)) [
-            | None ↦ refl
-            | Some offset ↦ refl
-          ]
+          ≡ option_map place_at (option_map (in_stream s) o)) [ None ↦ refl | Some offset ↦ refl ]
       | false ↦ refl
     ]
 

@@ -35,10 +35,7 @@ pub find_mapped : {A B : Type 0} (t : B → Bool) (f : A → B) (xs : List A)
     → find t (map f xs) ≡ option_map f (find (λ x. t (f x)) xs)
 find_mapped t f [] = refl
 find_mapped t f (x ∷ xs) = elim (t (f x)) as (λ b. cond b (Some (f x)) (find t (map f xs))
-    ≡ option_map f (cond b (Some x) (find (λ x. t (f x)) xs))) [
-      | true ↦ refl
-      | false ↦ find_mapped t f xs
-    ]
+    ≡ option_map f (cond b (Some x) (find (λ x. t (f x)) xs))) [ true ↦ refl | false ↦ find_mapped t f xs ]
 
 pub filter_mapped : {A B : Type 0} (t : B → Bool) (f : A → B) (xs : List A)
     → filter t (map f xs) ≡ map f (filter (λ x. t (f x)) xs)

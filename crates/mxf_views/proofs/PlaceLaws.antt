@@ -150,10 +150,7 @@ place_from segments index_sid unit (p ∷ q ∷ places) r w = record {
   below = below_from p q r.0.0;
   least = λ x g. elim ((w x).1 g) [
     | inl e ↦ inl e
-    | inr k ↦ inr (elim k [
-      | inl e ↦ inl e
-      | inr m ↦ inr (below_from q x (less_in place_total q x places r.1.0 m))
-    ])
+    | inr k ↦ inr (elim k [ inl e ↦ inl e | inr m ↦ inr (below_from q x (less_in place_total q x places r.1.0 m)) ])
   ];
 }
 
@@ -164,10 +161,7 @@ module _ {segments : List SegmentAtParts} {index_sid unit : ℕ} where
       let l = less_from p q t.below in
       elim (t.least r g) [
         | inl e ↦ inl (sym e)
-        | inr k ↦ inr (elim k [
-          | inl e ↦ ap (place_cmp p) e ∙ l
-          | inr b ↦ place_total.trans p q r l (less_from q r b)
-        ])
+        | inr k ↦ inr (elim k [ inl e ↦ ap (place_cmp p) e ∙ l | inr b ↦ place_total.trans p q r l (less_from q r b) ])
       ]
 
   one_first : (p q x y : StreamPlace) → AreTwoLeast segments index_sid unit p q

@@ -137,7 +137,4 @@ pub rip_view_iff : (notes : List NoteParts) (v : RipView) → IsContent notes
 rip_view_iff notes v r =
     let rips = rips_of notes in
     let a = rips_apart notes r in
-    let w = picks notes in (
-      λ e. subst (IsRipView notes) e (view_is notes rips w a),
-      λ i. view_to notes rips w a v i,
-    )
+    let w = picks notes in (λ e. subst (IsRipView notes) e (view_is notes rips w a), λ i. view_to notes rips w a v i)

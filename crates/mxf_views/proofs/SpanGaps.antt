@@ -54,10 +54,7 @@ module _ (runs : List Run) (notes : List NoteParts) (reached top : ℕ) (cover :
       let e : h.0.end ≤ at = f h.0 h.1 in
       let b : offset + 1 ≤ h.0.end = h.2.before in omega (arith, e, b)) in
       omega (arith, l, low)) in
-      record {
-        below = s;
-        in_none = λ l. let c = (covers at).0 l in g.in_none c.0 c.1 c.2;
-      }
+      record { below = s; in_none = λ l. let c = (covers at).0 l in g.in_none c.0 c.1 c.2 }
 
   -- Above the end of the cover it does so exactly where it lies below the greatest end.
   above_gap : (at : ℕ) → reached ≤ at → at < top → IsGap notes at

@@ -58,8 +58,5 @@ returns-in-None c =
     record {
       above = some;
       within = omega arith;
-      same = λ x above under. (
-        λ h. absurd (none x above under h),
-        λ h. absurd (none from (omega arith) some h),
-      );
+      same = λ x above under. (λ h. absurd (none x above under h), λ h. absurd (none from (omega arith) some h));
     }

@@ -37,11 +37,7 @@ where_not w sought before n f so = (
 
 pub returns-clause-members : goal.returns-clause-members
 returns-clause-members c = λ n.
-    let w : WantedParts = record {
-      units = c.args.units.now;
-      first = c.args.range.first;
-      count = c.args.range.count;
-    } in
+    let w : WantedParts = record { units = c.args.units.now; first = c.args.range.first; count = c.args.range.count } in
     moved w c.args.is_index_sought c.if-is_index_sought.asked.items c.in_order.result.items n
     (c.in_order.ensures.members n)
     (elim c.if-is_index_sought.branch [

@@ -9,11 +9,7 @@ use Rattle.mxf_partial.proofs.plan.finding_orders.Goals as goal
 
 pub returns : goal.returns
 returns c =
-    let w : WantedParts = record {
-      units = c.args.units.now;
-      first = c.args.range.first;
-      count = c.args.range.count;
-    } in
+    let w : WantedParts = record { units = c.args.units.now; first = c.args.range.first; count = c.args.range.count } in
     let known = c.in_ok-section_orders.ensures
     ∙ (λ i. record { notes = c.holdings-2.ensures i; at = c.at_hand.ensures i }) in
     let sections = c.in_ok-sections.ensures ∙ ap sections_of c.holdings.ensures in

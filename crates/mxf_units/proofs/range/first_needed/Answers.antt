@@ -26,7 +26,4 @@ loop-unit-preserved c =
     let inv = c.loop-unit.invariant in
     let bound = c.needed-from.ensures.bound in
     let before = inv.bound in
-    record {
-      needed = grind (arith, needed_from, step);
-      bound = omega (arith, bound, before);
-    }
+    record { needed = grind (arith, needed_from, step); bound = omega (arith, bound, before) }

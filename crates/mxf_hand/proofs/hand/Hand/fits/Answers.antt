@@ -34,10 +34,7 @@ bytes-requires g c = λ x low high.
     c.self.invariant.1 x (
       run,
       subst (λ (a : HandParts). In run a.runs) (sym c.self.view_is) there.0,
-      record {
-        from = a;
-        before = omega (arith, b);
-      },
+      record { from = a; before = omega (arith, b) },
     )
 
 pub returns-then-not-stand_at-clause-fits : goal.returns-then-not-stand_at-clause-fits

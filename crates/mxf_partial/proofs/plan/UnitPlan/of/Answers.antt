@@ -31,11 +31,7 @@ wanted_bytes-requires c = subst (RiseBy (λ (n : NamedPlace). n.place)) (sym c.d
 
 pub returns : goal.returns
 returns c =
-    let w : WantedParts = record {
-      units = c.args.units.now;
-      first = c.args.range.first;
-      count = c.args.range.count;
-    } in
+    let w : WantedParts = record { units = c.args.units.now; first = c.args.range.first; count = c.args.range.count } in
     let finding = c.in_ok-orders.ensures in
     let there = there_is w c.in_ok-orders.orders.items c.in_ok-there.there finding
     (subst IsCover c.there-2.view_is c.there-2.invariant)

@@ -29,14 +29,4 @@ first_behind-requires-clause-behind c =
 
 pub returns-clause-next : goal.returns-clause-next
 returns-clause-next c =
-    grind (
-      arith,
-      least_above,
-      offsets_in,
-      first_number,
-      end_number,
-      lesser,
-      lesser_assoc,
-      around-least,
-      next_by,
-    )
+    grind (arith, least_above, offsets_in, first_number, end_number, lesser, lesser_assoc, around-least, next_by)

@@ -9,10 +9,7 @@ known_own notes n = (
   inl,
   λ h. elim h [
     | inl k ↦ k
-    | inr s ↦ inr (elim s.1 [
-      | inl i ↦ (s.0, i, s.2)
-      | inr t ↦ (t.0, t.1, ap head_note t.2 ∙ s.2)
-    ])
+    | inr s ↦ inr (elim s.1 [ inl i ↦ (s.0, i, s.2) | inr t ↦ (t.0, t.1, ap head_note t.2 ∙ s.2) ])
   ],
 )
 
