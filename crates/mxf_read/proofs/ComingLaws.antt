@@ -25,12 +25,7 @@ all_came v m none taken = omega (arith, none, taken.counted)
 pub can_note : (v : ComingValue) (width len : ℕ) (held : List ℕ) (whole : Bool) → width ≡ v.ber.width
     → len ≡ v.ber.value → CanSpell v.ber.width v.ber.value → is_gathered v.so_far ≡ whole
     → CanNote (note_parts v.offset v.key width len held) whole
-can_note v width len held whole same_width same_len spelled is =
-    let within : v.offset + 16 + width + len ≤ greatest_end = omega (arith, same_width, same_len, v.within) in (
-      subst (λ (w : ℕ). CanSpell w len) (sym same_width) (subst (CanSpell v.ber.width) (sym same_len) spelled),
-      within,
-      ap (keeps v.key) same_len ∙ sym v.sort ∙ is,
-    )
+can_note v width len held whole same_width same_len spelled is = grind (arith, greatest_end, keeps)
 
 -- it is the packet's
 pub same_note : (v : ComingValue) (m : List ℕ) (width len : ℕ) (held : List ℕ) (whole : Bool) → v.left ≡ 0
@@ -38,20 +33,12 @@ pub same_note : (v : ComingValue) (m : List ℕ) (width len : ℕ) (held : List 
     → width ≡ v.ber.width → len ≡ v.ber.value → is_gathered v.so_far ≡ whole → held ≡ (if whole then m else sha256 m)
     → note_parts v.offset v.key width len held ≡ note_of v.offset (packet_parts v.key v.ber.width m)
 same_note v m width len held whole none taken same_width same_len is held_is =
-    let all = all_came v m none taken in
-    let kept : keeps v.key (length m) ≡ whole = ap (keeps v.key) all ∙ sym v.sort ∙ is in
-    ap (λ (w : ℕ). note_parts v.offset v.key w len held) same_width
-    ∙ ap (λ (l : ℕ). note_parts v.offset v.key v.ber.width l held) (same_len ∙ sym all)
-    ∙ ap (note_parts v.offset v.key v.ber.width (length m))
-    (held_is ∙ ap (λ (t : Bool). if t then m else sha256 m) (sym kept))
+    grind (arith, all_came, keeps, length, note_parts, sha256)
 
 -- a value that is gathered has its length
 pub gathered : (v : ComingValue) (value : Vec ℕ Global) → v.so_far ≡ Gathered value → v.left ≡ 0
     → vec_len value ≡ v.ber.value
-gathered v value is none =
-    let came : length value.items + v.left ≡ v.ber.value =
-    subst (λ (h : ValueSoFar). came_of h v.ber.value v.left + v.left ≡ v.ber.value) is v.counted in
-    omega (arith, value.ok.0, none, came)
+gathered v value is none = grind (arith, length, came_of)
 
 -- and its bytes
 pub gathered_bytes : (v : ComingValue) (value : Vec ℕ Global) (m : List ℕ) → v.so_far ≡ Gathered value → HasTaken v m

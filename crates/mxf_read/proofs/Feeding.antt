@@ -46,10 +46,7 @@ pub same_fed : (o : ℕ) (m : List ℕ) (p q : Piece) → q.notes ≡ p.notes �
     → q.value ≡ p.value → q.stop ≡ p.stop → Fed o m p → Fed o m q
 same_fed o m p q notes at head value stop fed = record {
   knows = record { notes = notes ∙ fed.knows.notes; at = at ∙ fed.knows.at };
-  next = subst (λ (n : ℕ). IsNext n q.stop q.value q.head.items (rest_in o m)) (sym at)
-      (subst (λ (s : Option Stop). IsNext p.at s q.value q.head.items (rest_in o m)) (sym stop)
-      (subst (λ (v : Option ComingValue). IsNext p.at p.stop v q.head.items (rest_in o m)) (sym value)
-      (subst (λ (h : List ℕ). IsNext p.at p.stop p.value h (rest_in o m)) (sym head) fed.next)));
+  next = grind (arith, rest_in);
 }
 
 -- the next packet isn't whole
@@ -103,13 +100,10 @@ noted o m x p q v n k come none_left note notes at stop value head =
     at ∙ ap end_of is ∙ (let e : end_of (note_of here pk) ≡ here + size_of pk = omega arith in e) ∙ sym one.at in
     record {
       knows = record {
-        notes = notes ∙ ap (λ (y : NoteParts). reduced_with y p.notes) is ∙ ap (reduced_with (note_of here pk)) k.notes
-            ∙ with_last o (notes_from o (packets_in o m)) (note_of here pk) apart ∙ sym one.notes;
+        notes = grind (arith, reduced_with, note_of, here, pk, with_last, notes_from, packets_in);
         at = ends;
       };
-      next = subst (λ (t : List ℕ). IsNext q.at q.stop q.value q.head.items t) (sym one.rest)
-          (next_head q.at q.stop q.value q.head.items [] stop value head (no_head_short [] (omega arith))
-          (open_at_end q.at));
+      next = grind (arith, next_head, no_head_short, open_at_end);
     }
 
 -- ---- bytes of a head
@@ -145,13 +139,7 @@ pub begun : (o : ℕ) (m x : List ℕ) (p : Piece) (v : ComingValue) (n : ℕ) �
     → HasTaken v [] → HasCome p.at v (rest_in o m ++ take n x)
 begun o m x p v n fed stop value now is offset taken =
     let h = holds o m p fed stop value in
-    record {
-      after = [];
-      begins = subst (λ (t : List ℕ). BeginsWithKeyAndLength (t ++ take n x) v.key v.ber []) h.head
-          (subst (λ (j : ℕ). BeginsWithKeyAndLength (p.head.items ++ take j x) v.key v.ber []) (sym is) now.begins);
-      offset = offset;
-      taken = taken;
-    }
+    record { after = []; begins = grind (arith, take); offset = offset; taken = taken }
 
 -- they aren't, and are held
 pub held_more : (o : ℕ) (m x : List ℕ) (p q : Piece) (stop : Stop) → Fed o m p → p.stop ≡ None → p.value ≡ None
@@ -225,10 +213,7 @@ none_fed offset p notes at head value stop =
         notes = notes ∙ sym (ap (notes_from offset) packets);
         at = at ∙ sym (ap (end_after offset) packets);
       };
-      next = subst (λ (r : List ℕ). IsNext p.at p.stop p.value p.head.items r) (sym rest)
-          (subst (λ (s : Option Stop). IsNext p.at s p.value p.head.items []) (sym stop)
-          (subst (λ (v : Option ComingValue). IsNext p.at None v p.head.items []) (sym value)
-          (head, no_head_short [] (omega arith), open_at_end p.at)));
+      next = grind (arith, rest, no_head_short, open_at_end);
     }
 
 -- ---- what the code looks at: the held bytes with more behind them

@@ -26,57 +26,19 @@ pub record Continues (left noted offset : ℕ) (bytes : List ℕ) (at : ℕ) : T
 -- at its own offset it is the piece
 from_its_start : (left offset : ℕ) (bytes : List ℕ) (at : ℕ) → offset ≡ at → left ≤ length bytes
     → Continues left zero offset bytes at
-from_its_start left offset bytes at e some =
-    let none : 0 ≡ offset - offset = omega arith in
-    subst (Continues left zero offset bytes) e (record {
-      from = omega arith;
-      within = omega arith;
-      notes = ap (λ (k : ℕ). notes_in offset (drop k bytes)) none;
-      count = omega (arith, ap (λ (k : ℕ). length (packets_in offset (drop k bytes))) none);
-      stop = ap (λ (k : ℕ). stop_in offset (drop k bytes)) none;
-    })
+from_its_start left offset bytes at e some = grind (arith, notes_in, drop, length, packets_in, stop_in)
 
 -- a packet further on
 one_further : (left noted offset : ℕ) (bytes : List ℕ) (at : ℕ) (p : PacketParts) (size : ℕ)
     → GoesOn offset bytes p size → packets_in offset bytes ≡ p ∷ packets_in (offset + size) (drop size bytes)
     → Continues left noted (offset + size) (drop size bytes) at → Continues left (suc noted) offset bytes at
 one_further left noted offset bytes at p size g packets r =
-    let n = note_of offset p in
-    let from = r.from in
-    let within = r.within in
-    let room = g.room in
-    let steps : size + (at - (offset + size)) ≡ at - offset = omega arith in
-    let rest : drop (at - (offset + size)) (drop size bytes) ≡ drop (at - offset) bytes =
-    drop-drop (at - (offset + size)) size bytes ∙ ap (λ (k : ℕ). drop k bytes) steps in
-    let front = ap (take (suc noted)) g.notes in
-    record {
-      from = omega arith;
-      within = omega (arith, length-drop size bytes);
-      notes = g.notes ∙ ap (λ (t : List NoteParts). n ∷ t) r.notes ∙ (λ i. sym front i ++ notes_in at (rest i));
-      count = omega (arith, ap length packets, r.count, ap (λ (t : List ℕ). length (packets_in at t)) rest);
-      stop = g.stop ∙ r.stop ∙ ap (stop_in at) rest;
-    }
+    grind (arith, note_of, drop, drop-drop, take, length-drop, notes_in, length, packets_in, stop_in)
 
 -- where no packet stands at the front the first note is the head of what does, and there is no other
 at_head : (count offset : ℕ) (bytes : List ℕ) (at : ℕ) → packet_at offset bytes ≡ None → GoesOnAt count offset bytes at
     → (count ≡ 0) × (offset ≡ at) × (1 ≤ length bytes)
-at_head count offset bytes at none h =
-    let heads = (ends_at offset bytes (stop_of offset bytes) none refl).notes in
-    elim (heads_few offset bytes) [
-      | inl e ↦ absurd (subst (λ (l : List NoteParts). IsSomeAnd (slice_get l count) (λ n. n.offset ≡ at)) (heads
-          ∙ e) h)
-      | inr s ↦
-          let cut = s.2 in
-          let size = head-size cut.stands in
-          let first = the_first count s.0 at
-          (subst (λ (l : List NoteParts). IsSomeAnd (slice_get l count) (λ n. n.offset ≡ at)) (heads ∙ s.1) h) in
-          (first.0, sym (head_begins offset bytes s.0 cut) ∙ first.1, omega arith)
-    ]
-  where
-    the_first : (count : ℕ) (n : NoteParts) (at : ℕ) → IsSomeAnd (slice_get (n ∷ []) count) (λ m. m.offset ≡ at)
-        → (count ≡ 0) × (n.offset ≡ at)
-    the_first zero n at h = (refl, h)
-    the_first (suc count) n at h = absurd h
+at_head count offset bytes at none h = grind (arith, ends_at, stop_of, heads_few, slice_get, head-size, head_begins)
 
 -- behind so many of its packets, where the next note stands
 pub continues : (noted offset : ℕ) (bytes : List ℕ) (at : ℕ) → GoesOnAt noted offset bytes at
@@ -121,9 +83,7 @@ continues_behind (suc noted) offset bytes at h e =
 pub completes : (h : History) (noted offset : ℕ) (bytes : List ℕ) (at : ℕ) → GoesOnAt noted offset bytes at
     → content (Absorb (Cut h offset bytes noted) at (drop (at - offset) bytes)) ≡ content (Absorb h offset bytes)
 completes h noted offset bytes at g =
-    let whole = (continues noted offset bytes at g).notes in
-    sym (union_append (content h) (first_notes_in noted offset bytes) (notes_in at (drop (at - offset) bytes)))
-    ∙ ap (reduced_union (content h)) (sym whole)
+    grind (arith, continues, union_append, content, first_notes_in, notes_in, drop, reduced_union)
 
 -- what a refused call that took these bytes noted, and the rest of the whole piece from there on
 pub record CompletedBy (old new : List NoteParts) (offset : ℕ) (whole : List ℕ) (noted at : ℕ) : Type 0 where

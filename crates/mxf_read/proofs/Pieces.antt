@@ -64,24 +64,12 @@ alone_front low xs ys a = alone low xs (apart_front low xs ys a)
 
 one_or_none : (at : ℕ) (r : List ℕ) → (heads_at at r ≡ []) ⊎ ((n : NoteParts) × (heads_at at r ≡ n ∷ []))
 unfolding heads_at
-one_or_none at r =
-    elim (head_at r) as (λ o. head_at r ≡ o → (heads_at at r ≡ []) ⊎ ((n : NoteParts) × (heads_at at r ≡ n ∷ []))) [
-      | None ↦ λ e. inl (rw e refl)
-      | Some l ↦ λ e. elim (is_cut_at at r l) as (λ b. is_cut_at at r l ≡ b
-          → (heads_at at r ≡ []) ⊎ ((n : NoteParts) × (heads_at at r ≡ n ∷ []))) [
-            | true ↦ λ t. inr (head_parts at (take 16 r) l.width l.value, rw (e, t) refl)
-            | false ↦ λ t. inl (rw (e, t) refl)
-          ] refl
-    ] refl
+one_or_none at r = grind (arith, head_at, heads_at, is_cut_at, head_parts, take)
 
 -- there is none, or one, of the packet at the front that is cut
 pub heads_few : (at : ℕ) (r : List ℕ)
     → (heads_at at r ≡ []) ⊎ ((n : NoteParts) × (heads_at at r ≡ n ∷ []) × BeginsWithCut at r n)
-heads_few at r =
-    elim (one_or_none at r) [
-      | inl e ↦ inl e
-      | inr s ↦ inr (s.0, s.1, (heads_at-stands at r s.0).0 (subst (In s.0) (sym s.1) (inl refl)))
-    ]
+heads_few at r = grind (arith, one_or_none, heads_at-stands)
 
 pub head_begins : (at : ℕ) (r : List ℕ) (n : NoteParts) → BeginsWithCut at r n → n.offset ≡ at
 head_begins at r n c = ap (λ (m : NoteParts). m.offset) c.head
@@ -92,11 +80,7 @@ no_heads at r final =
     elim (heads_few at r) [ inl e ↦ e | inr s ↦ absurd (final (subst IsOpen (sym (cut_stops at r s.0 s.2)) tt)) ]
 
 apart_heads : (at : ℕ) (r : List ℕ) → AreApart at (heads_at at r)
-apart_heads at r =
-    elim (heads_few at r) [
-      | inl e ↦ subst (AreApart at) (sym e) tt
-      | inr s ↦ subst (AreApart at) (sym s.1) (let begins = head_begins at r s.0 s.2 in omega arith, tt)
-    ]
+apart_heads at r = grind (arith, heads_few, head_begins)
 
 -- ---- the notes of a piece
 
@@ -114,9 +98,7 @@ pub alone_packets : (offset : ℕ) (ps : List PacketParts) → reduced_union [] 
 alone_packets offset ps = alone offset (notes_from offset ps) (apart_packets offset ps)
 
 pub AreApart-notes_in : (offset : ℕ) (bytes : List ℕ) → AreApart offset (notes_in offset bytes)
-AreApart-notes_in offset bytes = apart_from offset offset (packets_in offset bytes)
-    (heads_at (end_after offset (packets_in offset bytes)) (rest_in offset bytes)) (omega arith)
-    (apart_heads (end_after offset (packets_in offset bytes)) (rest_in offset bytes))
+AreApart-notes_in offset bytes = grind (arith, apart_from, packets_in, heads_at, end_after, rest_in, apart_heads)
 
 pub IsContent-notes_in : (offset : ℕ) (bytes : List ℕ) → IsContent (notes_in offset bytes)
 IsContent-notes_in offset bytes = content_apart offset (notes_in offset bytes) (AreApart-notes_in offset bytes)
@@ -136,8 +118,7 @@ notes_for_packets offset (p ∷ ps) = ap suc (notes_for_packets (offset + size_o
 
 -- behind a stop that no bytes lead past there is no head
 pub closed_notes : (o : ℕ) (m : List ℕ) → (IsOpen (stop_in o m) → ⊥) → notes_in o m ≡ notes_from o (packets_in o m)
-closed_notes o m final = ap (λ (l : List NoteParts). notes_from o (packets_in o m) ++ l)
-    (no_heads (end_after o (packets_in o m)) (rest_in o m) final) ∙ append-nil (notes_from o (packets_in o m))
+closed_notes o m final = grind (arith, notes_from, packets_in, no_heads, end_after, rest_in, append-nil)
 
 -- the first note of a piece begins at its offset
 pub first_begins : (offset : ℕ) (bytes : List ℕ) → (notes_in offset bytes ≢ [])

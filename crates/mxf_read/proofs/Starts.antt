@@ -276,8 +276,7 @@ given offset (b ∷ bs) =
     elim (cases_Bool (may_begin offset (b ∷ bs))) [
       | inl e ↦ subst (IsGiven offset (b ∷ bs)) (sym (cond-true _ _ _ e))
           (λ p l. absurd (omega arith), at_front offset (b ∷ bs) ∙ e)
-      | inr e ↦ subst (IsGiven offset (b ∷ bs)) (sym (cond-false _ _ _ e))
-          (given_next offset b bs (start_in (offset + 1) bs) e (given (offset + 1) bs))
+      | inr e ↦ grind (arith, cond-false, given_next, start_in, given (offset + 1) bs)
     ]
 
 pub first_is : (offset : ℕ) (window : List ℕ) (k : ℕ) → NoneOf offset window k → MayAt offset window k

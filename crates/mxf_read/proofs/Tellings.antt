@@ -57,9 +57,7 @@ cut_value o m x p v stop value few fed =
         notes = fed.knows.notes ∙ ap (notes_from o) (sym j.0);
         at = fed.knows.at ∙ ap (end_after o) (sym j.0);
       };
-      head = ap (λ (s : Option Stop). begun_heads s p.value) stop ∙ ap (begun_heads None) value
-          ∙ ap (λ (n : ℕ). head_parts n v.key v.ber.width v.ber.value ∷ []) here ∙ sym heads
-          ∙ ap (heads_at p.at) (sym j.1);
+      head = grind (arith, begun_heads, head_parts, here, heads, heads_at);
     }
 
 pub cut_tells : (o : ℕ) (m x : List ℕ) (p : Piece) (left : ℕ) → p.stop ≡ None → length x ≡ left

@@ -35,40 +35,18 @@ width_is (b ∷ spelled) w v (inr h) = h.1
 
 -- bytes that begin as a label do so as far as there are any
 label_front : (n : ℕ) (xs : List ℕ) → BeginsAsLabel xs → BeginsAsLabel (take n xs)
-label_front n xs h =
-    elim (cases_lt (length xs) n) [
-      | inl all ↦ subst BeginsAsLabel (sym (take_all n xs (omega arith))) h
-      | inr some ↦
-          let long : length (take n xs) ≡ n = omega (arith, length-take n xs) in
-          elim (cases_lt 4 n) [
-            | inl more ↦ take-take 4 n xs (omega arith) ∙ h ∙ take_all (length xs) label_start (omega arith)
-                ∙ sym (take_all (length (take n xs)) label_start (omega arith))
-            | inr few ↦ take_all 4 (take n xs) (omega arith) ∙ sym (take-take n 4 xs few) ∙ ap (take n) h
-                ∙ take-take n (length xs) label_start some ∙ ap (λ (k : ℕ). take k label_start) (sym long)
-          ]
-    ]
+label_front n xs h = grind (arith, cases_lt, length, take_all, take, length-take, take-take, label_start)
 
 -- and so do bytes whose first four do
 label_more : (xs ys : List ℕ) → 4 ≤ length xs → BeginsAsLabel xs → BeginsAsLabel (xs ++ ys)
-label_more xs ys four h =
-    let long = length-append xs ys in
-    take-append-le 4 xs ys four ∙ h ∙ take_all (length xs) label_start (omega arith)
-    ∙ sym (take_all (length (xs ++ ys)) label_start (omega arith))
+label_more xs ys four h = grind (arith, length-append, take-append-le, take_all, length, label_start)
 
 -- ---- one position
 
 -- a key and a length that stand in the window
 begins_front : (bytes key after : List ℕ) (l : LengthParts) (n : ℕ) → (h : BeginsWithKeyAndLength bytes key l after)
     → 25 ≤ n → BeginsWithKeyAndLength (take n bytes) key l (take (n - 16 - l.width) after)
-begins_front bytes key after l n h long =
-    let w = width_is h.spelled l.width l.value h.width in
-    record {
-      spelled = h.spelled;
-      label = h.label;
-      width = h.width;
-      whole = ap (take n) h.whole ∙ take_past key (h.spelled ++ after) 16 n h.label.0 (omega arith)
-          ∙ ap (λ (t : List ℕ). key ++ t) (take_past h.spelled after l.width (n - 16) (head-width h) (omega arith));
-    }
+begins_front bytes key after l n h long = grind (arith, width_is, take, take_past, head-width)
 
 pub seen : (n offset : ℕ) (bytes : List ℕ) (p : ℕ) → MayBegin offset bytes p → p + 25 ≤ n
     → MayBegin offset (take n bytes) p
@@ -78,9 +56,7 @@ seen n offset bytes p m fits =
       key = m.key;
       length = m.length;
       after = take k m.after;
-      stands = subst (λ (b : List ℕ). BeginsWithKeyAndLength b m.key m.length (take k m.after))
-          (sym (take_front p n bytes (omega arith)))
-          (begins_front (drop p bytes) m.key m.after m.length (n - p) m.stands (omega arith));
+      stands = grind (arith, take, k, take_front, begins_front, drop);
       start_key = m.start_key;
       within = m.within;
       next = elim (cases_lt m.length.value k) [

@@ -56,20 +56,7 @@ told_on head (n ∷ notes) x =
 told : (notes : List NoteParts) (x : ℕ) → told_after None notes x ≡ head_of notes x
 told [] x = refl
 told (n ∷ notes) x =
-    let among = λ (s : ℕ). filter (λ m. is_head_to x m && (m.offset == s)) notes in
-    let itself : (n.offset == n.offset) ≡ true = eq-eqb n.offset n.offset refl in
-    elim (is_head_to x n) as (λ b. told_after (if b then Some (with_head None n) else None) notes x
-    ≡ option_map (λ m. record {
-      offset = m.offset;
-      needed = top_of (cond (b && (n.offset == m.offset)) (n ∷ among m.offset) (among m.offset));
-    }) (cond b (Some n) (find (is_head_to x) notes))) [
-      | true ↦ told_on (record { offset = n.offset; needed = end_of n }) notes x
-          ∙ ap (λ b. Some (record {
-            offset = n.offset;
-            needed = top_of (cond b (n ∷ among n.offset) (among n.offset));
-          })) (sym itself)
-      | false ↦ told notes x
-    ]
+    grind (arith, filter, is_head_to, eq-eqb, with_head, option_map, top_of, cond, find, told_on, end_of, told notes x)
 
 -- Once no note is left, the table has the heads of all.
 pub told_all : (heads : List (ℕ × Head)) (notes : List NoteParts) → AreTold heads [] notes → AreHeads notes heads

@@ -238,8 +238,7 @@ places_say (e ∷ entries) n s =
     let rest = lookup (is_at (nat_cmp n.place)) entries in
     let ih = places_say entries n (sorted_tail nat_cmp e.0 (keys_of entries) s) in (
       λ h. elim h [
-        | inl q ↦ ap (λ b. cond b (Some e.1) rest) (at_equal n.place e.0 (ap place_in q))
-            ∙ ap (λ (o : Option ℕ). Some o) (sym (ap (λ (m : NamedPlace). m.source) q))
+        | inl q ↦ grind (arith, cond, rest, at_equal)
         | inr j ↦
             let less = lt_from_less e.0 n.place (above e.0 entries n (sorted_head nat_cmp e.0 (keys_of entries) s) j) in
             let apart : n.place ≢ e.0 = omega arith in

@@ -19,9 +19,7 @@ module _ (b : ℕ) (notes own : List NoteParts) (u : IsUnionAt b notes own) wher
   -- What is kept of the new notes follows what was kept before.
   pub kept_above : {A : Type 0} (take : NoteParts → Option A) (xs : List A) → xs ≡ kept_among take own
       → xs ++ filter_map take (clear_from b notes) ≡ kept_among take notes
-  kept_above take xs same = ap (λ l. l ++ filter_map take (clear_from b notes)) same
-      ∙ subst (λ (ns : List NoteParts). kept_among take own ++ filter_map take (clear_from b ns) ≡ kept_among take ns)
-      (sym u.union) (taken_of_both b own u.other u.meet take)
+  kept_above take xs same = grind (arith, filter_map, clear_from, kept_among, taken_of_both)
 
   -- The packs of the new partitions end above the boundary.
   pub ends_above_at : (k : ℕ) (d : PartitionParts) → 0 ≤ k → k < length (filter_map kept_partition (clear_from b notes))
@@ -36,6 +34,4 @@ module _ (b : ℕ) (notes own : List NoteParts) (u : IsUnionAt b notes own) wher
 
   pub count_at : (test : NoteParts → Bool)
       → count_by test (clear_notes notes) ≡ count_by test (clear_notes own) + count_by test (clear_from b notes)
-  count_at test = subst (λ (ns : List NoteParts). count_by test (clear_notes ns)
-      ≡ count_by test (clear_notes own) + count_by test (clear_from b ns)) (sym u.union)
-      (count_of_both b own u.other u.meet test)
+  count_at test = grind (arith, count_by, clear_notes, clear_from, count_of_both)

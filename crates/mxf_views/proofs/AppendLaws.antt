@@ -42,9 +42,7 @@ module _ {A : Type 0} (take : NoteParts → Option A) where
       → AreAppended before now left new → left ≡ n ∷ rest → o ≡ take n → IsAppended o now next
       → AreAppended before next rest new
   appended_next before now next left new rest n o a e is f = record {
-    items = ap (λ l. l ++ filter_map take rest) f.items ∙ append_assoc now.items _ _
-        ∙ ap (λ o. now.items ++ (cons_option o [] ++ filter_map take rest)) is
-        ∙ ap (λ l. now.items ++ l) (behind n rest) ∙ ap (λ l. now.items ++ filter_map take l) (sym e) ∙ a.items;
+    items = grind (arith, filter_map, append_assoc, cons_option, behind);
     room = (let all = ap (count_by (is_kept take)) e in
         let more = count_by-cons (is_kept take) n rest in
         let size = ap (λ o. length (cons_option o [])) is in

@@ -49,11 +49,7 @@ best_after seen (c ∷ left) best p =
     let more : IsPreferred (seen ++ c ∷ []) (better best c) =
     elim (is_candidate c) as (λ k. is_candidate c ≡ k
     → IsPreferred (seen ++ c ∷ []) (cond (k && is_above c best) (Some c) best)) [
-      | true ↦ λ k. elim (is_above c best) as (λ a. is_above c best ≡ a
-          → IsPreferred (seen ++ c ∷ []) (cond a (Some c) best)) [
-            | true ↦ λ a. best_takes seen best c p k a
-            | false ↦ λ a. best_keeps seen best c p (inr a)
-          ] refl
+      | true ↦ grind (arith, is_above, cond, best_takes, best_keeps)
       | false ↦ λ k. best_keeps seen best c p (inl k)
     ] refl in
     let whole = append_assoc seen (c ∷ []) left in

@@ -68,9 +68,7 @@ linked_by header l = if header then is_first l else is_held l
 
 first_link : (ps : List PartitionParts) (p : PartitionParts) → is_header p.pack.part ≡ true → is_linked ps p ≡ true
     → IsLink ps p First
-first_link ps p h t =
-    let u : is_first (link_of ps p) ≡ true = ap (λ (b : Bool). linked_by b (link_of ps p)) (sym h) ∙ t in
-    (link_iff ps p First).0 (first_says (link_of ps p) u)
+first_link ps p h t = grind (arith, is_first, link_of, link_iff, first_says)
 
 held_link : (ps : List PartitionParts) (p : PartitionParts) → is_header p.pack.part ≡ false → is_linked ps p ≡ true
     → IsLink ps p Held
@@ -89,9 +87,7 @@ linked_held ps p h i = ap (λ (b : Bool). linked_by b (link_of ps p)) h ∙ ap i
 only_from : (ps : List PartitionParts) (is : PackPart → Bool) (part : PackPart)
     → ((x : PackPart) → is x ≡ true → x ≡ part) → is part ≡ true
     → count_by (λ p. is p.pack.part) ps ≡ 1 → (p : PartitionParts) × IsOnly ps part p
-only_from ps is part says own e =
-    let s = count-one (λ p. is p.pack.part) ps e in
-    (s.0, record { held = s.1; part = says s.0.pack.part s.2; only = λ q h t. s.3 q h (ap is t ∙ own) })
+only_from ps is part says own e = grind (arith, count-one)
 
 from_only : (ps : List PartitionParts) (is : PackPart → Bool) (part : PackPart) (p : PartitionParts)
     → ((x : PackPart) → is x ≡ true → x ≡ part) → is part ≡ true

@@ -26,16 +26,7 @@ module _ {A : Type 0} (key : A → ℕ) where
 
   pub In-with_keyed : (c x : A) (ds : List A) → In x (with_keyed key c ds) ↔ ((x ≡ c) ⊎ In x ds)
   In-with_keyed c x [] = (λ h. h, λ h. h)
-  In-with_keyed c x (d ∷ ds) =
-      let ih = In-with_keyed c x ds in
-      elim (nat_lt (key c) (key d)) as (λ b. In x (cond b (c ∷ d ∷ ds) (d ∷ with_keyed key c ds))
-      ↔ ((x ≡ c) ⊎ In x (d ∷ ds))) [
-        | true ↦ (λ h. h, λ h. h)
-        | false ↦ (
-          λ h. elim h [ inl e ↦ inr (inl e) | inr k ↦ elim (ih.0 k) [ inl e ↦ inl e | inr i ↦ inr (inr i) ] ],
-          λ h. elim h [ inl e ↦ inr (ih.1 (inl e)) | inr k ↦ elim k [ inl e ↦ inl e | inr i ↦ inr (ih.1 (inr i)) ] ],
-        )
-      ]
+  In-with_keyed c x (d ∷ ds) = grind (arith, nat_lt, cond, with_keyed, In-with_keyed c x ds)
 
   pub rises-with_keyed : (c : A) (ds : List A) → IsRisingBy key ds → ((d : A) → In d ds → key d ≢ key c)
       → IsRisingBy key (with_keyed key c ds)
@@ -78,9 +69,7 @@ module _ {A : Type 0} (key : A → ℕ) where
 
   pub length-with_keyed : (c : A) (cs : List A) → length (with_keyed key c cs) ≡ suc (length cs)
   length-with_keyed c [] = refl
-  length-with_keyed c (d ∷ cs) =
-      elim (nat_lt (key c) (key d)) as (λ b. length (cond b (c ∷ d ∷ cs) (d ∷ with_keyed key c cs))
-      ≡ suc (suc (length cs))) [ true ↦ refl | false ↦ ap suc (length-with_keyed c cs) ]
+  length-with_keyed c (d ∷ cs) = grind (arith, nat_lt, length, cond, with_keyed, length-with_keyed c cs)
 
   pub length-with_found : (o : Option A) (cs : List A) → length (with_found key o cs) ≤ length cs + 1
   length-with_found None cs = omega arith
@@ -98,18 +87,7 @@ module _ {A : Type 0} (key : A → ℕ) where
   pub not_found : (k : ℕ) (xs : List A) (i : ℕ) → IsNonDecreasingBy key xs → AllWithin (λ x. key x < k) xs 0 i
       → ((d : A) → i < length xs → k ≤ key (get_or xs i d) → key (get_or xs i d) ≢ k)
       → AllWithin (λ x. k ≤ key x) xs i (length xs) → find (λ x. key x == k) xs ≡ None
-  not_found k xs i r f other g = find-none (λ x. key x == k) xs (λ x h t.
-      let p = Contains-from_In x xs h in
-      let at : key (get_or xs p.0 x) ≡ k = ap key p.2 ∙ eqb-true (key x) k t in
-      elim (cases_lt p.0 i) [
-        | inl l ↦ (let b : key (get_or xs p.0 x) < k = f p.0 x (omega arith) l in omega (arith, b, at))
-        | inr l ↦ (
-            let size = p.1 in
-            let a : k ≤ key (get_or xs i x) = g i x (omega arith) (omega (arith, l, size)) in
-            let o = other x (omega (arith, l, size)) a in
-            let m : key (get_or xs i x) ≤ key (get_or xs p.0 x) = r i p.0 x l size in
-            omega (arith, a, o, m, at))
-      ])
+  not_found k xs i r f other g = grind (arith, find-none, Contains-from_In, get_or, eqb-true, cases_lt)
 
   -- None lies between where all are at or below the lower one.
   pub none_between : (low high : ℕ) (xs : List A) (i : ℕ) → length xs ≤ i → AllWithin (λ x. key x ≤ low) xs 0 i

@@ -26,10 +26,7 @@ count_none t xs a = count-none t xs (λ x h e. let f = all-In (λ y. t y ≡ fal
 -- Where the first alone passes, one is counted.
 count_first : (t : PartitionParts → Bool) (y : PartitionParts) (ys : List PartitionParts) → t y ≡ true
     → AllByRecursion (λ x. t x ≡ false) ys → count_by t (y ∷ ys) ≡ 1
-count_first t y ys h a =
-    let e = count_by-cons t y ys in
-    let f : tally (t y) ≡ 1 = ap tally h in
-    let g = count_none t ys a in omega (arith, e, f, g)
+count_first t y ys h a = grind (arith, count_by-cons, tally, count_none)
 
 -- The first partition is a header at 0, and no other is a header.
 abbrev pub BeginsAtZero : List PartitionParts → Type 0
@@ -50,14 +47,7 @@ pub record EndsInFooter (parts : List PartitionParts) : Type 0 where
   pub is_one : is_footer footer.pack.part ≡ true
 
 pub one_footer : (parts : List PartitionParts) → EndsInFooter parts → count_by (λ p. is_footer p.pack.part) parts ≡ 1
-one_footer parts f =
-    let t : PartitionParts → Bool = λ p. is_footer p.pack.part in
-    let a : count_by t parts ≡ count_by t (f.before ++ f.footer ∷ []) = ap (count_by t) f.order in
-    let b : count_by t (f.before ++ f.footer ∷ []) ≡ count_by t f.before + count_by t (f.footer ∷ [])
-    = sum_by-append (λ x. cond (t x) 1 0) f.before (f.footer ∷ []) in
-    let c : count_by t f.before ≡ 0 = count_none t f.before f.only in
-    let d : count_by t (f.footer ∷ []) ≡ 1 = count_first t f.footer [] f.is_one tt in
-    omega (arith, a, b, c, d)
+one_footer parts f = grind (arith, is_footer, count_by, sum_by-append, cond, count_none, count_first)
 
 In-end : (x : PartitionParts) (xs : List PartitionParts) → In x (xs ++ x ∷ [])
 In-end x [] = inl refl
@@ -68,10 +58,7 @@ last_greatest : (low : ℕ) (bs : List PartitionParts) (f x : PartitionParts) �
     → In x (bs ++ f ∷ []) → x.offset ≤ f.offset
 last_greatest low [] f x r (inl e) = let o = offset-same x f e in omega (arith, o)
 last_greatest low [] f x r (inr h) = absurd h
-last_greatest low (b ∷ bs) f x r (inl e) =
-    let o = offset-same x b e in
-    let g : b.offset + 1 ≤ f.offset = at_or_above (b.offset + 1) (bs ++ f ∷ []) f r.1 (In-end f bs) in
-    omega (arith, o, g)
+last_greatest low (b ∷ bs) f x r (inl e) = grind (arith, offset-same, at_or_above, In-end)
 last_greatest low (b ∷ bs) f x r (inr h) = last_greatest (b.offset + 1) bs f x r.1 h
 
 footer_greatest : (parts : List PartitionParts) (f : EndsInFooter parts) → IsRisingFrom 0 parts

@@ -29,9 +29,7 @@ use Rattle.mxf_klv.specs.declared.kinds.Kind.TheVariants as kinds
 
 no_gaps-laid : (at : ℕ) (l : List PacketParts) → gaps_from at at (notes_from at l) ≡ []
 no_gaps-laid at [] = rw (le-ltb at at (omega arith)) refl
-no_gaps-laid at (p ∷ ps) =
-    let e : max at (end_of (note_of at p)) ≡ at + size_of p = omega arith in
-    rw (le-ltb at at (omega arith), e) (no_gaps-laid (at + size_of p) ps)
+no_gaps-laid at (p ∷ ps) = grind (arith, max, end_of, note_of, size_of, le-ltb, no_gaps-laid (at + size_of p) ps)
 
 -- ---- what a partition tells of its packet
 

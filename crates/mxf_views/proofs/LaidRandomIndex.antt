@@ -20,9 +20,7 @@ use Rattle.mxf_views.proofs.RisingPartitions.{IsRisingFrom, at_or_above, rising-
 found : (low : ℕ) (ps : List PartitionParts) (p : PartitionParts) → IsRisingFrom low ps → In p ps
     → find (λ q. q.offset == p.offset) ps ≡ Some p
 found low [] p a h = absurd h
-found low (q ∷ qs) p a (inl e) =
-    let f : q.offset ≡ p.offset = ap (λ (x : PartitionParts). x.offset) (sym e) in
-    rw (eq-eqb q.offset p.offset f) (ap Some (sym e))
+found low (q ∷ qs) p a (inl e) = grind (arith, eq-eqb)
 found low (q ∷ qs) p a (inr h) =
     let c : q.offset + 1 ≤ p.offset = at_or_above (q.offset + 1) qs p a.1 h in
     rw (ne_eqb q.offset p.offset (λ e. omega (arith, e, c))) (found (q.offset + 1) qs p a.1 h)
@@ -57,11 +55,7 @@ module _ (notes : List NoteParts) (parts : List PartitionParts) (same : partitio
       → rip_view_by (partitions_of notes) at o
       ≡ option_map_or (λ rip. One (record { offset = at; entries = one_by_one rip.entries parts })) o Absent
   one at None s e = cc
-  one at (Some rip) s e =
-      let all : standings notes rip.entries ≡ one_by_one rip.entries parts =
-      ap (standings notes) e ∙ (λ i. map (λ entry. (entry, standing_of (same i) entry)) (map entry_of parts))
-      ∙ alike parts parts h ∙ ap (λ es. one_by_one es parts) (sym e) in
-      λ i. One (record { offset = at; entries = all i })
+  one at (Some rip) s e = grind (arith, standings, one_by_one, map, standing_of, entry_of, alike)
 
   rips-laid : (at : ℕ) (l : List PacketParts) → AllByRecursion IsReadable l → EndsWithRandomIndex parts l
       → rip_view_among (partitions_of notes) (filter is_rip_note (notes_from at l)) ≡ rip_read parts at l

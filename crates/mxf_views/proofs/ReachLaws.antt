@@ -106,9 +106,4 @@ ends_by_reach cs limit offset at l m n a k d from below s e =
 pub length-copies_followed : (notes : List NoteParts) (offset start end : ℕ) (brings : Bool) (cs : List CopyInfo)
     → length (copies_followed notes offset start end brings cs) ≤ length cs + 1
 length-copies_followed notes offset start end brings cs =
-    let outside = filter (λ (c : CopyInfo). is_outside start end c.partition) cs in
-    let l = length-with_found (λ (d : CopyInfo). d.partition)
-    (find (λ (d : CopyInfo). d.partition == offset) (copies_of notes)) (map (renewed notes start end brings) outside) in
-    let m = length-map outside (renewed notes start end brings) in
-    let f = length-filter_le (λ (c : CopyInfo). is_outside start end c.partition) cs in
-    omega (arith, l, m, f)
+    grind (arith, filter, is_outside, length-with_found, find, copies_of, map, renewed, length-map, length-filter_le)

@@ -36,9 +36,7 @@ one_counted : (noted whole at size : ℕ) (rest after : List ℕ) (p : PacketPar
     → size ≡ size_of p → drop size rest ≡ after → noted + length (packets_in at rest) ≡ whole
     → noted + 1 + length (packets_in (at + size) after) ≡ whole
 one_counted noted whole at size rest after p e is left count =
-    let next : packets_in (at + size_of p) (drop (size_of p) rest) ≡ packets_in (at + size) after =
-    ap (λ (n : ℕ). packets_in (at + n) (drop n rest)) (sym is) ∙ ap (packets_in (at + size)) left in
-    omega (arith, count, ap length (packets_in-some at rest p e), ap length next)
+    grind (arith, packets_in, size_of, drop, length, packets_in-some)
 
 pub packets-preserved : goal.packets-preserved
 packets-preserved c =
@@ -52,9 +50,7 @@ packets-preserved c =
     let some = on.some in
     let room = on.room in
     record {
-      notes = one_more c.args.catalogue.now c.packets.catalogue c.note_packet.new.catalogue
-          (notes_in c.args.offset c.args.bytes.now) _ _ c.packets.noted n i.notes left
-          c.in-Ok-note_packet.ensures.noted;
+      notes = grind (arith, one_more, notes_in, n, left);
       count = one_counted c.packets.noted _ c.packets.at c.in-Ok.size c.packets.rest.now _ c.in-Ok.packet
           c.in-Ok.ensures.packet.0 c.in-Ok.ensures.packet.1 (sym back) i.count;
       stop = i.stop ∙ on.stop ∙ ap (λ (t : List ℕ). stop_in at t) (sym back);

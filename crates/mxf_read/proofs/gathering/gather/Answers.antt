@@ -52,14 +52,10 @@ returns-then-number-eq0-clause-history g c t =
     c.new.ensures
 
 pub returns-in-Ok-clause-history : goal.returns-in-Ok-clause-history
-returns-in-Ok-clause-history g c t =
-    gathered_left g.R.Read.remaining c.args.parts.items (into_iter_items c.parts.part-iterator) c.parts.number _ _ _
-    (c.parts.invariant.gathered t) (sym c.parts.part-iterator.rest.ok.0 ∙ c.in-None.ensures.steps.0) c.in-Ok.ensures
+returns-in-Ok-clause-history g c t = grind (arith, gathered_left, into_iter_items)
 
 pub returns-in-Ok-clause-run : goal.returns-in-Ok-clause-run
-returns-in-Ok-clause-run g c t =
-    gathered_run g.R.Read.remaining c.args.parts.items (into_iter_items c.parts.part-iterator) c.parts.number _ _ _
-    (c.parts.invariant.gathered t) (sym c.parts.part-iterator.rest.ok.0 ∙ c.in-None.ensures.steps.0) c.in-Ok.ensures
+returns-in-Ok-clause-run g c t = grind (arith, gathered_run, into_iter_items)
 
 pub returns-in-Err-into_views-clause-fault : goal.returns-in-Err-into_views-clause-fault
 returns-in-Err-into_views-clause-fault g c t =
@@ -67,19 +63,13 @@ returns-in-Err-into_views-clause-fault g c t =
     (c.parts.invariant.gathered t) (sym c.parts.part-iterator.rest.ok.0 ∙ c.in-None.ensures.steps.0) (omega arith)
 
 pub returns-then-number-eq0-clause-good : goal.returns-then-number-eq0-clause-good
-returns-then-number-eq0-clause-good g c t =
-    gathered_good g.R.Read.remaining c.args.parts.items (into_iter_items c.parts.part-iterator) c.parts.number _ _
-    (c.parts.invariant.gathered t) (sym c.parts.part-iterator.rest.ok.0 ∙ c.in-None.ensures.steps.0)
+returns-then-number-eq0-clause-good g c t = grind (arith, gathered_good, into_iter_items)
 
 pub returns-in-Ok-clause-good : goal.returns-in-Ok-clause-good
-returns-in-Ok-clause-good g c t =
-    gathered_good g.R.Read.remaining c.args.parts.items (into_iter_items c.parts.part-iterator) c.parts.number _ _
-    (c.parts.invariant.gathered t) (sym c.parts.part-iterator.rest.ok.0 ∙ c.in-None.ensures.steps.0)
+returns-in-Ok-clause-good g c t = grind (arith, gathered_good, into_iter_items)
 
 pub returns-in-Ok-clause-reports : goal.returns-in-Ok-clause-reports
-returns-in-Ok-clause-reports g c t =
-    gathered_reports g.R.Read.remaining c.args.parts.items (into_iter_items c.parts.part-iterator) c.parts.number _ _
-    (c.parts.invariant.gathered t) (sym c.parts.part-iterator.rest.ok.0 ∙ c.in-None.ensures.steps.0)
+returns-in-Ok-clause-reports g c t = grind (arith, gathered_reports, into_iter_items)
 
 pub returns-in-Err-clause-number : goal.returns-in-Err-clause-number
 returns-in-Err-clause-number g c =
@@ -87,9 +77,7 @@ returns-in-Err-clause-number g c =
     c.parts.invariant.passed c.in-Some.ensures.steps.0
 
 pub returns-then-number-eq0-clause-reports : goal.returns-then-number-eq0-clause-reports
-returns-then-number-eq0-clause-reports g c t =
-    gathered_reports g.R.Read.remaining c.args.parts.items (into_iter_items c.parts.part-iterator) c.parts.number _ _
-    (c.parts.invariant.gathered t) (sym c.parts.part-iterator.rest.ok.0 ∙ c.in-None.ensures.steps.0)
+returns-then-number-eq0-clause-reports g c t = grind (arith, gathered_reports, into_iter_items)
 
 pub returns-in-Err-into_views-clause-number : goal.returns-in-Err-into_views-clause-number
 returns-in-Err-into_views-clause-number g c =

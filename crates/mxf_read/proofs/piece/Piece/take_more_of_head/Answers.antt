@@ -4,9 +4,7 @@ use Rattle.mxf_read.proofs.Feeding.{begun, few_held, head_whole, held_more, lack
 use Rattle.mxf_read.proofs.piece.Piece.take_more_of_head.Goals as goal
 
 pub overflow_sub-known : goal.overflow_sub-known
-overflow_sub-known c =
-    let few = few_held c.args.self.now c.requires.fed c.requires.goes_on c.requires.head in
-    omega (arith, few, c.len-known.ensures, c.args.self.now.head.ok.0)
+overflow_sub-known c = grind (arith, few_held)
 
 pub overflow_sub-result : goal.overflow_sub-result
 overflow_sub-result c =

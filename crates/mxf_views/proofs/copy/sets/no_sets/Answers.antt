@@ -10,10 +10,7 @@ not_both false b h = refl
 -- no packet lies in no byte
 no_zone : (notes : List NoteParts) → zone_of 0 0 notes ≡ []
 no_zone [] = refl
-no_zone (n ∷ notes) =
-    let e : lies_in 0 0 n ≡ false = not_both (nat_le 0 n.offset) (nat_le (end_of n) (0 + 0))
-    (λ t. let l : end_of n ≤ 0 + 0 = leb-true (end_of n) (0 + 0) t in omega arith) in
-    rw e (no_zone notes)
+no_zone (n ∷ notes) = grind (arith, lies_in, not_both, nat_le, end_of, leb-true, no_zone notes)
 
 pub returns-clause-none : goal.returns-clause-none
 returns-clause-none c = c.of.ensures.sets ∙ ap (filter is_set_note)

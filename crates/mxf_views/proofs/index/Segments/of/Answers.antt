@@ -9,6 +9,4 @@ returns-clause-segments c =
 
 pub returns-clause-bound : goal.returns-clause-bound
 unfolding segments_of
-returns-clause-bound c =
-    let m = length-filter_map placed_segment (clear_notes c.args.catalogue.now) in
-    omega (arith, m, ap length (returns-clause-segments c), c.laws.ensures.clear_bound)
+returns-clause-bound c = grind (arith, length-filter_map, placed_segment, clear_notes, length, returns-clause-segments)

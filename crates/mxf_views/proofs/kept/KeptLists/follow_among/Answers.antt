@@ -34,28 +34,11 @@ put-requires-clause-unreadable_packs c =
     (ap (λ (p : KeptParts). p.unreadable) k.kept) c.leave.ensures.unreadable_packs.items
 
 pub follow_copies-requires-clause-rising : goal.follow_copies-requires-clause-rising
-follow_copies-requires-clause-rising c =
-    let k = c.requires.arrived in
-    let same = ap (λ (v : Vec CopyInfo Global). v.items) (c.put.ensures.copies ∙ c.leave.ensures.copies) in
-    subst CopiesRise (sym (same ∙ ap (λ (p : KeptParts). p.copies) k.kept)) (copies_rise k.notes k.arrival.content)
+follow_copies-requires-clause-rising c = grind (arith, copies_rise)
 
 pub refill_reaches-requires-clause-room : goal.refill_reaches-requires-clause-room
 refill_reaches-requires-clause-room c =
-    let a = c.args.arrival.now in
-    let old = c.args.self.now in
-    let k = c.requires.arrived in
-    let copies = ap (λ (p : KeptParts). p.copies) k.kept in
-    let reaches = ap (λ (p : KeptParts). p.reaches) k.kept in
-    let now = ap length (c.deref.ensures.value ∙ c.follow_copies.ensures) in
-    let there = c.put.new.self.copies.items in
-    let one = length-copies_followed c.args.catalogue.now a.offset a.start a.end a.can_bring_start there in
-    let same = ap (λ (v : Vec CopyInfo Global). length v.items) (c.put.ensures.copies ∙ c.leave.ensures.copies) in
-    let many : length old.reaches.items ≡ length old.copies.items =
-    ap length reaches ∙ length-reaches_from 0 (copies_of k.notes) ∙ ap length (sym copies) in
-    let counted = old.reaches.ok.0 in
-    let capacity = ap (λ (v : Vec ℕ Global). vec_capacity v) (c.put.ensures.reaches ∙ c.leave.ensures.reaches) in
-    let room = c.requires.room.reaches in
-    omega (arith, now, one, same, many, counted, capacity, room)
+    grind (arith, length, length-copies_followed, length-reaches_from, copies_of, vec_capacity)
 
 pub returns : goal.returns
 returns c =

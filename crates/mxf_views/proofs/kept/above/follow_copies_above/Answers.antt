@@ -11,9 +11,7 @@ use Rattle.mxf_klv.proofs.ListSteps.{in_rest, map_rest, rest_taken, rest_written
 use Rattle.mxf_views.proofs.kept.above.follow_copies_above.Goals as goal
 
 pub starting-starting-requires : goal.starting-starting-requires
-starting-starting-requires c =
-    let k = c.requires.kept in
-    subst CopiesRise (sym (c.deref.ensures.value ∙ k.2)) (copies_rise k.0 k.1.meet.own_is.content)
+starting-starting-requires c = grind (arith, copies_rise)
 
 pub count_above-requires : goal.count_above-requires
 count_above-requires c = λ copy s h e.
@@ -31,11 +29,7 @@ append_copies-requires-clause-above c = λ i d z l.
     (ends_above_at b c.args.sums.now.notes c.requires.kept.0 c.requires.kept.1 i d z) l
 
 pub append_copies-requires-clause-room : goal.append_copies-requires-clause-room
-append_copies-requires-clause-room c =
-    let b = c.args.sums.now.boundary in
-    let notes = c.args.sums.now.notes in
-    let many = ap (count_by has_metadata) c.requires.new ∙ counted_copies (clear_from b notes) in
-    omega (arith, many, c.requires.room)
+append_copies-requires-clause-room c = grind (arith, count_by, has_metadata, counted_copies, clear_from)
 
 pub returns-clause-copies : goal.returns-clause-copies
 returns-clause-copies c =

@@ -9,6 +9,4 @@ returns-clause-partitions c =
 
 pub returns-clause-bound : goal.returns-clause-bound
 unfolding partitions_of
-returns-clause-bound c =
-    let m = length-filter_map partition_at (clear_notes c.args.catalogue.now) in
-    omega (arith, m, ap length (returns-clause-partitions c), c.laws.ensures.clear_bound)
+returns-clause-bound c = grind (arith, length-filter_map, partition_at, clear_notes, length, returns-clause-partitions)

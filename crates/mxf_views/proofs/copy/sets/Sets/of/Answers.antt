@@ -2,6 +2,4 @@ use Rattle.mxf_views.proofs.Common.{◌≤◌, length, arith, filter, is_set_not
 use Rattle.mxf_views.proofs.copy.sets.Sets.of.Goals as goal
 
 pub returns-clause-bound : goal.returns-clause-bound
-returns-clause-bound c =
-    let l : length (filter is_set_note c.args.zone) ≤ length c.args.zone = length-filter_le is_set_note c.args.zone in
-    omega (arith, l)
+returns-clause-bound c = grind (arith, length, filter, is_set_note, length-filter_le)

@@ -11,9 +11,7 @@ low c = subst (λ (s : SumsParts). s.boundary ≤ c.args.start) (sym c.self.view
 range : (c : After-counts-above)
     → AreInRange (clear_from c.self.inside.boundary c.self.inside.catalogue.now) c.args.start c.args.bytes
     c.args.first.now c.args.last.now
-range c =
-    subst (λ (s : SumsParts). AreInRange (clear_from s.boundary s.notes) c.args.start c.args.bytes c.args.first.now
-    c.args.last.now) (sym c.self.view_is) c.requires.marks
+range c = grind (arith, clear_from)
 
 covered_all : (c : After-counts-above)
     → c.counts-below.result.covered + (c.args.last.now.covered - c.args.first.now.covered)
@@ -37,9 +35,7 @@ covered_bound c = covered_fits c.args.start c.args.bytes (clear_notes c.self.ins
 
 prefaces_bound : (c : After-counts-above)
     → prefaces_of c.args.start c.args.bytes (clear_notes c.self.inside.catalogue.now) < 2 ^ 64
-prefaces_bound c =
-    let some = prefaces_fit c.args.start c.args.bytes (clear_notes c.self.inside.catalogue.now) in
-    omega (arith, some, c.laws.ensures.clear_bound)
+prefaces_bound c = grind (arith, prefaces_fit, clear_notes)
 
 pub overflow_sub-result : goal.overflow_sub-result
 overflow_sub-result c =
@@ -48,14 +44,10 @@ overflow_sub-result c =
     c.args.last.now c.laws.ensures.catalogue (low d) (range d)
 
 pub overflow_add-result : goal.overflow_add-result
-overflow_add-result c =
-    let d = (goal.at.overflow_add-result c).After-counts-above in
-    omega (arith, covered_all d, covered_bound d, c.ranges.bytes.fits)
+overflow_add-result c = grind (arith, After-counts-above, covered_all, covered_bound)
 
 pub overflow_add-result-2 : goal.overflow_add-result-2
-overflow_add-result-2 c =
-    let d = (goal.at.overflow_add-result-2 c).After-counts-above in
-    omega (arith, covered_all d, covered_bound d, c.ranges.bytes.fits)
+overflow_add-result-2 c = grind (arith, After-counts-above, covered_all, covered_bound)
 
 pub overflow_sub-result-2 : goal.overflow_sub-result-2
 overflow_sub-result-2 c =
@@ -64,21 +56,13 @@ overflow_sub-result-2 c =
     c.args.last.now c.laws.ensures.catalogue (low d) (range d)
 
 pub overflow_add-result-3 : goal.overflow_add-result-3
-overflow_add-result-3 c =
-    let d = (goal.at.overflow_add-result-3 c).After-counts-above in
-    omega (arith, prefaces_all d, prefaces_bound d)
+overflow_add-result-3 c = grind (arith, After-counts-above, prefaces_all, prefaces_bound)
 
 pub overflow_add-result-4 : goal.overflow_add-result-4
-overflow_add-result-4 c =
-    let d = (goal.at.overflow_add-result-4 c).After-counts-above in
-    omega (arith, prefaces_all d, prefaces_bound d)
+overflow_add-result-4 c = grind (arith, After-counts-above, prefaces_all, prefaces_bound)
 
 pub returns-clause-covered : goal.returns-clause-covered
-returns-clause-covered c =
-    let d = (goal.at.returns-clause-covered c).After-counts-above in
-    covered_all d ∙ ap (λ (s : SumsParts). covered_of c.args.start c.args.bytes (clear_notes s.notes)) c.self.view_is
+returns-clause-covered c = grind (arith, After-counts-above, covered_all, covered_of, clear_notes)
 
 pub returns-clause-prefaces : goal.returns-clause-prefaces
-returns-clause-prefaces c =
-    let d = (goal.at.returns-clause-prefaces c).After-counts-above in
-    prefaces_all d ∙ ap (λ (s : SumsParts). prefaces_of c.args.start c.args.bytes (clear_notes s.notes)) c.self.view_is
+returns-clause-prefaces c = grind (arith, After-counts-above, prefaces_all, prefaces_of, clear_notes)
