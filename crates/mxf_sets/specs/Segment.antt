@@ -4,7 +4,7 @@ use Rattle.std.specs.Prelude.{◌≡◌, ℕ, ℤ, ◌+◌, ◌*◌, ◌/◌, �
 use Rattle.std.specs.Prelude.{List, [], ◌∷◌, ◌++◌, length, drop, Option, Some, None, Result, Ok, Err, FitsSigned}
 use Rattle.std.specs.Option.{option_map, option_map_or, ok_or}
 use Rattle.std.specs.List.{flat_map}
-use Rattle.std.specs.Int.{w32, w64, cast_signed, cast_unsigned, is_negative}
+use Rattle.std.specs.Int.{w32, w64, cast_unsigned, is_negative}
 use Rattle.byteorder.specs.Endian.{big_number, big_bytes}
 use Rattle.mxf_sets.specs.declared.record.Field.{Field}
 use Rattle.mxf_sets.specs.declared.record.FieldFault.{FieldFault}
@@ -16,6 +16,7 @@ use Rattle.mxf_sets.specs.Faults.{segment_fault}
 use Rattle.mxf_sets.specs.Fields.{required, optional, fields_at, is_batch}
 use Rattle.mxf_sets.specs.Items.{ItemParts, item, item_bytes}
 use Rattle.mxf_sets.specs.Lookup.{bytes_of, value_of}
+use Rattle.mxf_sets.specs.Numbers.{number_in, signed_4, signed_8}
 use Rattle.mxf_sets.specs.Tags.{edit_rate_tag, start_tag, duration_tag, unit_bytes_tag, index_sid_tag, body_sid_tag}
 use Rattle.mxf_sets.specs.Tags.{slices_tag, positions_tag, entries_tag}
 
@@ -74,18 +75,6 @@ segment_fields =
     ∷ optional positions_tag (Exactly 1)
     ∷ optional entries_tag Any
     ∷ []
-
--- The signed number of four bytes at the front.
-abbrev pub signed_4 : List ℕ → ℤ
-signed_4 bytes = cast_signed w32 (big_number 4 bytes)
-
--- The signed number of eight bytes at the front.
-abbrev pub signed_8 : List ℕ → ℤ
-signed_8 bytes = cast_signed w64 (big_number 8 bytes)
-
--- The number that the tag's value is, of the given number of bytes, and 0 if no item has the tag.
-abbrev pub number_in : ℕ → ℕ → List ItemParts → ℕ
-number_in width tag items = option_map_or (big_number width) (value_of tag items) 0
 
 -- The numbers of items that have met the table.
 abbrev pub segment_numbers : List ItemParts → SegmentNumbers

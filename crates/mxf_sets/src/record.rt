@@ -10,26 +10,42 @@ ghost use Rattle.mxf_sets.specs.Fields.{is_repeated, is_wrong};
 ghost use Rattle.mxf_sets.specs.Items.{AreItems, IsItem, ItemParts};
 ghost use Rattle.mxf_sets.specs.declared.record.Field.{Field};
 
+mod clip;
+mod container_data;
+mod descriptor;
+mod filler;
 mod identification;
 mod instance;
 mod package;
 mod preface;
+mod rate;
 mod references;
+mod sequence;
 mod storage;
+mod timecode;
 mod timestamp;
+mod track;
 mod values;
 
 use crate::batch::is_batch;
 use crate::{Items, SetFault, items};
+pub use clip::SourceClip;
+pub use container_data::EssenceContainerData;
+pub use descriptor::{Descriptor, PictureFields, SoundFields};
+pub use filler::Filler;
 pub use identification::Identification;
 pub use instance::instance_uid;
 pub use package::Package;
 pub use preface::Preface;
+pub use rate::Rate;
 pub use references::{References, references_are_the_items_of_their_batch};
+pub use sequence::Sequence;
 pub use storage::ContentStorage;
 use thiserror::Error;
+pub use timecode::TimecodeComponent;
 pub use timestamp::Timestamp;
-pub(crate) use values::{optional_value, required_value};
+pub use track::Track;
+pub(crate) use values::{optional_u8, optional_u32, required_value};
 
 /// The tag of the instance identifier, which each header metadata set has.
 const INSTANCE_UID: u16 = 0x3C0A;

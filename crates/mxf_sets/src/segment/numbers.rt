@@ -1,12 +1,11 @@
 //! The numbers of index table segments (ST 377-1, Index Table Segment).
 ghost use Rattle.std.specs.Prelude.{◌≡◌, ◌<◌};
 ghost use Rattle.std.specs.List.{AllByRecursion};
-ghost use Rattle.mxf_sets.specs.Fields.{Passes, optional};
-ghost use Rattle.mxf_sets.specs.Segment.{entry_size, number_in, segment_fields, segment_numbers};
-ghost use Rattle.mxf_sets.specs.declared.record.Shape.TheVariants.{Exactly};
+ghost use Rattle.mxf_sets.specs.Fields.{Passes};
+ghost use Rattle.mxf_sets.specs.Segment.{entry_size, segment_fields, segment_numbers};
 
 use crate::Items;
-use crate::record::{Field, Shape, optional_value, required_value};
+use crate::record::{Field, Shape, optional_u8, optional_u32, required_value};
 use byteorder::{BigEndian, ByteOrder};
 
 // The tags (ST 377-1, Index Table Segment).
@@ -94,20 +93,4 @@ impl SegmentNumbers {
             positions: optional_u8(items, POSITIONS),
         }
     }
-}
-
-/// The number in a field that may be absent, and 0 if it is.
-fn optional_u32(items: &Items<'_>, tag: u16) -> u32
-    requires { Passes items.now (optional tag (Exactly 4)) }
-    ensures { result ≡ number_in 4 tag items.now }
-{
-    optional_value(items, tag, 4).map_or(0, BigEndian::read_u32)
-}
-
-/// The number in a field that may be absent, and 0 if it is.
-fn optional_u8(items: &Items<'_>, tag: u16) -> u8
-    requires { Passes items.now (optional tag (Exactly 1)) }
-    ensures { result ≡ number_in 1 tag items.now }
-{
-    optional_value(items, tag, 1).map_or(0, |value| value[0])
 }
