@@ -15,7 +15,8 @@ use Rattle.mxf_find.specs.Agreeing.{agrees, agrees_as_head, agrees_as_head_at, a
 use Rattle.mxf_find.specs.Agreeing.{moved_to}
 use Rattle.mxf_find.specs.Packets.{front_of, is_same_length, is_same_packet, packet_of}
 use Rattle.mxf_find.specs.Votes.{FragmentParts, place}
-use Rattle.mxf_find.proofs.TellerLaws.{all_true, both_true, either_false, or_false}
+use Rattle.mxf_find.proofs.TellerLaws.{either_false, or_false}
+use Rattle.mxf_klv.proofs.Common.{and_from, and_parts}
 use Rattle.mxf_find.proofs.TellingLaws.{same_says, says_same}
 
 pub IfOk_then : {X E : Type 0} (r : Result X E) {P Q : X → Type 0} → IfOk r P → ((x : X) → P x → Q x) → IfOk r Q
@@ -52,20 +53,20 @@ module _ (notes : List NoteParts) (offset : ℕ) (p : NoteParts) where
 
   pub there_head : (n : NoteParts) → IsTrue (is_there offset p n) → head_note n ≡ head_there
   there_head n t =
-      let (at, same) = both_true (n.offset == offset) (is_same_length p n) t in
+      let (at, same) = and_parts (n.offset == offset) (is_same_length p n) t in
       let e : front_of n ≡ front_of p = sym (same_says front_of p n same) in
       λ i. head_parts (eqb-true n.offset offset at i) (e i).key (e i).width (e i).length
 
   pub head_is_there : (n : NoteParts) → head_note n ≡ head_there → IsTrue (is_there offset p n)
   head_is_there n e =
       let f : front_of n ≡ front_of p = λ i. head_parts 0 (e i).key (e i).width (e i).length in
-      all_true _ _ (eq-eqb n.offset offset (ap (λ (m : NoteParts). m.offset) e)) (says_same front_of p n (sym f))
+      and_from _ _ (eq-eqb n.offset offset (ap (λ (m : NoteParts). m.offset) e)) (says_same front_of p n (sym f))
 
   pub agrees_none : ((n : NoteParts) → In n notes → IsTrue (is_there offset p n) → ⊥) → false ≡ agrees_at notes offset p
   unfolding agrees_at
   agrees_none none = sym (false_from_ne_true _ (λ t.
       let s = (list_any-In standing notes).0 t in
-      none s.0 s.1 (both_true (is_there offset p s.0) _ s.2).0))
+      none s.0 s.1 (and_parts (is_there offset p s.0) _ s.2).0))
 
   pub as_head_none : false ≡ agrees_at notes offset p → false ≡ agrees_as_head_at notes offset p
   unfolding agrees_as_head_at
@@ -87,11 +88,11 @@ module _ (notes : List NoteParts) (offset : ℕ) (p : NoteParts) where
 
   pub head_agrees : p.whole ≡ false → has_note notes head_there → true ≡ agrees_at notes offset p
   unfolding agrees_at
-  head_agrees w h = grind (arith, had, list_any-In, all_true, loose)
+  head_agrees w h = grind (arith, had, list_any-In, and_from, loose)
 
   pub head_as_head : p.whole ≡ false → true ≡ agrees_at notes offset p → true ≡ agrees_as_head_at notes offset p
   unfolding agrees_as_head_at
-  head_as_head w e = sym (all_true _ _ (sym e) (loose_one p.whole _ w))
+  head_as_head w e = sym (and_from _ _ (sym e) (loose_one p.whole _ w))
 
   pub held_agrees : In head_there notes → true ≡ agrees_at notes offset p
   unfolding agrees_at
@@ -99,7 +100,7 @@ module _ (notes : List NoteParts) (offset : ℕ) (p : NoteParts) where
       sym ((list_any-In standing notes).1 (
         head_there,
         i,
-        all_true _ _ (head_is_there head_there refl) (loose_second p.whole false (is_same_packet p head_there) refl),
+        and_from _ _ (head_is_there head_there refl) (loose_second p.whole false (is_same_packet p head_there) refl),
       ))
 
   pub held_as_head : AreReduced notes → In head_there notes → true ≡ agrees_as_head_at notes offset p
@@ -109,10 +110,10 @@ module _ (notes : List NoteParts) (offset : ℕ) (p : NoteParts) where
         arith,
         false_from_ne_true,
         list_any-In,
-        both_true,
+        and_parts,
         true≢false,
         there_head,
-        all_true,
+        and_from,
         held_agrees,
         loose_last,
       )
@@ -140,18 +141,18 @@ module _ (notes : List NoteParts) (offset : ℕ) (p : NoteParts) where
         (λ t. any.1 (
           moved_to offset p,
           says.0 t,
-          all_true _ _ (head_is_there (moved_to offset p) refl)
+          and_from _ _ (head_is_there (moved_to offset p) refl)
               (loose_third p.whole (not p.whole) _ (says_same packet_of p (moved_to offset p) refl)),
         )) (λ t.
         let s = any.0 t in
-        let (there, rest) = both_true (is_there offset p s.0) _ s.2 in
+        let (there, rest) = and_parts (is_there offset p s.0) _ s.2 in
         let same = tight p.whole s.0.whole (is_same_packet p s.0) whole (there_whole s.0 s.1 there) rest in
-        let at = eqb-true s.0.offset offset (both_true (s.0.offset == offset) (is_same_length p s.0) there).0 in
+        let at = eqb-true s.0.offset offset (and_parts (s.0.offset == offset) (is_same_length p s.0) there).0 in
         says.1 (subst (λ (m : NoteParts). In m notes) (same_there s.0 (sym (same_says packet_of p s.0 same)) at) s.1))
 
     pub whole_as_head : has_note notes head_there → false ≡ agrees_as_head_at notes offset p
     unfolding agrees_as_head_at
-    whole_as_head h = grind (arith, had, list_any-In, all_true, there_whole, or_false, none_loose)
+    whole_as_head h = grind (arith, had, list_any-In, and_from, there_whole, or_false, none_loose)
 
 -- Of a shift.
 module _ (f : FragmentParts) (notes : List NoteParts) (at : ℕ) (p : NoteParts) where

@@ -1,6 +1,6 @@
 -- Which notes tell, by their fields.
 use Rattle.mxf_klv.proofs.Common.{◌≡◌, ◌↔◌, ◌==◌, ◌∙◌, true, List, IsTrue, length, not, ap, arith, eq-eqb, refl, sym}
-use Rattle.mxf_klv.proofs.Common.{kind_of, NoteParts, head_parts, In}
+use Rattle.mxf_klv.proofs.Common.{kind_of, NoteParts, head_parts, In, and_from, and_parts}
 use Rattle.mxf_klv.specs.declared.kinds.Kind.{Kind}
 use Rattle.mxf_klv.proofs.Tests.{not-true-false, not_true}
 use Rattle.mxf_catalogue.specs.Content.{IsCatalogue, IsContent}
@@ -9,7 +9,7 @@ use Rattle.mxf_catalogue.proofs.DisputeLaws.{is_disputed-IsDisputed}
 use Rattle.mxf_find.specs.Packets.{front_of, packet_of}
 use Rattle.mxf_find.specs.Telling.{IsSound, IsTellingByLength, IsTellingByValue, is_fill, is_sound, tells_by_length}
 use Rattle.mxf_find.specs.Telling.{tells_by_value}
-use Rattle.mxf_find.proofs.TellerLaws.{all_true, both_true, length_teller, length_told, value_teller, value_told}
+use Rattle.mxf_find.proofs.TellerLaws.{length_teller, length_told, value_teller, value_told}
 use Rattle.mxf_find.proofs.TellingLaws.{alike, alone, same, same_says, says_same}
 use Rattle.mxf_find.proofs.VoteLaws.{filter_only}
 use Rattle.mxf_klv.specs.declared.kinds.Kind.TheVariants as kinds
@@ -22,11 +22,11 @@ is_fill_so k e = ap is_fill e
 
 sound : (n : NoteParts) (notes : List NoteParts) → In n notes → is_sound notes n ≡ true → IsSound n notes
 unfolding is_sound
-sound n notes i t = grind (arith, both_true, not-true-false, is_disputed-IsDisputed, is_fill_so)
+sound n notes i t = grind (arith, and_parts, not-true-false, is_disputed-IsDisputed, is_fill_so)
 
 so_sound : (n : NoteParts) (notes : List NoteParts) → IsSound n notes → is_sound notes n ≡ true
 unfolding is_sound
-so_sound n notes s = all_true _ _ (not_true _ (λ t. s.undisputed ((is_disputed-IsDisputed n notes).0 t)))
+so_sound n notes s = and_from _ _ (not_true _ (λ t. s.undisputed ((is_disputed-IsDisputed n notes).0 t)))
     (not_true _ (λ t. s.no_fill (fill_is (kind_of n.key) t)))
 
 one_there : (key : NoteParts → NoteParts) (n : NoteParts) (notes : List NoteParts) → IsContent notes → In n notes

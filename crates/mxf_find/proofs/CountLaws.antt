@@ -1,45 +1,11 @@
 -- How often numbers stand in a list.
-use Rattle.mxf_klv.proofs.Common.{◌≡◌, ◌∙◌, ◌+◌, ◌≤◌, ◌<◌, ◌==◌, ℕ, zero, suc, Bool, true, false, cond, List, [], ◌∷◌}
-use Rattle.mxf_klv.proofs.Common.{◌++◌, append_assoc, map, refl, ap, subst, sym, arith, count_by, get_or, length}
-use Rattle.mxf_klv.proofs.Common.{nat_le, nat_lt, eqb-true, eq-eqb, inl, inr, AllWithin, IsNonDecreasing, IsPermutation}
-use Rattle.mxf_klv.proofs.Common.{cases_Bool, cases_lt, nat_tests, sum_by-IsPermutation, In}
+use Rattle.mxf_klv.proofs.Common.{◌≡◌, ◌∙◌, ◌+◌, ◌≤◌, ◌<◌, ◌==◌, ℕ, zero, suc, cond, List, [], ◌∷◌, ◌++◌, append_assoc}
+use Rattle.mxf_klv.proofs.Common.{map, refl, ap, subst, sym, arith, get_or, length, eqb-true, eq-eqb, inl, inr}
+use Rattle.mxf_klv.proofs.Common.{IsNonDecreasing, IsPermutation, cases_Bool, cases_lt, sum_by-IsPermutation, In}
 use Rattle.std.proofs.Common.{flat_map}
 use Rattle.mxf_klv.proofs.Counts.{count_by-cons, tally}
 use Rattle.mxf_klv.proofs.Lists.{In-at}
 use Rattle.mxf_find.specs.Votes.{IsMostVoted, count_of}
-
--- Where the first so many pass a test and the others don't, they are those that pass.
-pub count-front : {K : Type 0} (p : K → Bool) (xs : List K) (i : ℕ) → i ≤ length xs
-    → AllWithin (λ x. p x ≡ true) xs 0 i → AllWithin (λ x. p x ≡ false) xs i (length xs) → count_by p xs ≡ i
-count-front p [] i l f g = omega arith
-count-front p (x ∷ xs) zero l f g =
-    let c = count_by-cons p x xs in
-    let first : p x ≡ false = g 0 x (omega arith) (omega arith) in
-    let z : tally (p x) ≡ 0 = ap tally first in
-    let ih = count-front p xs 0 (omega arith) (λ k d a h. absurd (omega arith))
-    (λ k d a h. g (suc k) d (omega arith) (omega arith)) in
-    omega (arith, c, z, ih)
-count-front p (x ∷ xs) (suc i) l f g =
-    let c = count_by-cons p x xs in
-    let first : p x ≡ true = f 0 x (omega arith) (omega arith) in
-    let z : tally (p x) ≡ 1 = ap tally first in
-    let ih = count-front p xs i (omega arith) (λ k d a h. f (suc k) d (omega arith) (omega arith))
-    (λ k d a h. g (suc k) d (omega arith) (omega arith)) in
-    omega (arith, c, z, ih)
-
-one_number : (k number : ℕ) → tally (nat_le k number) ≡ tally (nat_lt k number) + tally (k == number)
-one_number k number = grind (arith, nat_tests)
-
-pub equal-count : (xs : List ℕ) (number : ℕ)
-    → count_by (λ k. nat_le k number) xs ≡ count_by (λ k. nat_lt k number) xs + count_of number xs
-equal-count [] number = refl
-equal-count (x ∷ xs) number =
-    let a = count_by-cons (λ k. nat_le k number) x xs in
-    let b = count_by-cons (λ k. nat_lt k number) x xs in
-    let d = count_by-cons (λ k. k == number) x xs in
-    let one = one_number x number in
-    let ih = equal-count xs number in
-    omega (arith, a, b, d, one, ih)
 
 -- A number that stands nowhere is counted 0, and one that stands somewhere more.
 pub counted : (xs : List ℕ) (number : ℕ) → In number xs → 0 < count_of number xs

@@ -9,6 +9,7 @@ use Rattle.mxf_catalogue.proofs.DisputeLaws.{is_disputed-IsDisputed}
 use Rattle.mxf_find.specs.Packets.{IsByPacket, front_of, is_same_length, is_same_packet, packet_of, sole}
 use Rattle.mxf_find.specs.Telling.{IsNoneOf, IsOneOf, is_sound, is_teller_by_length, is_teller_by_value}
 use Rattle.mxf_find.specs.Telling.{tells_by_length, tells_by_value}
+use Rattle.mxf_klv.proofs.Common.{and_from, and_parts}
 use Rattle.mxf_find.proofs.TellingLaws.{alike, none_alone, one_alone, one_held, one_is, one_same}
 
 pub disputed_is : (notes : List NoteParts) (n : NoteParts) (r : Bool) → IsTrue r ↔ (In n notes × IsDisputed n notes)
@@ -21,13 +22,6 @@ pub seen_disputed : (notes seen : List NoteParts) (n : NoteParts) (r : Bool) →
     → (IsTrue r ↔ (In n notes × IsDisputed n notes)) → In n seen → r ≡ is_disputed n seen
 seen_disputed notes seen n r e f i = disputed_is notes n r f (subst (In n) (sym e) i) ∙ ap (is_disputed n) e
 
--- The parts of the tests.
-pub both_true : (a b : Bool) → (a && b) ≡ true → (a ≡ true) × (b ≡ true)
-both_true a b e = grind arith
-
-pub all_true : (a b : Bool) → a ≡ true → b ≡ true → (a && b) ≡ true
-all_true a b e f = cc
-
 pub either_false : (a b : Bool) → a ≡ false → (a && b) ≡ false
 either_false a b e = cc
 
@@ -37,12 +31,12 @@ or_false a b e = grind arith
 pub length_teller : (notes : List NoteParts) (n : NoteParts) → is_sound notes n ≡ true
     → (length (alike front_of notes n) == 1) ≡ true → tells_by_length notes n ≡ true
 unfolding tells_by_length
-length_teller notes n s l = all_true _ _ s l
+length_teller notes n s l = and_from _ _ s l
 
 pub length_told : (notes : List NoteParts) (n : NoteParts) → tells_by_length notes n ≡ true
     → (is_sound notes n ≡ true) × ((length (alike front_of notes n) == 1) ≡ true)
 unfolding tells_by_length
-length_told notes n t = both_true _ _ t
+length_told notes n t = and_parts _ _ t
 
 pub value_teller : (notes : List NoteParts) (n : NoteParts) → n.whole ≡ true → is_sound notes n ≡ true
     → (length (alike packet_of notes n) == 1) ≡ true → tells_by_value notes n ≡ true
@@ -68,14 +62,14 @@ module _ (notes packets : List NoteParts) (is : IsByPacket notes packets) (p : N
 
     pub length_none : only ≡ None → IsNoneOf (is_teller_by_length notes p) notes
     length_none e m i t =
-        let (tells, alike) = both_true (tells_by_length notes m) (is_same_length p m) t in
+        let (tells, alike) = and_parts (tells_by_length notes m) (is_same_length p m) t in
         none_alone front_of notes packets is.ordered is.content p only found m e alike (length_told notes m tells).1
 
     pub length_one : (n : NoteParts) → only ≡ Some n → is_sound notes n ≡ true
         → IsOneOf (is_teller_by_length notes p) notes n
     length_one n e s = record {
       held = length_held n e;
-      passes = all_true (tells_by_length notes n) (is_same_length p n)
+      passes = and_from (tells_by_length notes n) (is_same_length p n)
           (length_teller notes n s (one_alone front_of notes packets is.ordered is.content p only found n e))
           (one_same front_of notes packets is.ordered is.content p only found n e);
     }
@@ -83,7 +77,7 @@ module _ (notes packets : List NoteParts) (is : IsByPacket notes packets) (p : N
     pub length_unsound : (n : NoteParts) → only ≡ Some n → is_sound notes n ≡ false
         → IsNoneOf (is_teller_by_length notes p) notes
     length_unsound n e s m i t =
-        let (tells, alike) = both_true (tells_by_length notes m) (is_same_length p m) t in
+        let (tells, alike) = and_parts (tells_by_length notes m) (is_same_length p m) t in
         let q : m ≡ n = one_is front_of notes packets is.ordered is.content p only found m n e i alike in
         let sound : is_sound notes m ≡ true = (length_told notes m tells).0 in
         let u : is_sound notes m ≡ is_sound notes n = ap (is_sound notes) q in cc (s, sound, u)
@@ -94,14 +88,14 @@ module _ (notes packets : List NoteParts) (is : IsByPacket notes packets) (p : N
 
     pub value_none : only ≡ None → IsNoneOf (is_teller_by_value notes p) notes
     value_none e m i t =
-        let (tells, alike) = both_true (tells_by_value notes m) (is_same_packet p m) t in
+        let (tells, alike) = and_parts (tells_by_value notes m) (is_same_packet p m) t in
         none_alone packet_of notes packets is.ordered is.content p only found m e alike (value_told notes m tells).2
 
     pub value_one : (n : NoteParts) → only ≡ Some n → n.whole ≡ true → is_sound notes n ≡ true
         → IsOneOf (is_teller_by_value notes p) notes n
     value_one n e w s = record {
       held = value_held n e;
-      passes = all_true (tells_by_value notes n) (is_same_packet p n)
+      passes = and_from (tells_by_value notes n) (is_same_packet p n)
           (value_teller notes n w s (one_alone packet_of notes packets is.ordered is.content p only found n e))
           (one_same packet_of notes packets is.ordered is.content p only found n e);
     }
@@ -109,9 +103,9 @@ module _ (notes packets : List NoteParts) (is : IsByPacket notes packets) (p : N
     pub value_unsound : (n : NoteParts) → only ≡ Some n → (n.whole && is_sound notes n) ≡ false
         → IsNoneOf (is_teller_by_value notes p) notes
     value_unsound n e s m i t =
-        let (tells, alike) = both_true (tells_by_value notes m) (is_same_packet p m) t in
+        let (tells, alike) = and_parts (tells_by_value notes m) (is_same_packet p m) t in
         let q : m ≡ n = one_is packet_of notes packets is.ordered is.content p only found m n e i alike in
         let told = value_told notes m tells in
-        let good : (m.whole && is_sound notes m) ≡ true = all_true _ _ told.0 told.1 in
+        let good : (m.whole && is_sound notes m) ≡ true = and_from _ _ told.0 told.1 in
         let u : (m.whole && is_sound notes m) ≡ (n.whole && is_sound notes n) =
         ap (λ (x : NoteParts). x.whole && is_sound notes x) q in cc (s, good, u)

@@ -2,7 +2,7 @@
 use Rattle.mxf_klv.proofs.Common.{◌≡◌, ◌&&◌, ◌∙◌, Bool, true, false, List, [], ◌∷◌, IsTrue, Option, None, Some, is_some}
 use Rattle.mxf_klv.proofs.Common.{refl, sym, ap, subst, arith, filter, inl, inr, not, IfNone, option_copied}
 use Rattle.mxf_klv.proofs.Common.{option_to_list, cases_Bool, false_from_ne_true, NoteParts, head_parts, note_cmp}
-use Rattle.mxf_klv.proofs.Common.{note_total, note_cmp-IsAntisymmetric, In, same_from_members}
+use Rattle.mxf_klv.proofs.Common.{note_total, note_cmp-IsAntisymmetric, In, same_from_members, and_from, and_parts}
 use Rattle.std.proofs.Common.{Bor}
 use Rattle.std.specs.Option.{IfSome}
 use Rattle.mxf_klv.proofs.Lists.{In-filter, filter_none}
@@ -13,7 +13,8 @@ use Rattle.mxf_find.specs.Telling.{IsNoneOf, IsOneOf, is_teller_by_length, is_te
 use Rattle.mxf_find.specs.Telling.{tells_by_value}
 use Rattle.mxf_find.specs.Votes.{voted_by}
 use Rattle.mxf_find.specs.declared.recording.Tells.{Tells}
-use Rattle.mxf_find.proofs.TellerLaws.{all_true, both_true, length_told, value_told}
+use Rattle.mxf_find.proofs.TellerLaws.{length_told, value_told}
+use Rattle.mxf_klv.proofs.Tests.{three_parts}
 use Rattle.mxf_find.proofs.TellingLaws.{alone, same_says, says_same}
 
 -- Where one of a content passes a test, and each that passes it is that one, it is all that is left.
@@ -43,15 +44,6 @@ pub IfNone_then : {X : Type 0} (r : Option X) {P Q : Type 0} → IfNone r P → 
 IfNone_then None p f = f p
 IfNone_then (Some x) p f = p
 
-pub untrue : (b : Bool) → not b ≡ true → b ≡ false
-untrue b e = grind arith
-
-pub unfalse : (b : Bool) → not b ≡ false → b ≡ true
-unfalse b e = grind arith
-
-three_true : (a b c : Bool) → (a && b && c) ≡ true → (a ≡ true) × (b ≡ true) × (c ≡ true)
-three_true a b c e = grind arith
-
 -- A vote by value, and one by length.
 voted_value : (t : Tells) (notes : List NoteParts) (p n : NoteParts) → (p.whole && n.whole) ≡ true
     → voted_by t notes p n ≡ (t.by_value && is_teller_by_value notes p n)
@@ -66,35 +58,35 @@ voted_length t notes p n e = rw e refl
 module _ (t : Tells) (notes : List NoteParts) (p : NoteParts) where
   pub value_parts : (n : NoteParts) → (p.whole && n.whole) ≡ true → IsTrue (voted_by t notes p n)
       → (t.by_value ≡ true) × IsTrue (is_teller_by_value notes p n)
-  value_parts n e v = both_true _ _ (sym (voted_value t notes p n e) ∙ v)
+  value_parts n e v = and_parts _ _ (sym (voted_value t notes p n e) ∙ v)
 
   pub length_parts : (n : NoteParts) → (p.whole && n.whole) ≡ false → IsTrue (voted_by t notes p n)
       → (t.by_length ≡ true) × IsTrue (is_teller_by_length notes p n)
-  length_parts n e v = both_true _ _ (sym (voted_length t notes p n e) ∙ v)
+  length_parts n e v = and_parts _ _ (sym (voted_length t notes p n e) ∙ v)
 
   pub value_vote : (n : NoteParts) → t.by_value ≡ true → p.whole ≡ true → IsOneOf (is_teller_by_value notes p) notes n
       → IsOneOf (voted_by t notes p) notes n
-  value_vote n e w is = grind (arith, both_true, voted_value, all_true, value_told)
+  value_vote n e w is = grind (arith, and_parts, voted_value, and_from, value_told)
 
   pub no_value : IsNoneOf (is_teller_by_value notes p) notes
       → IsNoneOf (λ n. p.whole && n.whole && voted_by t notes p n) notes
   no_value none n i v =
-      let parts = three_true p.whole n.whole (voted_by t notes p n) v in
-      none n i (value_parts n (all_true _ _ parts.0 parts.1) parts.2).1
+      let parts = three_parts p.whole n.whole (voted_by t notes p n) v in
+      none n i (value_parts n (and_from _ _ parts.0 parts.1) parts.2).1
 
   pub untold_value : t.by_value ≡ false → IsNoneOf (λ n. p.whole && n.whole && voted_by t notes p n) notes
   untold_value e n i v =
-      let parts = three_true p.whole n.whole (voted_by t notes p n) v in
-      let told = (value_parts n (all_true _ _ parts.0 parts.1) parts.2).0 in cc (e, told)
+      let parts = three_parts p.whole n.whole (voted_by t notes p n) v in
+      let told = (value_parts n (and_from _ _ parts.0 parts.1) parts.2).0 in cc (e, told)
 
   pub head_value : p.whole ≡ false → IsNoneOf (λ n. p.whole && n.whole && voted_by t notes p n) notes
   head_value e n i v =
-      let parts = three_true p.whole n.whole (voted_by t notes p n) v in
+      let parts = three_parts p.whole n.whole (voted_by t notes p n) v in
       let whole = parts.0 in cc (e, whole)
 
   pub length_vote : (n : NoteParts) → t.by_length ≡ true → (p.whole && n.whole) ≡ false
       → IsOneOf (is_teller_by_length notes p) notes n → IsOneOf (voted_by t notes p) notes n
-  length_vote n e w is = grind (arith, voted_length, all_true)
+  length_vote n e w is = grind (arith, voted_length, and_from)
 
   no_both : (a b : Bool) → (not a && b) ≡ true → (a ≡ false) × (b ≡ true)
   no_both a b e = grind arith
@@ -116,8 +108,8 @@ module _ (t : Tells) (notes : List NoteParts) (p : NoteParts) where
   whole_length n w is m i v =
       let parts = no_both (p.whole && m.whole) (voted_by t notes p m) v in
       let there = (length_parts m parts.0 parts.1).1 in
-      let mine = both_true (tells_by_length notes n) (is_same_length p n) is.passes in
-      let its = both_true (tells_by_length notes m) (is_same_length p m) there in
+      let mine = and_parts (tells_by_length notes n) (is_same_length p n) is.passes in
+      let its = and_parts (tells_by_length notes m) (is_same_length p m) there in
       let q : m ≡ n = alone front_of notes m n (length_told notes n mine.0).1 i is.held
       (sym (same_says front_of p m its.1) ∙ same_says front_of p n mine.1) in
       let same : (p.whole && m.whole) ≡ (p.whole && n.whole) = ap (λ (x : NoteParts). p.whole && x.whole) q in
@@ -132,24 +124,24 @@ module _ (t : Tells) (notes : List NoteParts) (p : NoteParts) where
       front_there : (x : NoteParts) → IsTrue (voted_by t notes p x) → front_of p ≡ front_of x
       front_there x u = elim (cases_Bool (p.whole && x.whole)) [
         | inl a ↦ packet_front p x (same_says packet_of p x
-            (both_true (tells_by_value notes x) (is_same_packet p x) (value_parts x a u).1).1)
+            (and_parts (tells_by_value notes x) (is_same_packet p x) (value_parts x a u).1).1)
         | inr b ↦ same_says front_of p x
-            (both_true (tells_by_length notes x) (is_same_length p x) (length_parts x b u).1).1
+            (and_parts (tells_by_length notes x) (is_same_length p x) (length_parts x b u).1).1
       ]
 
       by_length : (m n : NoteParts) → In m notes → In n notes → IsTrue (voted_by t notes p m)
           → IsTrue (voted_by t notes p n) → (p.whole && n.whole) ≡ false → m ≡ n
       by_length m n i j v w b =
-          let mine = both_true (tells_by_length notes n) (is_same_length p n) (length_parts n b w).1 in
+          let mine = and_parts (tells_by_length notes n) (is_same_length p n) (length_parts n b w).1 in
           alone front_of notes m n (length_told notes n mine.0).1 i j (sym (front_there m v) ∙ front_there n w)
 
       by_value : (m n : NoteParts) → In m notes → In n notes → IsTrue (voted_by t notes p m)
           → IsTrue (voted_by t notes p n) → (p.whole && n.whole) ≡ true → m ≡ n
       by_value m n i j v w a =
-          let mine = both_true (tells_by_value notes n) (is_same_packet p n) (value_parts n a w).1 in
+          let mine = and_parts (tells_by_value notes n) (is_same_packet p n) (value_parts n a w).1 in
           elim (cases_Bool (p.whole && m.whole)) [
             | inl b ↦
-                let its = both_true (tells_by_value notes m) (is_same_packet p m) (value_parts m b v).1 in
+                let its = and_parts (tells_by_value notes m) (is_same_packet p m) (value_parts m b v).1 in
                 alone packet_of notes m n (value_told notes n mine.0).2 i j
                 (sym (same_says packet_of p m its.1) ∙ same_says packet_of p n mine.1)
             | inr b ↦ sym (by_length n m j i w v b)
@@ -179,9 +171,9 @@ module _ (notes : List NoteParts) (n : NoteParts) (held : In n notes) where
       → IfSome found (λ m. IsOneOf (is_teller_by_value notes n) notes m.now)
       → IfNone found (IsNoneOf (is_teller_by_value notes n) notes) → is_some found ≡ tells_by_value notes n
   told_by_value None some none = sym (false_from_ne_true (tells_by_value notes n)
-      (λ t. none n held (all_true _ _ t (says_same packet_of n n refl))))
+      (λ t. none n held (and_from _ _ t (says_same packet_of n n refl))))
   told_by_value (Some m) some none =
-      let parts = both_true (tells_by_value notes m.now) (is_same_packet n m.now) some.passes in
+      let parts = and_parts (tells_by_value notes m.now) (is_same_packet n m.now) some.passes in
       sym (ap (tells_by_value notes) (alone packet_of notes n m.now (value_told notes m.now parts.0).2 held some.held
       (same_says packet_of n m.now parts.1)) ∙ parts.0)
 
@@ -189,8 +181,8 @@ module _ (notes : List NoteParts) (n : NoteParts) (held : In n notes) where
       → IfSome found (λ m. IsOneOf (is_teller_by_length notes n) notes m.now)
       → IfNone found (IsNoneOf (is_teller_by_length notes n) notes) → is_some found ≡ tells_by_length notes n
   told_by_length None some none = sym (false_from_ne_true (tells_by_length notes n)
-      (λ t. none n held (all_true _ _ t (says_same front_of n n refl))))
+      (λ t. none n held (and_from _ _ t (says_same front_of n n refl))))
   told_by_length (Some m) some none =
-      let parts = both_true (tells_by_length notes m.now) (is_same_length n m.now) some.passes in
+      let parts = and_parts (tells_by_length notes m.now) (is_same_length n m.now) some.passes in
       sym (ap (tells_by_length notes) (alone front_of notes n m.now (length_told notes m.now parts.0).1 held some.held
       (same_says front_of n m.now parts.1)) ∙ parts.0)

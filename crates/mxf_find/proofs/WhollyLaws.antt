@@ -2,7 +2,7 @@
 use Rattle.mxf_klv.proofs.Common.{◌≡◌, ◌≢◌, ◌∙◌, ◌-◌, ◌≤◌, ◌&&◌, ◌||◌, ℕ, Bool, true, false, List, [], ◌∷◌, IsTrue}
 use Rattle.mxf_klv.proofs.Common.{Option, None, Some, ap, arith, count_by, eq-eqb, filter, inl, inr, length, map, not}
 use Rattle.mxf_klv.proofs.Common.{refl, subst, sym, cases_Bool, true≢false, kind_of, IsNote, greatest_end, head_note}
-use Rattle.mxf_klv.proofs.Common.{NoteParts, head_parts, In}
+use Rattle.mxf_klv.proofs.Common.{NoteParts, head_parts, In, and_from, and_parts}
 use Rattle.mxf_klv.proofs.Counts.{count_by-cons, tally}
 use Rattle.mxf_klv.proofs.Lists.{all-In, In-at, In-filter, In-flat_map, In-map, list_any-In}
 use Rattle.mxf_catalogue.specs.Content.{AreReduced, IsCatalogue}
@@ -21,9 +21,10 @@ use Rattle.mxf_find.specs.declared.found.Match.{Match}
 use Rattle.mxf_find.proofs.AgreeingLaws.{agrees_moved}
 use Rattle.mxf_find.proofs.ByDefinition.{by_length, by_value}
 use Rattle.mxf_find.proofs.CountLaws.{placed}
-use Rattle.mxf_find.proofs.TellerLaws.{all_true, both_true, either_false, length_told, value_told}
+use Rattle.mxf_find.proofs.TellerLaws.{either_false, length_told, value_told}
 use Rattle.mxf_find.proofs.TellingLaws.{alone, same_says, says_same}
 use Rattle.mxf_find.proofs.VoteLaws.{length_parts, length_vote, packet_front, packet_whole, value_parts, value_vote}
+use Rattle.mxf_find.specs.PacketOrder.{same_parts}
 
 count-all : (test : NoteParts → Bool) (notes : List NoteParts) → ((p : NoteParts) → In p notes → test p ≡ true)
     → count_by test notes ≡ length notes
@@ -33,16 +34,6 @@ count-all test (p ∷ notes) f =
     let one : tally (test p) ≡ 1 = ap tally (f p (inl refl)) in
     let ih = count-all test notes (λ q i. f q (inr i)) in
     omega (arith, a, one, ih)
-
-whole_note : (a b : NoteParts) → packet_of a ≡ packet_of b → a.offset ≡ b.offset → a ≡ b
-whole_note a b e f i = record {
-  offset = f i;
-  key = (e i).key;
-  width = (e i).width;
-  length = (e i).length;
-  whole = (e i).whole;
-  held = (e i).held;
-}
 
 head_of : (p q n : NoteParts) → packet_of p ≡ packet_of n → packet_of q ≡ front_of n → p.offset ≡ q.offset
     → head_note p ≡ q
@@ -69,13 +60,13 @@ module _ (f : FragmentParts) (r : List NoteParts) (at : ℕ) (own : IsCatalogue 
       let (m, s) = lies.each p i in
       let e : m ≡ n = elim (cases_Bool p.whole) [
         | inl w ↦
-            let t = (value_parts (tells_in f.notes p) r p n (all_true _ _ w (lies.whole n j)) v).1 in
-            let told = both_true (tells_by_value r n) (is_same_packet p n) t in
+            let t = (value_parts (tells_in f.notes p) r p n (and_from _ _ w (lies.whole n j)) v).1 in
+            let told = and_parts (tells_by_value r n) (is_same_packet p n) t in
             alone packet_of r m n (value_told r n told.0).2 s.held j
             (sym (packet_stands p m w s) ∙ same_says packet_of p n told.1)
         | inr w ↦
             let t = (length_parts (tells_in f.notes p) r p n (either_false _ _ w) v).1 in
-            let told = both_true (tells_by_length r n) (is_same_length p n) t in
+            let told = and_parts (tells_by_length r n) (is_same_length p n) t in
             alone front_of r m n (length_told r n told.0).1 s.held j
             (sym (front_stands p m s) ∙ same_says front_of p n told.1)
       ] in
@@ -103,12 +94,12 @@ module _ (f : FragmentParts) (r : List NoteParts) (at : ℕ) (own : IsCatalogue 
       let o = same_offset p q n i j s t in
       elim s.packet [
         | inl e ↦ elim t.packet [
-          | inl g ↦ whole_note p q (e ∙ sym g) o
+          | inl g ↦ same_parts p q (e ∙ sym g) o
           | inr g ↦ absurd (reduced q j (p, i, apart p q n (lies.whole n s.held) e g, head_of p q n e g o))
         ]
         | inr e ↦ elim t.packet [
           | inl g ↦ absurd (reduced p i (q, j, apart q p n (lies.whole n s.held) g e, head_of q p n g e (sym o)))
-          | inr g ↦ whole_note p q (e ∙ sym g) o
+          | inr g ↦ same_parts p q (e ∙ sym g) o
         ]
       ]
     where
@@ -171,7 +162,7 @@ module _ (f : FragmentParts) (r : List NoteParts) (at : ℕ) (own : IsCatalogue 
           let there = tells.by_value w in
           (value_vote (tells_in f.notes p) r p n ((by_value p f.notes own i).1 (value_tells w there)) w (record {
             held = s.held;
-            passes = all_true _ _ ((by_value n r theirs s.held).1 there)
+            passes = and_from _ _ ((by_value n r theirs s.held).1 there)
                 (says_same packet_of p n (packet_stands p n w s));
           })).passes
       | inr w ↦
@@ -179,7 +170,7 @@ module _ (f : FragmentParts) (r : List NoteParts) (at : ℕ) (own : IsCatalogue 
           (length_vote (tells_in f.notes p) r p n ((by_length p f.notes own i).1 (length_tells there))
           (either_false _ _ w) (record {
             held = s.held;
-            passes = all_true _ _ ((by_length n r theirs s.held).1 there) (says_same front_of p n (front_stands p n s));
+            passes = and_from _ _ ((by_length n r theirs s.held).1 there) (says_same front_of p n (front_stands p n s));
           })).passes
     ]
 
@@ -215,7 +206,7 @@ module _ (f : FragmentParts) (r : List NoteParts) (at : ℕ) (own : IsCatalogue 
       (list_any-In (λ m. is_there (moved_place f at p) p m && (not p.whole || not m.whole || is_same_packet p m)) r).1 (
         n,
         s.held,
-        all_true _ _ (all_true _ _ (eq-eqb _ _ o) (says_same front_of p n (front_stands p n s))) (loosened p n s),
+        and_from _ _ (and_from _ _ (eq-eqb _ _ o) (says_same front_of p n (front_stands p n s))) (loosened p n s),
       )
 
   each_agrees : (p : NoteParts) → In p f.notes → agrees f r at p ≡ true

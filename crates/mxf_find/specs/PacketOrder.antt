@@ -17,7 +17,7 @@ packet_total = then_total (on_total packet_of note_total) (on_total (λ n. n.off
 pub packet_equiv : IsEquivalence (eq_by_cmp packet_cmp)
 packet_equiv = eq_by_cmp_equiv packet_total
 
-same_parts : (a b : NoteParts) → packet_of a ≡ packet_of b → a.offset ≡ b.offset → a ≡ b
+pub same_parts : (a b : NoteParts) → packet_of a ≡ packet_of b → a.offset ≡ b.offset → a ≡ b
 same_parts a b e f i = record {
   offset = f i;
   key = (e i).key;

@@ -1,7 +1,9 @@
 //! The number with the most votes.
 ghost use Rattle.std.specs.Prelude.{◌≡◌, [], IfNone, IfSome};
 ghost use Rattle.std.specs.List.Sorted.{IsNonDecreasing};
-ghost use Rattle.mxf_find.specs.Votes.{IsMostVoted, count_of};
+ghost use Rattle.mxf_find.specs.Votes.{IsMostVoted};
+
+use mxf_klv::count_with_key;
 
 /// The number with the most votes, of several the least: n log n of them. None without a vote.
 pub(crate) fn most_voted(mut votes: Vec<u64>) -> Option<u64>
@@ -19,23 +21,13 @@ fn first_of_most(votes: &[u64]) -> Option<u64>
     ensures none { IfNone result (votes.now ≡ []) }
 {
     let mut most = *votes.first()?;
-    let mut count = count_of(votes, most);
+    let mut count = count_with_key(votes, most);
     for vote in votes {
-        let others = count_of(votes, *vote);
+        let others = count_with_key(votes, *vote);
         if others > count {
             most = *vote;
             count = others;
         }
     }
     Some(most)
-}
-
-/// How often a number stands among others, which don't fall: two binary searches.
-fn count_of(numbers: &[u64], number: u64) -> usize
-    requires { IsNonDecreasing numbers.now }
-    ensures { result ≡ count_of number numbers.now }
-{
-    let below = numbers.partition_point(|other| *other < number);
-    let up_to = numbers.partition_point(|other| *other <= number);
-    up_to - below
 }

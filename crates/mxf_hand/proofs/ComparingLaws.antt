@@ -18,7 +18,7 @@ use Rattle.mxf_hand.specs.declared.given.differing.Difference.{Difference}
 use Rattle.mxf_hand.proofs.DifferingLaws.{found_with_bytes, given_as, joined_are, kept_with_bytes, lies_in_differences}
 use Rattle.mxf_hand.proofs.DifferingLaws.{one_byte, sound_with_bytes}
 use Rattle.mxf_hand.proofs.PlaceLaws.{from_low}
-use Rattle.mxf_hand.proofs.ReadBytes.{first_there, rest_there, same_offset}
+use Rattle.mxf_hand.proofs.ReadBytes.{first_there, got, rest_there, same_offset}
 
 -- ---- reading
 
@@ -172,11 +172,6 @@ all_compared_more sources places overlaps i d old new within before one =
 
 -- ---- overlaps of places
 
-In-number : {X : Type 0} (xs : List X) (k : ℕ) (x : X) → slice_get xs k ≡ Some x → In x xs
-In-number [] k x e = absurd cc
-In-number (y ∷ xs) zero x e = inl (sym (same_Some y x e))
-In-number (y ∷ xs) (suc k) x e = inr (In-number xs k x e)
-
 number_of : {X : Type 0} (xs : List X) (x : X) → In x xs → (k : ℕ) × (slice_get xs k ≡ Some x)
 number_of [] x h = absurd h
 number_of (y ∷ xs) x (inl e) = (0, ap Some (sym e))
@@ -194,7 +189,7 @@ are_overlaps extents places overlaps runs are q h =
           let before = is.before in
           let low = l.from in
           let high = l.before in
-          (are.given x).0 (are.all is.extent x (In-number extents q.source is.extent is.is)
+          (are.given x).0 (are.all is.extent x (got extents q.source is.extent is.is)
           (record { from = omega (arith, from, low); before = omega (arith, before, high) }));
     }
 
@@ -258,7 +253,7 @@ module _ (sources : List SourceParts) (extents : List Extent) (have : HaveExtent
   place_at : (k x byte : ℕ) → GivesAt sources k x byte → (p : Place) × In p places × LiesInPlace p x
   place_at k x byte g =
       let e = lies_in_extent k x byte g in
-      (are.given x).0 (are.all e.0 x (In-number extents k e.0 e.1) e.2)
+      (are.given x).0 (are.all e.0 x (got extents k e.0 e.1) e.2)
 
   -- Exactly the offsets of extents are given.
   given_offsets : (x : ℕ) → LiesIn runs x ↔ IsGiven sources x

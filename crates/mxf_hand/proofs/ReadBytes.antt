@@ -16,7 +16,7 @@ use Rattle.mxf_read.specs.declared.reading.Step.TheVariants.{Took}
 -- ---- a source by its number
 
 -- a member by its number
-got : {X : Type 0} (xs : List X) (i : ℕ) (x : X) → slice_get xs i ≡ Some x → In x xs
+pub got : {X : Type 0} (xs : List X) (i : ℕ) (x : X) → slice_get xs i ≡ Some x → In x xs
 got [] i x e = absurd cc
 got (y ∷ xs) zero x e = let same : y ≡ x = cc in inl (sym same)
 got (y ∷ xs) (suc i) x e = inr (got xs i x e)

@@ -3,8 +3,7 @@ ghost use Rattle.std.specs.Prelude.{◌≡◌, ◌≢◌, ◌+◌, ◌<◌, ◌�
 ghost use Rattle.mxf_hand.specs.Heads.{heads_to, key_and_length};
 
 use mxf_catalogue::Catalogue;
-use mxf_klv::{Ber, Encode, Keyed, Note, OutOfMemory, between};
-use mxf_places::KEY_AND_LENGTH;
+use mxf_klv::{Ber, Encode, KEY_AND_LENGTH, Keyed, Note, OutOfMemory, between};
 use std::alloc::Global;
 use std::marker::Model;
 

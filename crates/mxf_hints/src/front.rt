@@ -1,14 +1,11 @@
 //! What the front of a file has.
 use crate::contents::gather_one;
 use mxf_klv::{Kind, Stop};
-use mxf_read::{Gathered, Part};
+use mxf_read::{GREATEST_WINDOW, Gathered, Part};
 use mxf_saving::Beginning;
 use std::fs;
 use std::io::Read;
 use std::rt::Files;
-
-/// How many bytes of a file are searched for a packet: the window of a range.
-pub const SEARCHED: u64 = 33_554_432;
 
 /// What the front of a file has.
 #[derive(Clone, Copy)]
@@ -58,6 +55,6 @@ impl Front {
 
 /// What the front of the file holds, read as a range from 0 on.
 fn gathered_front<R: Files + AllocGlobal>(rt: &R, path: &str) -> Option<Gathered> {
-    let from = fs::open(rt, path).ok()?.take(SEARCHED);
+    let from = fs::open(rt, path).ok()?.take(GREATEST_WINDOW);
     gather_one(rt.alloc(), Part::Range { offset: 0, from }).ok()
 }

@@ -1,8 +1,8 @@
 //! Telling of pieces and ranges that end before their bytes do, or have none.
-use crate::front::{Front, SEARCHED};
+use crate::front::Front;
 use crate::telling::tell_on_screen;
 use mxf_klv::Stop;
-use mxf_read::PieceReport;
+use mxf_read::{GREATEST_WINDOW, PieceReport};
 use mxf_saving::Source;
 use std::alloc::AllocError;
 use std::fmt;
@@ -52,7 +52,7 @@ impl fmt::Display for FrontHint<'_> {
             }
             (Front::Nothing, Source::Piece { offset: 0, .. }) => write!(
                 f,
-                "hint: no packet begins in {path}, or its first {SEARCHED} bytes: it is no MXF file, or begins inside a longer packet"
+                "hint: no packet begins in {path}, or its first {GREATEST_WINDOW} bytes: it is no MXF file, or begins inside a longer packet"
             ),
             (Front::Midst, Source::Piece { offset: 0, .. }) => write!(
                 f,
@@ -64,7 +64,7 @@ impl fmt::Display for FrontHint<'_> {
             ),
             _ => write!(
                 f,
-                "hint: no packet begins in {path}, or its first {SEARCHED} bytes"
+                "hint: no packet begins in {path}, or its first {GREATEST_WINDOW} bytes"
             ),
         }
     }

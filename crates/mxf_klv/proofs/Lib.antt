@@ -16,6 +16,7 @@ pub mod LabelOrder
 pub mod Tests
 pub mod Searches
 pub mod Windows
+pub mod Sides
 pub mod Lists
 pub mod ListSteps
 pub mod Counts

@@ -197,7 +197,7 @@ head_now r x key count l after none h =
 pub stop_is : (at : ℕ) (r : List ℕ) (s : Stop) → HasNoKeyAndLength r → stop_of at r ≡ s → IsStop at r s
 stop_is at r s none e = (one_stop at r s (packet_at-none at r (no_head_no_packet at r none))).0 e
 
-spelled_width : (spelled : List ℕ) (w v : ℕ) → IsSpelledLength spelled w v → w ≤ 9
+pub spelled_width : (spelled : List ℕ) (w v : ℕ) → IsSpelledLength spelled w v → w ≤ 9
 spelled_width spelled w v h = grind arith
 
 few_cut : (r : List ℕ) → HasNoKeyAndLength r → IsCutPacket r → length r ≤ 24

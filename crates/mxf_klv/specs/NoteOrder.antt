@@ -28,7 +28,7 @@ ties Less b e = cc
 ties Equal b e = (refl, e)
 ties Greater b e = cc
 
-same_parts : (a b : NoteParts) → a.offset ≡ b.offset → a.key ≡ b.key → a.width ≡ b.width → a.length ≡ b.length
+pub same_parts : (a b : NoteParts) → a.offset ≡ b.offset → a.key ≡ b.key → a.width ≡ b.width → a.length ≡ b.length
     → a.whole ≡ b.whole → a.held ≡ b.held → a ≡ b
 same_parts a b e f g h j k i = record
     { offset = e i; key = f i; width = g i; length = h i; whole = j i; held = k i }

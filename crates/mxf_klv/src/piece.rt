@@ -20,6 +20,9 @@ use crate::packet::key_and_length::KeyAndLength;
 use crate::packet::{Packet, PacketFault};
 use std::fmt;
 
+/// The greatest number of bytes of a packet's key and length (ST 336: a key of 16 bytes, a length of 9).
+pub const KEY_AND_LENGTH: u64 = 25;
+
 /// Why the reading of a piece ended. A place is the file offset, in bytes, of the packet that wasn't noted.
 ///
 /// The causes are tested in the order in which they stand here.

@@ -1,7 +1,7 @@
 //! Searches in a list that rises by a key. How many elements lie below a bound is told by a look at the last, else by
 //! binary search.
-ghost use Rattle.std.specs.Prelude.{◌≡◌, ◌↔◌, ◌<◌, ◌≤◌, ◌&&◌, ℕ, IsTrue, true, filter, length, map, nat_le, false};
-ghost use Rattle.std.specs.Prelude.{nat_lt};
+ghost use Rattle.std.specs.Prelude.{◌≡◌, ◌↔◌, ◌<◌, ◌≤◌, ◌==◌, ◌&&◌, ℕ, IsTrue, true, filter, length, map, nat_le};
+ghost use Rattle.std.specs.Prelude.{count_by, false, nat_lt};
 ghost use Rattle.std.specs.List.{AllWithin};
 ghost use Rattle.std.specs.List.Sorted.{IsNonDecreasingBy};
 ghost use Rattle.std.specs.Option.{option_map_or};
@@ -23,6 +23,15 @@ impl Keyed for u64 {
 
     fn key(&self) -> u64 {
         *self
+    }
+}
+
+/// So is a count.
+impl Keyed for usize {
+    ghost key = { λ n. n };
+
+    fn key(&self) -> u64 {
+        *self as u64
     }
 }
 
@@ -70,6 +79,14 @@ pub fn has_key<T: Keyed>(items: &[T], key: u64) -> bool
         Some(item) => item.key() == key,
         None => false,
     }
+}
+
+/// How many of the elements have the key.
+pub fn count_with_key<T: Keyed>(items: &[T], key: u64) -> usize
+    requires { IsNonDecreasingBy T.key items.now }
+    ensures { result ≡ count_by (λ x. T.key x == key) items.now }
+{
+    up_to(items, key) - below(items, key)
 }
 
 /// The elements whose keys lie at or above `from`, and below an end if there is one.

@@ -11,12 +11,9 @@ ghost use Rattle.mxf_places.specs.AtHand.{nothing_at_hand, outside_below, some_r
 ghost use Rattle.mxf_places.specs.declared.at_hand.OffsetRange.{OffsetRange};
 
 use mxf_catalogue::Cover;
-use mxf_klv::OutOfMemory;
+use mxf_klv::{KEY_AND_LENGTH, OutOfMemory};
 use std::alloc::Global;
 use std::marker::Model;
-
-/// The bytes that key and length of a packet can have at most (ST 336: a key of 16 bytes, a length of 9).
-pub const KEY_AND_LENGTH: u64 = 25;
 
 /// A range of file offsets, in bytes, the end excluded; without an end it has all from its start on.
 #[derive(Clone, Copy, Debug, PartialEq, Eq)]

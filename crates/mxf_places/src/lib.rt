@@ -52,7 +52,7 @@ pub mod laws;
 mod reason;
 mod stretch;
 
-pub use at_hand::{AtHand, KEY_AND_LENGTH, OffsetRange, ranges_lacking, up_to_bound};
+pub use at_hand::{AtHand, OffsetRange, ranges_lacking, up_to_bound};
 pub use claim::{Claim, claims};
 pub use held::Holdings;
 pub use reason::Reason;

@@ -2,11 +2,12 @@
 use Rattle.mxf_views.proofs.Common.{◌≡◌, ℕ, suc, ◌+◌, ◌-◌, ◌≤◌, List, [], ◌∷◌, ◌++◌, length, take, drop, Option, None}
 use Rattle.mxf_views.proofs.Common.{Some, refl, sym, ap, subst, ◌∙◌, inl, inr, arith, append_assoc, length-append}
 use Rattle.mxf_views.proofs.Common.{option_map_or, cases_lt, drop-append-le, drop-take, length-drop, length-take}
-use Rattle.mxf_views.proofs.Common.{take-append-drop, take-take, drop_all, take-append-le, take_all, IsSpelledLength}
-use Rattle.mxf_views.proofs.Common.{LengthParts, label_start, BeginsWithKeyAndLength, head-size, head-width}
+use Rattle.mxf_views.proofs.Common.{take-append-drop, take-take, drop_all, take-append-le, take_all, LengthParts}
+use Rattle.mxf_views.proofs.Common.{label_start, BeginsWithKeyAndLength, head-size, head-width}
 use Rattle.mxf_klv.specs.Label.{BeginsAsLabel}
 use Rattle.mxf_read.specs.Ranges.{HasNoStart, IsStart, MayBegin, ShowsNextBefore, piece_bytes, piece_offset, start_in}
 use Rattle.mxf_read.specs.Ranges.{window_of}
+use Rattle.mxf_klv.proofs.MoreBytes.{spelled_width}
 use Rattle.mxf_read.proofs.Starts.{no_start_is, one_start}
 
 -- ---- the front of bytes
@@ -28,11 +29,6 @@ take_front i n xs within =
     let same : n ≡ i + (n - i) = omega arith in
     ap (λ (k : ℕ). drop i (take k xs)) same ∙ drop-take i (n - i) xs
 
-width_is : (spelled : List ℕ) (w v : ℕ) → IsSpelledLength spelled w v → w ≤ 9
-width_is [] w v h = absurd h
-width_is (b ∷ spelled) w v (inl h) = let e = h.0 in omega (arith, e)
-width_is (b ∷ spelled) w v (inr h) = h.1
-
 -- bytes that begin as a label do so as far as there are any
 label_front : (n : ℕ) (xs : List ℕ) → BeginsAsLabel xs → BeginsAsLabel (take n xs)
 label_front n xs h = grind (arith, cases_lt, length, take_all, take, length-take, take-take, label_start)
@@ -46,7 +42,7 @@ label_more xs ys four h = grind (arith, length-append, take-append-le, take_all,
 -- a key and a length that stand in the window
 begins_front : (bytes key after : List ℕ) (l : LengthParts) (n : ℕ) → (h : BeginsWithKeyAndLength bytes key l after)
     → 25 ≤ n → BeginsWithKeyAndLength (take n bytes) key l (take (n - 16 - l.width) after)
-begins_front bytes key after l n h long = grind (arith, width_is, take, take_past, head-width)
+begins_front bytes key after l n h long = grind (arith, spelled_width, take, take_past, head-width)
 
 pub seen : (n offset : ℕ) (bytes : List ℕ) (p : ℕ) → MayBegin offset bytes p → p + 25 ≤ n
     → MayBegin offset (take n bytes) p

@@ -8,12 +8,9 @@ ghost use Rattle.mxf_catalogue.specs.Content.{reduced_union};
 use crate::coming::ComingValue;
 use crate::report::Report;
 use mxf_catalogue::Catalogue;
-use mxf_klv::{Note, OutOfMemory, Stop, next_key_and_length};
+use mxf_klv::{KEY_AND_LENGTH, Note, OutOfMemory, Stop, next_key_and_length};
 use sha2::{Digest, Sha256};
 use std::alloc::Global;
-
-/// The greatest number of bytes of a packet's key and length.
-const GREATEST_HEAD: usize = 25;
 
 /// A piece whose bytes come in parts: the notes of the packets that have come whole, and what has come of the next.
 ///
@@ -206,7 +203,7 @@ impl Piece {
         ensures { TakesFront self.old self.new bytes.now result }
     {
         let known = self.head.len();
-        let count = bytes.len().min(GREATEST_HEAD - known);
+        let count = bytes.len().min(KEY_AND_LENGTH as usize - known);
         self.head.extend_from_slice(&bytes[..count])?;
         match next_key_and_length(self.at, &self.head) {
             Ok((key, ber)) => {

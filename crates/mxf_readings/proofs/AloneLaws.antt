@@ -1,11 +1,10 @@
 -- How often a source is the only one of a note of all.
-use Rattle.mxf_klv.proofs.Common.{◌≡◌, ◌==◌, ◌&&◌, ◌∙◌, ◌+◌, ℕ, Bool, true, false, List, [], ◌∷◌, cond, count_by}
-use Rattle.mxf_klv.proofs.Common.{filter, length, map, not, nat_le, nat_lt, IsTrue, refl, sym, ap, subst, arith}
-use Rattle.mxf_klv.proofs.Common.{eqb-true, eq-eqb, AllByRecursion, ordering_then, nat_tests, nat_cmp_total}
-use Rattle.mxf_klv.proofs.Common.{tied_itself, sum_by-IsPermutation, NoteParts, note_cmp, note_total}
-use Rattle.mxf_klv.proofs.Common.{note_cmp-IsAntisymmetric, In, same_from_members}
+use Rattle.mxf_klv.proofs.Common.{◌≡◌, ◌==◌, ◌&&◌, ◌∙◌, ℕ, Bool, true, false, List, [], ◌∷◌, cond, count_by, filter}
+use Rattle.mxf_klv.proofs.Common.{length, map, IsTrue, refl, sym, ap, subst, arith, eqb-true, eq-eqb, AllByRecursion}
+use Rattle.mxf_klv.proofs.Common.{ordering_then, nat_cmp_total, tied_itself, sum_by-IsPermutation, NoteParts, note_cmp}
+use Rattle.mxf_klv.proofs.Common.{note_total, note_cmp-IsAntisymmetric, In, same_from_members}
 use Rattle.std.proofs.Common.{nat_cmp, Ordering, Less, Equal, Greater}
-use Rattle.mxf_klv.proofs.Counts.{tally, count_by-cons}
+use Rattle.mxf_klv.proofs.Counts.{count-alike, count_by-cons, count_mapped, tally}
 use Rattle.mxf_klv.proofs.Lists.{all_from_In, In-filter, In-map}
 use Rattle.mxf_catalogue.specs.Content.{IsContent}
 use Rattle.mxf_catalogue.specs.ReducedLaws.{rising-filter}
@@ -14,7 +13,6 @@ use Rattle.mxf_readings.specs.Holdings.{sources_alone}
 use Rattle.mxf_readings.specs.Readings.{all_notes, content_of, is_alone, is_held, sources_of}
 use Rattle.mxf_readings.proofs.AllNotesLaws.{whole_joined}
 use Rattle.mxf_readings.proofs.HoldingLaws.{rises_mapped, run_length}
-use Rattle.mxf_readings.proofs.CountLaws.{count-alike, count-both, count_mapped}
 
 -- ---- counts
 
@@ -31,17 +29,6 @@ count-filter p q (x ∷ xs) =
           omega (arith, c, r, z, ih)
       | false ↦ λ e. let z : tally (q x && p x) ≡ 0 = ap (λ b. tally (b && p x)) e in omega (arith, r, z, ih)
     ] refl
-
--- As many are equal to a number as are up to it, but for those below.
-pub equal-count : (xs : List ℕ) (number below up_to : ℕ) → count_by (λ k. nat_lt k number) xs ≡ below
-    → count_by (λ k. nat_le k number) xs ≡ up_to → up_to ≡ below + count_by (λ k. k == number) xs
-equal-count xs number below up_to b u =
-    let both = count-both (λ k. nat_le k number) (λ k. nat_lt k number) xs in
-    let lower = count-alike (λ k. nat_le k number && nat_lt k number) (λ k. nat_lt k number) xs (λ k.
-    grind (arith, nat_tests)) in
-    let same = count-alike (λ k. nat_le k number && not (nat_lt k number)) (λ k. k == number) xs (λ k.
-    grind (arith, nat_tests)) in
-    omega (arith, both, lower, same, b, u)
 
 -- ---- the notes of a source
 

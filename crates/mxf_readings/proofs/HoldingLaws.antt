@@ -1,21 +1,20 @@
 -- Holdings: what they say of sources, and where those of a note stand.
 use Rattle.mxf_klv.proofs.Common.{◌≡◌, ◌≢◌, ◌↔◌, ◌⊎◌, ◌+◌, ◌-◌, ◌≤◌, ◌<◌, ◌∙◌, ◌==◌, cond, ℕ, zero, suc, Bool, true}
 use Rattle.mxf_klv.proofs.Common.{false, List, [], ◌∷◌, IsTrue, refl, sym, ap, subst, inl, inr, arith, get_or, eq-eqb}
-use Rattle.mxf_klv.proofs.Common.{eqb-true, length, nat_lt, drop, filter, map, take, IsTotalOrder, AllWithin}
-use Rattle.mxf_klv.proofs.Common.{IsNonDecreasingBy, IsPartitionedBy, IsSortedByKey, is_lt, ordering_index}
-use Rattle.mxf_klv.proofs.Common.{ordering_reverse, ordering_then, cases_lt, false_from_ne_true, true≢false, nat_tests}
-use Rattle.mxf_klv.proofs.Common.{nat_cmp_total, tied_itself, get_or_default, length-drop, length-take}
-use Rattle.mxf_klv.proofs.Common.{IsPartitionedBy-ltb, searchable_from_sorted, nat_cmp-IsAntisymmetric, NoteParts}
-use Rattle.mxf_klv.proofs.Common.{note_cmp, note_total, note_cmp-IsAntisymmetric, In, In-union, IsRising, less_in}
+use Rattle.mxf_klv.proofs.Common.{length, nat_lt, filter, map, IsTotalOrder, IsSortedByKey, ordering_index}
+use Rattle.mxf_klv.proofs.Common.{ordering_then, true≢false, nat_tests, nat_cmp_total, lt-ltb, ltb-false, ltb-true}
+use Rattle.mxf_klv.proofs.Common.{tied_itself, get_or_default, length-drop, length-take, nat_cmp-IsAntisymmetric}
+use Rattle.mxf_klv.proofs.Common.{NoteParts, note_cmp, note_total, note_cmp-IsAntisymmetric, In, In-union, IsRising}
 use Rattle.mxf_klv.proofs.Common.{same_from_members, union}
-use Rattle.std.proofs.Common.{nat_cmp, Ordering, Less, Equal, Greater}
+use Rattle.std.proofs.Common.{nat_cmp, Ordering, Less, Equal}
 use Rattle.std.proofs.lemmas.Cmp.{is_eq_index}
 use Rattle.std.proofs.lemmas.List.{get_or-map, length-map}
-use Rattle.mxf_klv.proofs.Lists.{all-In, all_from_In, In-append, In-at, In-filter, In-map}
+use Rattle.std.proofs.lemmas.Bool.{le-ltb}
+use Rattle.mxf_klv.proofs.Lists.{all-In, all_from_In, In-append, In-filter, In-map}
+use Rattle.mxf_klv.proofs.Sides.{first_decides, rising_places, rising_sorted, side_by, sides_rise, sides_run}
 use Rattle.mxf_catalogue.specs.ReducedLaws.{is_same-Decides, rising-filter}
 use Rattle.mxf_readings.specs.HoldingOrder.{holding_total, holding_cmp-IsAntisymmetric}
 use Rattle.mxf_readings.specs.Holdings.{AreHoldings, HoldingParts, holding, holding_cmp, holdings_from, is_of, is_only}
-use Rattle.mxf_readings.specs.Holdings.{side}
 use Rattle.mxf_readings.specs.Readings.{content_of, sources_of}
 use Rattle.mxf_readings.proofs.SourceLaws.{at_number, sources_rise, sources_say}
 
@@ -71,32 +70,7 @@ sorted_holdings contents xs ys from is rising =
 
 -- ---- the holdings of a note
 
--- What passes a test stands from one place up to another.
-passing_part : {K : Type 0} (p : K → Bool) (xs : List K) (a b : ℕ) → a ≤ b → b ≤ length xs
-    → AllWithin (λ y. p y ≡ false) xs 0 a → AllWithin (λ y. p y ≡ true) xs a b
-    → AllWithin (λ y. p y ≡ false) xs b (length xs) → drop a (take b xs) ≡ filter p xs
-passing_part p [] zero zero o l f g h = refl
-passing_part p [] zero (suc b) o l f g h = absurd (omega arith)
-passing_part p [] (suc a) b o l f g h = absurd (omega arith)
-passing_part p (x ∷ xs) zero zero o l f g h = rw (h 0 x (omega arith) (omega arith))
-    (passing_part p xs zero zero (omega arith) (omega arith) (λ k d _ m. absurd (omega arith))
-    (λ k d _ m. absurd (omega arith)) (λ k d _ m. h (suc k) d (omega arith) (omega arith)))
-passing_part p (x ∷ xs) zero (suc b) o l f g h = rw (g 0 x (omega arith) (omega arith))
-    (ap (λ t. x ∷ t) (passing_part p xs zero b (omega arith) (omega arith) (λ k d _ m. absurd (omega arith))
-    (λ k d _ m. g (suc k) d (omega arith) (omega arith)) (λ k d n m. h (suc k) d (omega arith) (omega arith))))
-passing_part p (x ∷ xs) (suc a) zero o l f g h = absurd (omega arith)
-passing_part p (x ∷ xs) (suc a) (suc b) o l f g h = rw (f 0 x (omega arith) (omega arith))
-    (passing_part p xs a b (omega arith) (omega arith) (λ k d _ m. f (suc k) d (omega arith) (omega arith))
-    (λ k d n m. g (suc k) d (omega arith) (omega arith)) (λ k d n m. h (suc k) d (omega arith) (omega arith)))
-
-pub rising_places : {K : Type 0} {R : K → K → Ordering} (o : IsTotalOrder R) (xs : List K) (i j : ℕ) (d : K)
-    → IsRising R xs → i < j → j < length xs → R (get_or xs i d) (get_or xs j d) ≡ Less
-rising_places o [] i j d r h l = absurd (omega arith)
-rising_places o (x ∷ xs) i zero d r h l = absurd (omega arith)
-rising_places o (x ∷ xs) zero (suc j) d r h l = less_in o x (get_or xs j d) xs r.0 (In-at xs j d (omega arith))
-rising_places o (x ∷ xs) (suc i) (suc j) d r h l = rising_places o xs i j d r.1 (omega arith) (omega arith)
-
--- The same of what the elements are mapped to.
+-- Where what elements are mapped to rises, it is less at an earlier place.
 pub rising_mapped : {X K : Type 0} {R : K → K → Ordering} (o : IsTotalOrder R) (f : X → K) (xs : List X) (i j : ℕ)
     (d : X) → IsRising R (map f xs) → i < j → j < length xs → R (f (get_or xs i d)) (f (get_or xs j d)) ≡ Less
 rising_mapped {R = R} o f xs i j d r l h =
@@ -104,63 +78,28 @@ rising_mapped {R = R} o f xs i j d r l h =
     (subst (λ y. R (get_or (map f xs) i (f d)) y ≡ Less) (get_or-map f xs j d (f d) h)
     (rising_places o (map f xs) i j (f d) r l (omega (arith, length-map xs f))))
 
-no_less : (a b : Ordering) → a ≡ Greater → ordering_then a b ≡ Less → ⊥
-no_less a b e f = let g = rw e at f in cc (g)
+pub by_note : (hs : List HoldingParts) → IsRising holding_cmp hs
+    → IsSortedByKey (λ (h : HoldingParts). h.note) note_cmp hs
+by_note hs r = rising_sorted holding_total note_total (λ (h : HoldingParts). h.note) hs (λ g h l e.
+    first_decides (note_cmp g.note h.note) (nat_cmp g.source h.source) e l) r
 
-not_back : (g h : HoldingParts) → holding_cmp g h ≡ Less → is_lt (note_cmp h.note g.note) ≡ false
-not_back g h l =
-    elim (note_cmp h.note g.note) as (λ o. note_cmp h.note g.note ≡ o → is_lt o ≡ false) [
-      | Less ↦ λ e. absurd (no_less (note_cmp g.note h.note) (nat_cmp g.source h.source)
-          (note_total.antisymm g.note h.note ∙ ap ordering_reverse e) l)
-      | Equal ↦ λ e. refl
-      | Greater ↦ λ e. refl
-    ] refl
-
-by_note : (hs : List HoldingParts) → IsRising holding_cmp hs → IsSortedByKey (λ (h : HoldingParts). h.note) note_cmp hs
-by_note hs r k d l h =
-    not_back (get_or hs k d) (get_or hs (k + 1) d) (rising_places holding_total hs k (k + 1) d r (omega arith) h)
-
-sides_rise : (n : NoteParts) (hs : List HoldingParts) → IsRising holding_cmp hs → IsNonDecreasingBy (side n) hs
-sides_rise n hs r = searchable_from_sorted note_total (λ (h : HoldingParts). h.note) hs n (by_note hs r)
-
--- Those before one stand below a side of a note where that one does.
-pub parted_below : (n : NoteParts) (hs : List HoldingParts) (bound : ℕ) → IsRising holding_cmp hs
-    → IsPartitionedBy (λ h. nat_lt (side n h) bound) hs
-parted_below n hs bound r = IsPartitionedBy-ltb (side n) hs bound (sides_rise n hs r)
+-- On which side of a note that of a holding stands.
+abbrev side : NoteParts → HoldingParts → ℕ
+side n h = side_by note_cmp (λ (g : HoldingParts). g.note) n h
 
 at_note : (n : NoteParts) (h : HoldingParts) → side n h ≡ 1 → is_of n h ≡ true
 at_note n h e = is_eq_index (note_cmp h.note n) ∙ eq-eqb (side n h) 1 e
-
-beside_note : (n : NoteParts) (h : HoldingParts) → side n h ≢ 1 → is_of n h ≡ false
-beside_note n h f = is_eq_index (note_cmp h.note n)
-    ∙ false_from_ne_true (side n h == 1) (λ e. f (eqb-true (side n h) 1 e))
-
-module _ (n : NoteParts) (hs : List HoldingParts) (a b : ℕ) where
-  pub run_order : a ≤ length hs → AllWithin (λ h. side n h < 1) hs 0 a → AllWithin (λ h. 2 ≤ side n h) hs b (length hs)
-      → a ≤ b
-  run_order within below above = elim (cases_lt b a) [
-    | inl l ↦ (
-        let d = holding 0 n in
-        let low = below b d (omega arith) l in
-        let high = above b d (omega arith) (omega arith) in absurd (omega (arith, low, high)))
-    | inr order ↦ order
-  ]
-
-  -- Those of a note stand from where it begins up to where it ends.
-  pub run_is : a ≤ b → b ≤ length hs → AllWithin (λ h. side n h < 1) hs 0 a
-      → AllWithin (λ h. 1 ≤ side n h) hs a (length hs)
-      → AllWithin (λ h. side n h < 2) hs 0 b → AllWithin (λ h. 2 ≤ side n h) hs b (length hs)
-      → drop a (take b hs) ≡ filter (is_of n) hs
-  run_is order within below from up_to above = passing_part (is_of n) hs a b order within
-      (λ k d l h. beside_note n (get_or hs k d) (λ e. let low = below k d l h in omega (arith, low, e))) (λ k d l h.
-      let low = from k d l (omega arith) in
-      let high = up_to k d (omega arith) h in at_note n (get_or hs k d) (omega (arith, low, high)))
-      (λ k d l h. beside_note n (get_or hs k d) (λ e. let high = above k d l h in omega (arith, high, e)))
 
 -- ---- whether there is one
 
 not_one : (k : ℕ) → 2 ≤ k → (k == 1) ≡ false
 not_one k l = grind (arith, nat_tests)
+
+under : (s : ℕ) → (s ≡ 1 → ⊥) → s ≤ 1 → nat_lt s 1 ≡ true
+under s f l = grind (arith, nat_tests)
+
+over : (s : ℕ) → (s ≡ 1 → ⊥) → 1 ≤ s → nat_lt s 2 ≡ false
+over s f l = grind (arith, nat_tests)
 
 -- Two neighbours are two.
 two : {K : Type 0} (p : K → Bool) (xs : List K) (k : ℕ) (d : K) → suc k < length xs → p (get_or xs k d) ≡ true
@@ -207,17 +146,21 @@ module _ (hs : List HoldingParts) (at : ℕ) (d : HoldingParts) (r : IsRising ho
   pub only : (0 < at → is_of own (get_or hs (at - 1) d) ≡ false)
       → (suc at < length hs → is_of own (get_or hs (suc at) d) ≡ false) → is_only hs (get_or hs at d) ≡ true
   only ahead behind =
-      let run = passing_part (is_of own) hs at (suc at) (omega arith) (omega arith)
-      (λ k c l h. beside_note own (get_or hs k c) (λ e.
-      let up = sides_rise own hs r k (at - 1) d (omega arith) (omega arith) in
-      let next = sides_rise own hs r (at - 1) at d (omega arith) here in
-      other (at - 1) (ahead (omega arith)) (omega (arith, up, next, own_side, e, moved k c (omega arith))))) (λ k c l h.
-      let same : k ≡ at = omega arith in
-      at_note own (get_or hs k c) (moved k c (omega arith) ∙ ap (λ j. side own (get_or hs j d)) same ∙ own_side))
-      (λ k c l h. beside_note own (get_or hs k c) (λ e.
-      let up = sides_rise own hs r (suc at) k d l h in
-      let next = sides_rise own hs r at (suc at) d (omega arith) (omega arith) in
-      other (suc at) (behind (omega arith)) (omega (arith, up, next, own_side, e, moved k c h)))) in
+      let rise = sides_rise note_total (λ (h : HoldingParts). h.note) own hs (by_note hs r) in
+      let run = sides_run note_cmp (λ (h : HoldingParts). h.note) own hs at (suc at) (omega arith) (λ k c l h.
+      let up = rise k (at - 1) d (omega arith) (omega arith) in
+      let next = rise (at - 1) at d (omega arith) here in
+      let below = under (side own (get_or hs (at - 1) d)) (other (at - 1) (ahead (omega arith)))
+      (omega (arith, next, own_side)) in
+      lt-ltb _ _ (let b = ltb-true _ _ below in omega (arith, up, b, moved k c (omega arith))))
+      (λ k c l h. le-ltb _ _ (let up = rise at k d l h in omega (arith, up, own_side, moved k c h)))
+      (λ k c l h. lt-ltb _ _ (let up = rise k at d (omega arith) here in
+      omega (arith, up, own_side, moved k c (omega arith)))) (λ k c l h.
+      let up = rise (suc at) k d l h in
+      let next = rise at (suc at) d (omega arith) (omega arith) in
+      let above = over (side own (get_or hs (suc at) d)) (other (suc at) (behind (omega arith)))
+      (omega (arith, next, own_side)) in
+      le-ltb _ _ (let b = ltb-false _ _ above in omega (arith, up, b, moved k c h))) in
       eq-eqb _ 1 (sym (ap length run) ∙ simp (length-drop, length-take) (omega arith))
 
 -- ---- their sources

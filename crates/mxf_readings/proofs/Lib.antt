@@ -1,4 +1,3 @@
-pub mod CountLaws
 pub mod SourceLaws
 pub mod HoldingLaws
 pub mod AllNotesLaws

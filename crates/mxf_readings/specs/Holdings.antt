@@ -1,7 +1,7 @@
 -- Which source holds which note, as one list (this project's profile).
 use Rattle.std.specs.Prelude.{◌↔◌, ◌==◌, ◌&&◌, ℕ, ◌+◌, Bool, List, [], ◌∷◌, ◌++◌, filter, length, map}
 use Rattle.std.specs.List.Sorted.{IsNonDecreasing, IsPermutation}
-use Rattle.std.specs.Ordering.{nat_cmp, on, ordering_index, then_cmp}
+use Rattle.std.specs.Ordering.{nat_cmp, on, then_cmp}
 use Rattle.std.specs.declared.cmp.Ordering.{Ordering}
 use Rattle.mxf_klv.specs.Parts.{NoteParts}
 use Rattle.mxf_klv.specs.Note.{note_cmp}
@@ -24,10 +24,6 @@ holding_cmp = then_cmp (on (λ h. h.note) note_cmp) (on (λ h. h.source) nat_cmp
 -- It is of this note.
 abbrev pub is_of : NoteParts → HoldingParts → Bool
 is_of n h = is_same_note h.note n
-
--- On which side of the note its own stands: below it 0, the same 1, above it 2.
-abbrev pub side : NoteParts → HoldingParts → ℕ
-side n h = ordering_index (note_cmp h.note n)
 
 -- The notes of sources that are numbered from a first on, source after source.
 abbrev pub holdings_from : ℕ → List (List NoteParts) → List HoldingParts

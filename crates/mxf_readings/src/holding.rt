@@ -1,11 +1,9 @@
 //! Which source holds which note, in the order of notes.
 ghost use Rattle.std.specs.Prelude.{◌≡◌, ◌<◌, ◌≤◌, ◌++◌, true, false, drop, filter, length, map, take, IfOk, IsTrue};
 ghost use Rattle.std.specs.Prelude.{OnOk, slice_index_or};
-ghost use Rattle.std.specs.List.{AllWithin};
-ghost use Rattle.std.specs.Ordering.{ordering_index};
 ghost use Rattle.mxf_klv.specs.Rising.{In, IsRising};
 ghost use Rattle.mxf_readings.specs.Holdings.{AreHoldings, HoldingParts, holding, holding_cmp, holdings_from, is_of};
-ghost use Rattle.mxf_readings.specs.Holdings.{is_only, side};
+ghost use Rattle.mxf_readings.specs.Holdings.{is_only};
 ghost use Rattle.mxf_readings.specs.Readings.{is_held};
 
 use mxf_catalogue::Catalogue;
@@ -174,9 +172,9 @@ pub(crate) fn range(holdings: &[Holding<'_>], note: &Note) -> (usize, usize)
     ensures bound { result.1 ≤ length holdings.now }
     ensures run { drop result.0 (take result.1 holdings.now) ≡ filter (is_of note.now) holdings.now }
 {
-    let from = count_below(holdings, note, Ordering::Equal);
-    let to = count_below(holdings, note, Ordering::Greater);
-    (from, to)
+    let to = holdings.partition_point(|holding| holding.note.cmp(note) < Ordering::Greater);
+    let from = holdings.partition_point(|holding| holding.note.cmp(note) < Ordering::Equal);
+    (from.min(to), to)
 }
 
 /// Whether the holding at a place is the only one of its note: neither of its neighbours is of it.
@@ -191,14 +189,4 @@ pub(crate) fn is_only(holdings: &[Holding<'_>], at: usize) -> bool
         return false;
     }
     at + 1 == holdings.len() || !holdings[at + 1].is_of(note)
-}
-
-/// How many holdings stand below a side of a note: below it for `Equal`, below it or on it for `Greater`.
-fn count_below(holdings: &[Holding<'_>], note: &Note, bound: Ordering) -> usize
-    requires { IsRising holding_cmp holdings.now }
-    ensures most { result ≤ length holdings.now }
-    ensures below { AllWithin (λ h. side note.now h < ordering_index bound) holdings.now 0 result }
-    ensures above { AllWithin (λ h. ordering_index bound ≤ side note.now h) holdings.now result (length holdings.now) }
-{
-    holdings.partition_point(|holding| holding.note.cmp(note) < bound)
 }

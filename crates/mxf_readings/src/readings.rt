@@ -2,7 +2,6 @@
 ghost use Rattle.std.specs.Prelude.{◌≡◌, ◌≢◌, ◌↔◌, ◌≤◌, ◌==◌, ◌++◌, ℕ, [], List, count_by, drop, length, take, IfNone};
 ghost use Rattle.std.specs.Prelude.{IfOk, IfSome, IsTrue};
 ghost use Rattle.std.specs.List.{AllByRecursion};
-ghost use Rattle.std.specs.List.Sorted.{IsNonDecreasing};
 ghost use Rattle.std.specs.Ordering.{nat_cmp};
 ghost use Rattle.mxf_klv.specs.Parts.{NoteParts};
 ghost use Rattle.mxf_klv.specs.Rising.{In, IsRising};
@@ -13,7 +12,7 @@ ghost use Rattle.mxf_readings.specs.Readings.{is_alone, is_disputed_there, sourc
 
 use crate::holding::{Holding, holdings, is_only, range, source_numbers};
 use mxf_catalogue::{Catalogue, Semilattice};
-use mxf_klv::{Note, OutOfMemory};
+use mxf_klv::{Note, OutOfMemory, count_with_key};
 use std::alloc::Global;
 use std::marker::Model;
 
@@ -132,7 +131,7 @@ impl<'a> Readings<'a> {
         content.laws();
         SourceCounts {
             notes: content.len(),
-            alone: count_of(&self.alone, number),
+            alone: count_with_key(&self.alone, number as u64),
             disputed: content
                 .notes()
                 .filter(|note| self.is_disputed(note))
@@ -165,16 +164,6 @@ fn sources_alone(
         }
     }
     Ok(sources)
-}
-
-/// How often a number stands among others, which don't fall: two binary searches.
-fn count_of(numbers: &[usize], number: usize) -> usize
-    requires { IsNonDecreasing numbers.now }
-    ensures { result ≡ count_by (λ k. k == number) numbers.now }
-{
-    let below = numbers.partition_point(|other| *other < number);
-    let up_to = numbers.partition_point(|other| *other <= number);
-    up_to - below
 }
 
 /// The content of the source with a number.

@@ -18,8 +18,8 @@ use crate::first::FirstClaims;
 use crate::head::Heads;
 use crate::plan::Order;
 use crate::section::{Section, sections};
-use mxf_klv::{MAX, OutOfMemory};
-use mxf_places::{AtHand, Claim, Holdings, KEY_AND_LENGTH, OffsetRange, Reason, up_to_bound};
+use mxf_klv::{KEY_AND_LENGTH, MAX, OutOfMemory};
+use mxf_places::{AtHand, Claim, Holdings, OffsetRange, Reason, up_to_bound};
 use std::alloc::Global;
 use std::marker::Model;
 

@@ -1,15 +1,16 @@
 -- The next place of a stream, by the least of some places and by all that segments give.
-use Rattle.mxf_views.proofs.Common.{◌≡◌, ◌∙◌, ◌↔◌, ◌<◌, ◌≤◌, ◌+◌, ◌-◌, ◌*◌, ◌/◌, ◌%◌, ◌==◌, ◌&&◌, ◌||◌, ℕ, zero, suc}
-use Rattle.mxf_views.proofs.Common.{Bool, true, false, List, Option, None, Some, refl, sym, ap, subst, inl, inr, arith}
-use Rattle.mxf_views.proofs.Common.{eq-eqb, eqb-true, filter_map, flat_map, if◌then◌else◌, lt-ltb, ltb-true, max}
-use Rattle.mxf_views.proofs.Common.{nat_le, nat_lt, option_map, unsigned_abs, mul-le-mul_left, and_from, and_parts}
-use Rattle.mxf_views.proofs.Common.{cases_lt, le-leb, leb-true, range_with_len, In, NoteParts, In-append, In-filter}
+use Rattle.mxf_views.proofs.Common.{◌≡◌, ◌∙◌, ◌↔◌, ◌<◌, ◌≤◌, ◌+◌, ◌-◌, ◌*◌, ◌/◌, ◌%◌, ◌==◌, ◌&&◌, ◌||◌, ℕ, Bool, true}
+use Rattle.mxf_views.proofs.Common.{false, List, Option, None, Some, refl, sym, ap, subst, inl, inr, arith, eq-eqb}
+use Rattle.mxf_views.proofs.Common.{eqb-true, filter_map, flat_map, if◌then◌else◌, lt-ltb, ltb-true, max, nat_le}
+use Rattle.mxf_views.proofs.Common.{nat_lt, option_map, unsigned_abs, mul-le-mul_left, and_from, and_parts, cases_lt}
+use Rattle.mxf_views.proofs.Common.{le-leb, leb-true, range_with_len, In, NoteParts, In-append, In-filter}
 use Rattle.mxf_views.proofs.Common.{In-filter_map, In-flat_map, covers_constant, covers_entry, entry_offset}
 use Rattle.mxf_views.proofs.Common.{stream_offset, SegmentParts, entry_count, is_constant, SegmentAtParts, segments_of}
 use Rattle.mxf_views.proofs.Common.{in_stream, place_in}
 use Rattle.mxf_views.specs.declared.index.place.StreamPlace.{StreamPlace}
 use Rattle.mxf_units.specs.Streams.{IsNextOf, IsStreamPlace, listed_in, next_of, offset_in, offsets_in, places_above}
 use Rattle.mxf_units.specs.Streams.{segments_for, sized_above}
+use Rattle.mxf_klv.proofs.Counts.{In-range}
 use Rattle.mxf_units.proofs.LeastLaws.{IsLeast, least-is, offset_in-says}
 
 -- ---- what segments give
@@ -58,14 +59,6 @@ above-given segments low q h =
     ]
 
 -- ---- each place above an offset, or a lesser one
-
-In-range : (a n x : ℕ) → a ≤ x → x < a + n → In x (range_with_len a n)
-In-range a zero x l r = absurd (omega arith)
-In-range a (suc n) x l r =
-    elim (cases_lt a x) [
-      | inl m ↦ inr (In-range (a + 1) n x (omega (arith, m)) (omega arith))
-      | inr m ↦ inl (omega (arith, m, l))
-    ]
 
 -- A lesser place of the stream above the offset is among those that are looked at.
 abbrev Reached : List SegmentAtParts → ℕ → ℕ → ℕ → Type 0

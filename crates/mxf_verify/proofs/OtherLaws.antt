@@ -12,7 +12,6 @@ use Rattle.std.proofs.lemmas.Bool.{ltb-true, lt-ltb}
 use Rattle.mxf_klv.specs.Rising.{less_back}
 use Rattle.mxf_klv.proofs.HeadOrder.{head_note-below, head_note-between}
 use Rattle.mxf_klv.proofs.Tests.{by_places, less_from_test}
-use Rattle.mxf_views.proofs.NumbersLaws.{count_mapped}
 use Rattle.mxf_verify.specs.Comparing.{Contradicts, is_held_byte_shared}
 use Rattle.mxf_verify.specs.Opposing.{is_had}
 use Rattle.mxf_verify.specs.Others.{is_headed, is_touched, others_of}
@@ -25,7 +24,7 @@ use Rattle.mxf_readings.proofs.HoldingLaws.{rising_mapped}
 use Rattle.mxf_verify.proofs.OpposingLaws.{had-by_test}
 use Rattle.mxf_readings.proofs.SourceLaws.{held_says}
 use Rattle.mxf_verify.proofs.TouchCounts.{touching-count}
-use Rattle.mxf_readings.proofs.CountLaws.{count-alike, count-both, count-front, count-some, some-count}
+use Rattle.mxf_klv.proofs.Counts.{count-alike, count-both, count-front, count-some, count_mapped, some-count}
 
 -- ---- heads in the order of notes
 

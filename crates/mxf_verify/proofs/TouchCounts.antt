@@ -9,7 +9,7 @@ use Rattle.std.specs.Prelude.{◌≡◌, ◌≢◌, ◌↔◌, ◌+◌, ◌-◌,
 use Rattle.std.specs.Prelude.{[], ◌∷◌, length, map, cond, count_by, IsTrue, refl}
 use Rattle.std.proofs.lemmas.Bool.{ltb-true, lt-ltb}
 use mir.Val.{bool_byte}
-use Rattle.mxf_readings.proofs.CountLaws.{count-alike, count-both, count-front, count-some, count_mapped, some-count}
+use Rattle.mxf_klv.proofs.Counts.{count-alike, count-both, count-front, count-some, count_mapped, some-count}
 use Rattle.mxf_verify.specs.Comparing.{Contradicts, SharesHeldByte, is_held_byte_shared}
 use Rattle.mxf_verify.specs.Opposing.{AreBounds, IsOpposed}
 use Rattle.mxf_verify.proofs.ComparingLaws.{holds_first, share-by_test}

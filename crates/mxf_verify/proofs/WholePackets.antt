@@ -12,16 +12,12 @@ use Rattle.mxf_klv.specs.declared.piece.Stop.TheVariants.{End}
 use Rattle.std.proofs.Math.ListN.{length-append, length-drop}
 use Rattle.std.proofs.lemmas.List.{append-nil}
 use Rattle.sha2.specs.Sha256.{sha256}
+use Rattle.mxf_klv.specs.NoteOrder.{same_parts}
 use Rattle.mxf_klv.proofs.StopLaws.{one_stop_in}
 use Rattle.mxf_klv.proofs.RoundTrips.{AreBytes-drop, AreBytes-take}
 use Rattle.mxf_verify.specs.Verifying.{IsAmong, IsSaidBy, IsValueOf, front_size, held_in, held_size}
 
 -- ---- what a note says of bytes is a packet
-
--- notes with equal parts are one
-one_note : (a b : NoteParts) → a.offset ≡ b.offset → a.key ≡ b.key → a.width ≡ b.width → a.length ≡ b.length
-    → a.whole ≡ b.whole → a.held ≡ b.held → a ≡ b
-one_note a b o k w l h d i = record { offset = o i; key = k i; width = w i; length = l i; whole = h i; held = d i }
 
 module _ (n : NoteParts) (bytes : List ℕ) (is : IsNote n) (whole : n.whole ≡ true) (said : IsSaidBy n bytes)
     (size : length bytes ≡ held_size n) where
@@ -52,7 +48,7 @@ module _ (n : NoteParts) (bytes : List ℕ) (is : IsNote n) (whole : n.whole ≡
 
   pub said_note : note_of n.offset (packet_parts n.key n.width (drop (front_size n) bytes)) ≡ n
   unfolding value
-  said_note = grind (arith, value, value_length, one_note)
+  said_note = grind (arith, value, value_length, same_parts)
 
 -- ---- bytes that are said, read from the front
 

@@ -2,9 +2,8 @@
 use Rattle.mxf_views.proofs.Common.{◌≡◌, ◌∙◌, ℕ, Bool, true, false, cond, List, [], ◌∷◌, Option, None, Some, ap, refl}
 use Rattle.mxf_views.proofs.Common.{sym, ◌==◌, ◌&&◌, ◌||◌, filter, find, if◌then◌else◌, list_any, map, nat_le, not}
 use Rattle.mxf_views.proofs.Common.{option_map, NoteParts, PartitionParts, RipParts, lies_between, rip_in}
-use Rattle.mxf_views.proofs.Common.{rip_view_among, rip_view_by, standing_of, stands_at, stands_between, ◌+◌, count_by}
-use Rattle.mxf_views.proofs.Common.{cons_option, count_by-cons, eqb-true, filter_map, found-In, link_of, list_all}
-use Rattle.mxf_views.proofs.Common.{tally, in_numbers, link_by}
+use Rattle.mxf_views.proofs.Common.{rip_view_among, rip_view_by, standing_of, stands_at, stands_between, cons_option}
+use Rattle.mxf_views.proofs.Common.{eqb-true, filter_map, found-In, link_of, list_all, in_numbers, link_by}
 use Rattle.mxf_views.specs.declared.random_index.RipView.TheVariants.{One}
 use Rattle.mxf_sets.specs.declared.pack.random_index.RipEntry.{RipEntry}
 use Rattle.mxf_views.specs.RandomIndex.{standing_by, standings_among}
@@ -19,12 +18,6 @@ pub all_mapped : {A B : Type 0} (t : B → Bool) (f : A → B) (xs : List A)
     → list_all t (map f xs) ≡ list_all (λ x. t (f x)) xs
 all_mapped t f [] = refl
 all_mapped t f (x ∷ xs) = ap (λ b. t (f x) && b) (all_mapped t f xs)
-
-pub count_mapped : {A B : Type 0} (t : B → Bool) (f : A → B) (xs : List A)
-    → count_by t (map f xs) ≡ count_by (λ x. t (f x)) xs
-count_mapped t f [] = refl
-count_mapped t f (x ∷ xs) = count_by-cons t (f x) (map f xs) ∙ ap (λ n. tally (t (f x)) + n) (count_mapped t f xs)
-    ∙ sym (count_by-cons (λ x. t (f x)) x xs)
 
 pub filter_map_mapped : {A B C : Type 0} (t : B → Option C) (f : A → B) (xs : List A)
     → filter_map t (map f xs) ≡ filter_map (λ x. t (f x)) xs

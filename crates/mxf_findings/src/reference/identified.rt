@@ -16,7 +16,7 @@ ghost use Rattle.mxf_findings.specs.References.{found_in};
 use crate::finding::readable::is_unreadable;
 use crate::reference::Found;
 use mxf_catalogue::Catalogue;
-use mxf_klv::{Note, OutOfMemory};
+use mxf_klv::{Note, OutOfMemory, has_key};
 use mxf_sets::instance_uid;
 use mxf_views::{Sets, Views};
 use std::alloc::Global;
@@ -70,14 +70,6 @@ fn unreadable_offsets(alloc: Global, sets: Sets<'_>) -> Result<Vec<u64>, OutOfMe
 {
     let unreadable = sets.filter(|note| is_unreadable(note));
     Ok(unreadable.map(|note| note.offset()).collect(alloc)?)
-}
-
-/// Whether an offset is one of those that rise.
-fn is_among(offsets: &[u64], offset: u64) -> bool
-    requires { IsRising nat_cmp offsets.now }
-    ensures { IsTrue result ↔ In offset offsets.now }
-{
-    offsets.binary_search(&offset).is_ok()
 }
 
 /// The number of the sets whose identifiers stand below one.
@@ -160,7 +152,7 @@ impl<'a> CopySets<'a> {
         ensures { result ≡ is_unreadable set.now }
     {
         self.catalogue.laws();
-        is_among(&self.unreadable, set.offset())
+        has_key(&self.unreadable, set.offset())
     }
 
     /// The clear note at a file offset.

@@ -1,8 +1,9 @@
 use Rattle.mxf_klv.proofs.Common.{◌≡◌, ◌∙◌, ℕ, List, refl, subst, sym, true≢false, CanHead, NoteParts, head_parts, In}
+use Rattle.mxf_klv.proofs.Common.{not-false}
 use Rattle.mxf_catalogue.specs.Content.{has_note}
 use Rattle.mxf_find.proofs.AgreeingLaws.{agrees_none, as_head_none, head_agrees, head_as_head, head_there, held_agrees}
 use Rattle.mxf_find.proofs.AgreeingLaws.{held_as_head, moved_agrees, no_head, not_had, whole_as_head}
-use Rattle.mxf_find.proofs.VoteLaws.{unfalse, untrue}
+use Rattle.std.proofs.lemmas.Bool.{not-true}
 use Rattle.mxf_find.proofs.agreeing.agreement_at.Goals as goal
 
 head : (content : List NoteParts) (offset : ℕ) (p : NoteParts) (h : NoteParts) (key : List ℕ) (width len : ℕ)
@@ -60,7 +61,7 @@ returns-then-is_head-clause-agrees c =
     let e = head r o p c.in-Some.head _ _ _ c.in-Some.ensures.1 c.key.ensures c.width.ensures c.length.ensures in
     let has : has_note r (head_there r o p) = subst (λ (x : NoteParts). has_note r x) e
     (c.has.ensures.0 c.if-not-has.false) in
-    let agrees = head_agrees r o p (untrue _ (sym c.if-is_head.ensures)) has in
+    let agrees = head_agrees r o p (not-true _ (sym c.if-is_head.ensures)) has in
     agrees
 
 pub returns-then-is_head-clause-as_head : goal.returns-then-is_head-clause-as_head
@@ -71,8 +72,8 @@ returns-then-is_head-clause-as_head c =
     let e = head r o p c.in-Some.head _ _ _ c.in-Some.ensures.1 c.key.ensures c.width.ensures c.length.ensures in
     let has : has_note r (head_there r o p) = subst (λ (x : NoteParts). has_note r x) e
     (c.has.ensures.0 c.if-not-has.false) in
-    let agrees = head_agrees r o p (untrue _ (sym c.if-is_head.ensures)) has in
-    head_as_head r o p (untrue _ (sym c.if-is_head.ensures)) agrees
+    let agrees = head_agrees r o p (not-true _ (sym c.if-is_head.ensures)) has in
+    head_as_head r o p (not-true _ (sym c.if-is_head.ensures)) agrees
 
 pub returns-then-holds-clause-agrees : goal.returns-then-holds-clause-agrees
 returns-then-holds-clause-agrees c =
@@ -102,7 +103,7 @@ returns-clause-agrees c =
     (c.has.ensures.0 c.if-not-has.false) in
     let lacked : In (head_there r o p) r → ⊥ = λ i. true≢false
     (sym (c.holds.ensures.1 (subst (λ (x : NoteParts). In x r) (sym e) i)) ∙ c.if-holds.false) in
-    let whole = unfalse _ (sym c.if-is_head.ensures) in
+    let whole = not-false _ (sym c.if-is_head.ensures) in
     let all = c.laws.ensures.catalogue.members in
     moved_agrees r o p all whole lacked c.in_ok-agrees.agrees c.in_ok-agrees.ensures
 
@@ -116,6 +117,6 @@ returns-clause-as_head c =
     (c.has.ensures.0 c.if-not-has.false) in
     let lacked : In (head_there r o p) r → ⊥ = λ i. true≢false
     (sym (c.holds.ensures.1 (subst (λ (x : NoteParts). In x r) (sym e) i)) ∙ c.if-holds.false) in
-    let whole = unfalse _ (sym c.if-is_head.ensures) in
+    let whole = not-false _ (sym c.if-is_head.ensures) in
     let all = c.laws.ensures.catalogue.members in
     whole_as_head r o p all whole lacked has

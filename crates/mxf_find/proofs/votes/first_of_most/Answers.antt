@@ -6,7 +6,7 @@ use Rattle.mxf_find.proofs.votes.first_of_most.Goals.{then-others-count, else-ot
 
 pub loop-vote-init : goal.loop-vote-init
 loop-vote-init c =
-    subst (λ (k : ℕ). IsMostSoFar c.args.votes.now 0 c.in_ok-most.field-0.now k) (sym c.count_of-count.ensures)
+    subst (λ (k : ℕ). IsMostSoFar c.args.votes.now 0 c.in_ok-most.field-0.now k) (sym c.count_with_key-count.ensures)
     (first_most c.args.votes.now c.in_ok-most.field-0.now
     (slice_get_within c.args.votes.now 0 c.in_ok-most.field-0.now (sym c.in_ok-most.ensures.value)) c.requires
     (sym (get_or_from_slice_get c.args.votes.now 0 c.in_ok-most.field-0.now 0 (sym c.in_ok-most.ensures.value))))
@@ -19,14 +19,14 @@ loop-vote-preserved c =
     elim c.if-others-count.branch [
       | then-others-count w ↦
           let more = w.if-others-count.true in
-          let is = c.count_of-others.ensures in
+          let is = c.count_with_key-others.ensures in
           subst (λ (m : ℕ). IsMostSoFar xs (i + 1) m c.if-others-count.count) (sym w.most-is)
           (subst (λ (k : ℕ). IsMostSoFar xs (i + 1) (get_or xs i 0) k) (sym (w.count-is ∙ is))
           (next_most xs i c.loop-vote.most c.loop-vote.count so c.loop-vote-test.true c.requires
           (omega (arith, more, is))))
       | else-others-count w ↦
           let less = w.if-others-count.false in
-          let is = c.count_of-others.ensures in
+          let is = c.count_with_key-others.ensures in
           subst (λ (m : ℕ). IsMostSoFar xs (i + 1) m c.if-others-count.count) (sym w.most-is)
           (subst (λ (k : ℕ). IsMostSoFar xs (i + 1) c.loop-vote.most k) (sym w.count-is)
           (next_same xs i c.loop-vote.most c.loop-vote.count so c.loop-vote-test.true (omega (arith, less, is))))

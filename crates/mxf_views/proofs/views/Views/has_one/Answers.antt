@@ -1,6 +1,6 @@
 use Rattle.mxf_views.proofs.Common.{◌==◌, ◌∙◌, ap, count_by, partitions_of, PartitionParts}
 use Rattle.mxf_views.specs.Partitions.{in_numbers, is_part}
-use Rattle.mxf_views.proofs.NumbersLaws.{count_mapped}
+use Rattle.mxf_klv.proofs.Counts.{count_mapped}
 use Rattle.mxf_views.proofs.views.Views.has_one.Goals as goal
 
 pub returns : goal.returns
