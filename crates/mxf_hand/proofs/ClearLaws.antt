@@ -14,19 +14,19 @@ use Rattle.mxf_hand.specs.Given.{bytes_between}
 use Rattle.mxf_hand.specs.Noting.{cut_heads, packet_notes}
 use Rattle.mxf_read.proofs.Pieces.{head_begins, heads_few}
 use Rattle.mxf_places.specs.AtHand.{LiesInRange, up_to_bound}
-use Rattle.mxf_restore.specs.Plan.{is_head_to, start_of}
+use Rattle.mxf_places.specs.Heads.{heads_to, is_head_to, start_of}
 use Rattle.mxf_restore.specs.Sections.{AreSections, sections_of}
 use Rattle.mxf_restore.specs.declared.section.Section.{Section}
 use Rattle.mxf_restore.proofs.SectionCover.{are_sections}
 use Rattle.mxf_hand.specs.Hand.{HandBytes, is_value_at_hand, packet_of, read_bytes, read_heads, read_packets, read_to}
 use Rattle.mxf_hand.specs.Hand.{run_end}
-use Rattle.mxf_hand.specs.Heads.{fits, fitting, heads_to}
+use Rattle.mxf_hand.specs.Heads.{fits, fitting}
 use Rattle.mxf_hand.specs.Rounds.{heads_taken, is_taken, made_in, packets_in, put_together, read_heads_in}
 use Rattle.mxf_hand.specs.Rounds.{read_heads_of, read_in, round, rounds, taken_in}
 use Rattle.mxf_hand.specs.Sections.{ends_within, from_of, heads_of, made_by, made_of, packets_of, read_from}
 use Rattle.mxf_hand.specs.declared.found.CutHead.{CutHead}
 use Rattle.mxf_hand.proofs.FitLaws.{read_count}
-use Rattle.mxf_hand.proofs.HeadNoteLaws.{not_whole}
+use Rattle.std.proofs.lemmas.Bool.{not-true}
 use Rattle.mxf_hand.proofs.HistoryLaws.{round_content, round_reduced}
 
 -- The head of a packet that is cut in a hole.
@@ -136,7 +136,7 @@ module _ (notes : List NoteParts) (content : IsContent notes) (n : NoteParts) (c
             let t = and_parts (not m.whole) (covered_end m == p.first) k.1 in
             let end = eqb-true (covered_end m) p.first t.1 in
             let le = covers_below_end m in
-            (m, k.0, not_whole m.whole t.0, record { from = from; before = omega (arith, end, le, high) })
+            (m, k.0, not-true m.whole t.0, record { from = from; before = omega (arith, end, le, high) })
       ] refl low
 
   -- A head that fits ends at the section's first byte.
@@ -146,7 +146,7 @@ module _ (notes : List NoteParts) (content : IsContent notes) (n : NoteParts) (c
       let k = (In-filter (λ a. (a.offset == start_of notes first) && fits h a) (heads_to first notes) m).0 i in
       let j = (In-filter (is_head_to first) notes m).0 k.0 in
       let t = and_parts (not m.whole) (covered_end m == first) j.1 in
-      (j.0, not_whole m.whole t.0, eqb-true (covered_end m) first t.1)
+      (j.0, not-true m.whole t.0, eqb-true (covered_end m) first t.1)
 
   -- A section is read from its start, or from behind its first byte.
   from_by : (first q : ℕ) (heads : List NoteParts) → ((m : NoteParts) → In m heads → covered_end m ≡ first)

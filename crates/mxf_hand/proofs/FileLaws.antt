@@ -18,19 +18,19 @@ use Rattle.mxf_klv.proofs.PieceLaws.{one_piece}
 use Rattle.mxf_hand.specs.Noting.{cut_heads, packet_notes}
 use Rattle.mxf_read.proofs.Pieces.{heads_few}
 use Rattle.mxf_places.proofs.AtHandLaws.{has_offsets-says}
-use Rattle.mxf_restore.specs.Plan.{is_head_to, start_of}
+use Rattle.mxf_places.specs.Heads.{heads_to, is_head_to, start_of}
 use Rattle.mxf_restore.specs.Sections.{sections_of}
 use Rattle.mxf_restore.specs.declared.section.Section.{Section}
 use Rattle.mxf_hand.specs.File.{AreBytesOfFile, AreOfFile, BeginAtPackets, IsAllAtHand, IsBoundary, IsOfFile}
 use Rattle.mxf_hand.specs.Hand.{HandBytes, is_value_at_hand, packet_of, read_bytes, read_heads, read_packets, read_to}
-use Rattle.mxf_hand.specs.Heads.{fits, fitting, heads_to}
+use Rattle.mxf_hand.specs.Heads.{fits, fitting}
 use Rattle.mxf_hand.specs.Rounds.{heads_taken, is_taken, made_in, packets_in, put_together, read_heads_in}
 use Rattle.mxf_hand.specs.Rounds.{read_heads_of, read_in, round, rounds, taken_in}
 use Rattle.mxf_hand.specs.Sections.{ends_within, from_of, heads_of, made_by, made_of, packets_of, read_from}
 use Rattle.mxf_hand.specs.declared.found.CutHead.{CutHead}
 use Rattle.mxf_hand.proofs.ClearLaws.{cut_head}
 use Rattle.mxf_hand.proofs.HandLaws.{at_fits, read_lies}
-use Rattle.mxf_hand.proofs.HeadNoteLaws.{not_whole}
+use Rattle.std.proofs.lemmas.Bool.{not-true}
 use Rattle.mxf_hand.proofs.PacketPlaces.{behind_place, first_below, front_of, laid_size}
 use Rattle.mxf_places.proofs.LaidPlaces.{ends_below}
 
@@ -401,7 +401,7 @@ module _ (l : List PacketParts) (bytes : List ℕ) (h : HandBytes) (laid : AreLa
     fitted first m i =
         let k = (In-filter (λ a. (a.offset == start_of notes first) && fits h a) (heads_to first notes) m).0 i in
         let j = (In-filter (is_head_to first) notes m).0 k.0 in
-        (j.0, not_whole m.whole (and_parts (not m.whole) (covered_end m == first) j.1).0)
+        (j.0, not-true m.whole (and_parts (not m.whole) (covered_end m == first) j.1).0)
 
     -- Behind the packet of a note the next begins.
     pub behind_note : (m : NoteParts) → IsOfFile l m → IsBoundary l (end_of m)

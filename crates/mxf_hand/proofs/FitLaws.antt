@@ -8,7 +8,8 @@ use Rattle.std.proofs.lemmas.Bool.{lt-ltb, ltb-true}
 use Rattle.std.proofs.lemmas.List.FromFn.{get_or-map-range_with_len}
 use Rattle.mxf_hand.specs.Given.{bytes_between}
 use Rattle.mxf_hand.specs.Hand.{HandBytes}
-use Rattle.mxf_hand.specs.Heads.{fits, key_and_length}
+use Rattle.mxf_hand.specs.Heads.{fits}
+use Rattle.mxf_places.specs.Heads.{key_and_length}
 use Rattle.mxf_hand.proofs.HandLaws.{fits_at}
 
 -- Key and length of a note have 16 bytes and its width.

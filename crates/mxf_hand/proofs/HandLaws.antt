@@ -13,7 +13,8 @@ use Rattle.mxf_hand.specs.Given.{AreAtHand, AreTold, SourceParts}
 use Rattle.mxf_hand.specs.Places.{GivenParts}
 use Rattle.mxf_hand.specs.declared.given.Extent.{Extent}
 use Rattle.mxf_hand.specs.Hand.{AreOf, AreToldIn, HandBytes, HandParts, read_to, run_end}
-use Rattle.mxf_hand.specs.Heads.{fits, key_and_length}
+use Rattle.mxf_hand.specs.Heads.{fits}
+use Rattle.mxf_places.specs.Heads.{key_and_length}
 
 -- The first run that ends above an offset is the first of those that lie behind it.
 pub first_above : (runs left : List Run) (x : ℕ) (r : Run) → filter (is_between x None) runs ≡ r ∷ left

@@ -6,18 +6,18 @@ use Rattle.mxf_views.proofs.Common.{notes_from, head_at, heads_at, In, filter_no
 use Rattle.mxf_views.proofs.Common.{packets_in-none, rest_in-none, reduced_union, is_whole, IsContent-laid}
 use Rattle.mxf_klv.specs.PieceReading.{packets_in as packets_of_piece}
 use Rattle.mxf_hand.specs.Noting.{cut_heads, packet_notes}
-use Rattle.mxf_restore.specs.Plan.{is_head_to, start_of}
+use Rattle.mxf_places.specs.Heads.{heads_to, is_head_to, start_of}
 use Rattle.mxf_restore.specs.Sections.{AreSections, sections_of}
 use Rattle.mxf_restore.specs.declared.section.Section.{Section}
 use Rattle.mxf_restore.proofs.SectionCover.{are_sections}
 use Rattle.mxf_hand.specs.File.{AreBytesOfFile}
 use Rattle.mxf_hand.specs.Hand.{HandBytes, read_bytes, read_heads, read_packets, read_to}
-use Rattle.mxf_hand.specs.Heads.{fits, fitting, heads_to}
+use Rattle.mxf_hand.specs.Heads.{fits, fitting}
 use Rattle.mxf_hand.specs.Rounds.{is_taken, read_heads_of, read_in, round, taken_in}
 use Rattle.mxf_hand.specs.Sections.{from_of, made_by, made_of, packets_of, read_from}
 use Rattle.mxf_hand.specs.declared.found.CutHead.{CutHead}
 use Rattle.mxf_hand.proofs.HandLaws.{read_lies}
-use Rattle.mxf_hand.proofs.HeadNoteLaws.{not_whole}
+use Rattle.std.proofs.lemmas.Bool.{not-true}
 use Rattle.mxf_hand.proofs.PacketPlaces.{laid_size}
 use Rattle.mxf_places.proofs.LaidPlaces.{held_all}
 
@@ -69,7 +69,7 @@ module _ (l : List PacketParts) (h : HandBytes) (file : AreBytesOfFile l h) wher
       ∙ no_head_at q
 
   none_fits : (first : ℕ) → heads_to first whole ≡ []
-  none_fits first = grind (arith, filter_none, not_whole, and_parts, is_whole)
+  none_fits first = grind (arith, filter_none, not-true, and_parts, is_whole)
 
   fits_nothing : (first : ℕ) → fitting h whole first ≡ []
   fits_nothing first = ap (filter (λ n. (n.offset == start_of whole first) && fits h n)) (none_fits first)
@@ -79,7 +79,7 @@ module _ (l : List PacketParts) (h : HandBytes) (file : AreBytesOfFile l h) wher
       let start : start_of whole p.first ≡ p.first =
       ap (λ (o : Option NoteParts). option_map_or (λ n. n.offset) o p.first)
       (find-none (is_head_to p.first) whole (λ n i t.
-      let head = not_whole n.whole (and_parts (not n.whole) (covered_end n == p.first) t).0 in
+      let head = not-true n.whole (and_parts (not n.whole) (covered_end n == p.first) t).0 in
       let packet = is_whole 0 l n i in cc (head, packet))) in
       let above = above_file p k in (
         start_of whole p.first,

@@ -9,12 +9,12 @@ use Rattle.mxf_hand.specs.Given.{Differ, IsAtHand, IsDiffering, IsGivenAs, Sourc
 use Rattle.mxf_hand.specs.Noting.{cut_heads, packet_notes}
 use Rattle.mxf_places.specs.AtHand.{has_offset, has_offsets}
 use Rattle.mxf_places.proofs.AtHandLaws.{has_offset-says, has_offsets-says}
-use Rattle.mxf_restore.specs.Plan.{start_of}
+use Rattle.mxf_places.specs.Heads.{start_of}
 use Rattle.mxf_restore.specs.Sections.{sections_of}
 use Rattle.mxf_restore.specs.declared.section.Section.{Section}
 use Rattle.mxf_hand.specs.Hand.{AreOf, HandBytes, is_value_at_hand, packet_of, read_bytes, read_heads, read_packets}
 use Rattle.mxf_hand.specs.Hand.{read_to}
-use Rattle.mxf_hand.specs.Heads.{fits, fitting, heads_to, key_and_length}
+use Rattle.mxf_hand.specs.Heads.{fits, fitting}
 use Rattle.mxf_hand.specs.Rounds.{is_taken, put_together, read_heads_in, read_heads_of, round, rounds}
 use Rattle.mxf_hand.specs.Sections.{ends_within, from_of, heads_of, made_by, made_of, made_of_head, only, packets_of}
 use Rattle.mxf_hand.specs.Sections.{read_from}

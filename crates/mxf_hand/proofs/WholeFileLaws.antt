@@ -10,12 +10,12 @@ use Rattle.mxf_views.proofs.Common.{SharesByte-same_offset, has-reduced_union, o
 use Rattle.mxf_views.proofs.Common.{covers_below_end, covers_first, starts_above, IsWellFormed}
 use Rattle.mxf_catalogue.specs.declared.run.Run.{Run}
 use Rattle.std.proofs.Common.{le-leb, Less, Equal}
-use Rattle.std.proofs.lemmas.Bool.{ltb-true}
+use Rattle.std.proofs.lemmas.Bool.{ltb-true, not-true}
 use Rattle.std.specs.Option.{option_and_then}
 use Rattle.mxf_places.specs.AtHand.{LiesBetween, LiesInRange, has_offsets, up_to_bound}
 use Rattle.mxf_places.specs.Held.{IsHeld}
 use Rattle.mxf_places.proofs.AtHandLaws.{has_offsets-says}
-use Rattle.mxf_restore.specs.Plan.{is_head_to, start_of}
+use Rattle.mxf_places.specs.Heads.{heads_to, is_head_to, start_of}
 use Rattle.mxf_restore.specs.Sections.{AreSections, IsEndOfHole, LiesInSection, sections_of}
 use Rattle.mxf_restore.specs.declared.section.Section.{Section}
 use Rattle.mxf_restore.proofs.HoleLaws.{held_or_not}
@@ -24,13 +24,12 @@ use Rattle.mxf_restore.proofs.SectionCover.{are_sections}
 use Rattle.mxf_hand.specs.File.{AreBytesOfFile, AreOfFile, BeginAtPackets, HeadsHaveValues, IsAllAtHand, IsBoundary}
 use Rattle.mxf_hand.specs.File.{IsOfFile}
 use Rattle.mxf_hand.specs.Hand.{HandBytes, is_value_at_hand, packet_of, read_packets, read_to, run_end}
-use Rattle.mxf_hand.specs.Heads.{fits, fitting, heads_to}
+use Rattle.mxf_hand.specs.Heads.{fits, fitting}
 use Rattle.mxf_hand.specs.Rounds.{heads_taken, made_in, packets_in, put_together, round, rounds, taken_in}
 use Rattle.mxf_hand.specs.Sections.{ends_within, from_of, made_by, made_of, packets_of, read_from}
 use Rattle.mxf_hand.proofs.FileHoles.{in_hole}
 use Rattle.mxf_hand.proofs.FileLaws.{behind_note, has_of_file, head_fits, made_of_file, packet_read, round_of_file}
 use Rattle.mxf_hand.proofs.FileLaws.{stands_in}
-use Rattle.mxf_hand.proofs.HeadNoteLaws.{not_whole}
 use Rattle.mxf_hand.proofs.HistoryLaws.{round_content, round_reduced}
 use Rattle.mxf_hand.proofs.NoMoreLaws.{no_more}
 use Rattle.mxf_hand.proofs.PacketPlaces.{has_packet, is_head, is_or_head, not_cut}
@@ -183,7 +182,7 @@ module _ (l : List PacketParts) (h : HandBytes) (well : IsWellFormed l) (file : 
         let k = (In-filter (λ a. (a.offset == start_of notes first) && fits h a) (heads_to first notes) n).0 i in
         let j = (In-filter (is_head_to first) notes n).0 k.0 in
         let parts = and_parts (not n.whole) (covered_end n == first) j.1 in
-        (j.0, not_whole n.whole parts.0, eqb-true (covered_end n) first parts.1)
+        (j.0, not-true n.whole parts.0, eqb-true (covered_end n) first parts.1)
 
     fitted_rise : (first : ℕ) → IsContent (fitting h notes first)
     fitted_rise first = IsContent-filter (λ a. (a.offset == start_of notes first) && fits h a) (heads_to first notes)
@@ -299,7 +298,7 @@ module _ (l : List PacketParts) (h : HandBytes) (well : IsWellFormed l) (file : 
           let found : find (is_head_to behind) notes ≡ Some (head_note m) =
           find-only (is_head_to behind) notes (head_note m) held test (λ x j t.
           let parts = and_parts (not x.whole) (covered_end x == behind) t in
-          one_head behind x (head_note m) j (not_whole x.whole parts.0) (eqb-true (covered_end x) behind parts.1)
+          one_head behind x (head_note m) j (not-true x.whole parts.0) (eqb-true (covered_end x) behind parts.1)
           held refl refl) in
           let start : start_of notes behind ≡ m.offset =
           ap (λ (o : Option NoteParts). option_map_or (λ n. n.offset) o behind) found in

@@ -6,7 +6,7 @@ use Rattle.mxf_klv.specs.Rising.{In}
 use Rattle.mxf_catalogue.specs.Content.{has_note}
 use Rattle.mxf_catalogue.specs.Covers.{IsCover}
 use Rattle.mxf_catalogue.specs.Runs.{LiesIn}
-use Rattle.mxf_restore.specs.Plan.{start_of}
+use Rattle.mxf_places.specs.Heads.{start_of}
 use Rattle.mxf_restore.specs.Sections.{sections_of}
 use Rattle.mxf_restore.specs.declared.section.Section.{Section}
 use Rattle.mxf_hand.specs.Hand.{HandBytes}

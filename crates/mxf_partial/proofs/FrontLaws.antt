@@ -6,7 +6,7 @@ use Rattle.std.proofs.lemmas.Bool.{lt-ltb, ltb-true}
 use Rattle.std.specs.Option.{option_and_then, option_map}
 use Rattle.mxf_places.specs.AtHand.{AtHandParts, LiesBetween}
 use Rattle.mxf_restore.specs.Fronts.{front_of}
-use Rattle.mxf_restore.specs.Plan.{start_of}
+use Rattle.mxf_places.specs.Heads.{start_of}
 use Rattle.mxf_restore.specs.declared.named.NamedPlace.{NamedPlace}
 use Rattle.mxf_restore.specs.declared.plan.Order.{Order}
 use Rattle.mxf_restore.specs.declared.section.Section.{Section}

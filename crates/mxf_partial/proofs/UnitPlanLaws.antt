@@ -18,7 +18,8 @@ use Rattle.mxf_places.specs.declared.claim.Claim.{Claim}
 use Rattle.mxf_places.specs.declared.reason.Reason.{Reason}
 use Rattle.mxf_restore.specs.Fronts.{all_from, front_of, front_range, looked_for}
 use Rattle.mxf_restore.specs.Plan.{LiesInOrder, asked_by, asked_of, order_cmp, orders_by, orders_of, part_order}
-use Rattle.mxf_restore.specs.Plan.{parts_of, start_of}
+use Rattle.mxf_restore.specs.Plan.{parts_of}
+use Rattle.mxf_places.specs.Heads.{start_of}
 use Rattle.mxf_restore.specs.Sections.{sections_of}
 use Rattle.mxf_restore.specs.declared.named.NamedPlace.{NamedPlace}
 use Rattle.mxf_restore.specs.declared.plan.Order.{Order}

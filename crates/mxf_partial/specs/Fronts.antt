@@ -7,7 +7,7 @@ use Rattle.mxf_klv.specs.Rising.{In}
 use Rattle.mxf_places.specs.AtHand.{AtHandParts, LiesBetween}
 use Rattle.mxf_places.specs.declared.reason.Reason.TheVariants as reasons
 use Rattle.mxf_restore.specs.Fronts.{front_of}
-use Rattle.mxf_restore.specs.Plan.{start_of}
+use Rattle.mxf_places.specs.Heads.{start_of}
 use Rattle.mxf_restore.specs.declared.named.NamedPlace.{NamedPlace}
 use Rattle.mxf_restore.specs.declared.plan.Order.{Order}
 use Rattle.mxf_restore.specs.declared.section.Section.{Section}

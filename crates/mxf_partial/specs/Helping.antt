@@ -8,7 +8,8 @@ use Rattle.mxf_places.specs.declared.claim.Claim.{Claim}
 use Rattle.mxf_places.specs.declared.reason.Reason.{Reason}
 use Rattle.mxf_places.specs.declared.reason.Reason.TheVariants as reasons
 use Rattle.mxf_restore.specs.Fronts.{front_of}
-use Rattle.mxf_restore.specs.Plan.{orders_of, start_of}
+use Rattle.mxf_restore.specs.Plan.{orders_of}
+use Rattle.mxf_places.specs.Heads.{start_of}
 use Rattle.mxf_restore.specs.declared.plan.Order.{Order}
 use Rattle.mxf_restore.specs.declared.section.Section.{Section}
 

@@ -13,3 +13,4 @@ pub mod AtHandLaws
 pub mod FirstLaws
 pub mod EdgeLaws
 pub mod LaidPlaces
+pub mod HeadLaws

@@ -5,3 +5,4 @@ pub mod Named
 pub mod FirstClaims
 pub mod Fills
 pub mod AtHand
+pub mod Heads

@@ -18,6 +18,8 @@
 //! | Where does one come to after fills? | [`Holdings::over_fills`] | an offset |
 //! | Is it known what begins at an offset? | [`Holdings::is_unknown`], [`Holdings::begins_clear_head`] | whether it
 //! isn't; whether a head does whose rest isn't held |
+//! | Where does a packet begin whose rest is the bytes from an offset on? | [`Heads::of`], then [`Heads::around`],
+//! [`Heads::ending_at`] | the first of the heads whose key and length end there, and what they claim; all of them |
 //! | Where do header metadata and index table segments of a partition lie? | [`zone_of`], [`behind_metadata`] |
 //! [`Stretch`] of a [`Zone`]; the offset after the header metadata |
 //! | What do packs say of offsets? | [`claims`] | each [`Claim`] with its [`Reason`], by reason and then source |
@@ -47,6 +49,7 @@
 mod at_hand;
 mod claim;
 mod fills;
+mod heads;
 mod held;
 pub mod laws;
 mod reason;
@@ -54,6 +57,7 @@ mod stretch;
 
 pub use at_hand::{AtHand, OffsetRange, ranges_lacking, up_to_bound};
 pub use claim::{Claim, claims};
+pub use heads::{Head, Heads};
 pub use held::Holdings;
 pub use reason::Reason;
 pub use stretch::{Stretch, Zone, behind_metadata, zone_of};

@@ -15,7 +15,8 @@ use Rattle.mxf_places.specs.declared.reason.Reason.{Reason}
 use Rattle.mxf_places.specs.declared.reason.Reason.TheVariants.{Gap}
 use Rattle.mxf_places.proofs.HeldLaws.{top_of-bound}
 use Rattle.mxf_restore.specs.Orders.{IsAsked, IsAskedEnd, IsHeadTo, IsOpenAt, IsSectionEnd, ReachesUpTo}
-use Rattle.mxf_restore.specs.Plan.{asked_by, asked_of, end_by, is_head_to, needed_of, start_of}
+use Rattle.mxf_restore.specs.Plan.{asked_by, asked_of, end_by}
+use Rattle.mxf_places.specs.Heads.{is_head_to, needed_of, start_of}
 use Rattle.mxf_restore.specs.declared.section.Section.{Section}
 use Rattle.mxf_restore.specs.declared.plan.Order.{Order}
 use Rattle.mxf_places.proofs.EdgeLaws.{edge_says}

@@ -9,7 +9,8 @@ use Rattle.mxf_places.specs.declared.at_hand.OffsetRange.{OffsetRange}
 use Rattle.mxf_places.proofs.AtHandLaws.{Rise, has_offsets-says, rise_above}
 use Rattle.mxf_restore.specs.Fronts.{IsFront, IsLookedFor, all_from, front_by, front_of, front_range, looked_for}
 use Rattle.mxf_restore.specs.Orders.{IsAsked, IsPart, IsStartOf}
-use Rattle.mxf_restore.specs.Plan.{asked_of, part_order, parts_of, start_of}
+use Rattle.mxf_restore.specs.Plan.{asked_of, part_order, parts_of}
+use Rattle.mxf_places.specs.Heads.{start_of}
 use Rattle.mxf_restore.specs.declared.section.Section.{Section}
 use Rattle.mxf_restore.specs.declared.plan.Order.{Order}
 use Rattle.mxf_restore.proofs.AskedLaws.{asked_law}

@@ -1,7 +1,6 @@
 pub mod Options
 pub mod StepLaws
 pub mod SectionLaws
-pub mod HeadLaws
 pub mod DisputedPlaceLaws
 pub mod OrderLaws
 pub mod PlanLaws

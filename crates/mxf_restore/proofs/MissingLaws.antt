@@ -9,8 +9,9 @@ use Rattle.mxf_places.specs.Claims.{claim_at}
 use Rattle.mxf_places.specs.Held.{IsHeld}
 use Rattle.mxf_places.specs.declared.at_hand.OffsetRange.{OffsetRange}
 use Rattle.mxf_places.specs.declared.claim.Claim.{Claim}
-use Rattle.mxf_restore.specs.Plan.{LiesInOrder, asked, asked_of, begun_at, end_by, is_whole_needed, needed_of}
-use Rattle.mxf_restore.specs.Plan.{parts_among, parts_of, plan_of, start_of}
+use Rattle.mxf_restore.specs.Plan.{LiesInOrder, asked, asked_of, begun_at, end_by, is_whole_needed, parts_among}
+use Rattle.mxf_restore.specs.Plan.{parts_of, plan_of}
+use Rattle.mxf_places.specs.Heads.{needed_of, start_of}
 use Rattle.mxf_restore.specs.Sections.{sections_of}
 use Rattle.mxf_restore.specs.declared.section.Section.{Section}
 use Rattle.mxf_restore.specs.declared.plan.Order.{Order}

@@ -13,9 +13,9 @@ use Rattle.mxf_places.specs.AtHand.{AtHandParts, LiesInRange, edge_of, lacking, 
 use Rattle.mxf_places.specs.Held.{IsHeld, end_of_file, held_end, reaches_past, rip_end_by, top_of}
 use Rattle.mxf_places.specs.Claims.{claim_at}
 use Rattle.mxf_restore.specs.Sections.{IsHole, LiesInSection, sections_of}
-use Rattle.mxf_restore.specs.Plan.{LiesInOrder, asked, asked_by, begun_at, end_by, found_orders, is_head_to}
-use Rattle.mxf_restore.specs.Plan.{is_whole_needed, needed_of, orders_by, orders_of, part_order, parts_among, parts_of}
-use Rattle.mxf_restore.specs.Plan.{start_of}
+use Rattle.mxf_restore.specs.Plan.{LiesInOrder, asked, asked_by, begun_at, end_by, found_orders, is_whole_needed}
+use Rattle.mxf_restore.specs.Plan.{orders_by, orders_of, part_order, parts_among, parts_of}
+use Rattle.mxf_places.specs.Heads.{is_head_to, needed_of, start_of}
 use Rattle.mxf_places.specs.declared.claim.Claim.{Claim}
 use Rattle.mxf_places.specs.declared.at_hand.OffsetRange.{OffsetRange}
 use Rattle.mxf_restore.specs.declared.section.Section.{Section}

@@ -2,9 +2,10 @@
 use Rattle.mxf_views.proofs.Common.{◌≡◌, ◌∙◌, ℕ, max, Option, option_map, List, ap, NoteParts}
 use Rattle.mxf_places.specs.AtHand.{AtHandParts, up_to_bound}
 use Rattle.mxf_places.specs.Claims.{claim_at}
-use Rattle.mxf_restore.specs.Plan.{asked, asked_of, end_by, needed_of, start_of}
+use Rattle.mxf_restore.specs.Plan.{asked, asked_of, end_by}
+use Rattle.mxf_places.specs.Heads.{needed_of, start_of}
 use Rattle.mxf_places.specs.declared.claim.Claim.{Claim}
-use Rattle.mxf_restore.specs.declared.head.Head.{Head}
+use Rattle.mxf_places.specs.declared.heads.Head.{Head}
 use Rattle.mxf_restore.specs.declared.section.Section.{Section}
 
 pub asked_is : (at : AtHandParts) (notes : List NoteParts) (p : Section) (head : Head) (claim : Option Claim)

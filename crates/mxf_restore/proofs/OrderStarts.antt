@@ -14,9 +14,9 @@ use Rattle.mxf_places.specs.Held.{IsHeld, end_of_file, top_of}
 use Rattle.mxf_places.proofs.AtHandLaws.{Rise, lacking_rise, one_start, rise_above, rise_from}
 use Rattle.mxf_places.specs.Claims.{claim_at}
 use Rattle.mxf_restore.specs.Sections.{IsEndOfHole, LiesInSection, sections_of}
-use Rattle.mxf_restore.specs.Plan.{asked, asked_by, asked_of, begun_at, end_by, is_again, is_head_to, is_whole_needed}
-use Rattle.mxf_restore.specs.Plan.{needed_of, orders_by, orders_of, part_order, parts_among, parts_of, plan_of}
-use Rattle.mxf_restore.specs.Plan.{start_of}
+use Rattle.mxf_restore.specs.Plan.{asked, asked_by, asked_of, begun_at, end_by, is_again, is_whole_needed, orders_by}
+use Rattle.mxf_restore.specs.Plan.{orders_of, part_order, parts_among, parts_of, plan_of}
+use Rattle.mxf_places.specs.Heads.{is_head_to, needed_of, start_of}
 use Rattle.mxf_places.specs.declared.reason.Reason.TheVariants.{Gap}
 use Rattle.mxf_places.specs.declared.claim.Claim.{Claim}
 use Rattle.mxf_restore.specs.declared.section.Section.{Section}

@@ -5,7 +5,7 @@ use Rattle.mxf_views.proofs.Common.{eq-eqb, and_from, and_parts, cases_Bool, sam
 use Rattle.mxf_views.proofs.Common.{covered_end, note_cmp, In, In-filter, all-In, found-In, none_found, not-true-false}
 use Rattle.mxf_views.proofs.Common.{IsContent, offset_le}
 use Rattle.mxf_restore.specs.Orders.{IsHeadTo, IsStartOf}
-use Rattle.mxf_restore.specs.Plan.{is_head_to, start_of}
+use Rattle.mxf_places.specs.Heads.{is_head_to, start_of}
 
 -- The first note of a content that passes a test has the least offset of those that do.
 least : (p : NoteParts → Bool) (notes : List NoteParts) → IsContent notes → (n m : NoteParts) → find p notes ≡ Some n

@@ -9,7 +9,8 @@ use Rattle.mxf_places.specs.AtHand.{AtHandParts}
 use Rattle.mxf_places.specs.declared.at_hand.OffsetRange.{OffsetRange}
 use Rattle.mxf_places.specs.declared.reason.Reason.TheVariants.{Gap}
 use Rattle.mxf_restore.specs.Orders.{IsAsked, IsPart, IsStartOf}
-use Rattle.mxf_restore.specs.Plan.{LiesInOrder, asked_of, part_order, parts_of, start_of}
+use Rattle.mxf_restore.specs.Plan.{LiesInOrder, asked_of, part_order, parts_of}
+use Rattle.mxf_places.specs.Heads.{start_of}
 use Rattle.mxf_restore.specs.declared.section.Section.{Section}
 use Rattle.mxf_restore.specs.declared.plan.Order.{Order}
 

@@ -8,5 +8,4 @@ pub mod Fronts
 pub mod Missing
 pub mod NamedPlaces
 pub mod Steps
-pub mod Heads
 pub mod Disputes

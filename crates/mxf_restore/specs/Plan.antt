@@ -1,17 +1,17 @@
 -- What to restore next (this project's profile).
 use Rattle.std.specs.Prelude.{ℕ, ◌+◌, ◌-◌, Bool, true, false, ◌&&◌, ◌||◌, ◌==◌, not, nat_le, nat_lt, max, if◌then◌else◌}
-use Rattle.std.specs.Prelude.{Option, None, Some, is_some, List, [], ◌∷◌, filter, find, flat_map, map}
+use Rattle.std.specs.Prelude.{Option, None, Some, is_some, List, [], ◌∷◌, filter, flat_map, map}
 use Rattle.std.specs.Option.{option_and_then, option_cmp, option_map, option_map_or}
 use Rattle.std.specs.List.{filter_map}
 use Rattle.std.specs.Ordering.{bool_cmp, nat_cmp, on, then_cmp}
 use Rattle.std.specs.declared.cmp.Ordering.{Ordering}
 use Rattle.mxf_klv.specs.Parts.{NoteParts}
-use Rattle.mxf_klv.specs.Note.{covered_end}
 use Rattle.mxf_klv.specs.Rising.{union}
 use Rattle.mxf_places.specs.AtHand.{AtHandParts, LiesBetween, edge_of, has_offset, has_offsets, lacking, up_to_bound}
 use Rattle.mxf_places.specs.declared.at_hand.OffsetRange.{OffsetRange}
 use Rattle.mxf_places.specs.Held.{end_of_file, is_disputed_at, is_in_file, top_of}
 use Rattle.mxf_places.specs.Claims.{claim_at, claims_of, is_of_stretch}
+use Rattle.mxf_places.specs.Heads.{needed_of, start_of}
 use Rattle.mxf_restore.specs.Sections.{sections_of}
 use Rattle.mxf_places.specs.declared.reason.Reason.TheVariants.{Gap}
 use Rattle.mxf_places.specs.FirstClaims.{reason_rank}
@@ -19,19 +19,6 @@ use Rattle.mxf_places.specs.declared.claim.Claim.{Claim}
 use Rattle.mxf_restore.specs.declared.section.Section.{Section}
 use Rattle.mxf_restore.specs.declared.plan.Order.{Order}
 use Rattle.mxf_restore.specs.declared.plan.DisputedPlace.{DisputedPlace}
-
--- The note is a head whose key and length end at the offset.
-abbrev pub is_head_to : ℕ → NoteParts → Bool
-is_head_to x n = not n.whole && (covered_end n == x)
-
--- Where a packet begins whose rest is a section with this first byte: at the first head that ends there, or else at the
--- byte itself.
-abbrev pub start_of : List NoteParts → ℕ → ℕ
-start_of notes first = option_map_or (λ n. n.offset) (find (is_head_to first) notes) first
-
--- The greatest claimed end of the heads at an offset that end at another; 0 if there is none.
-abbrev pub needed_of : List NoteParts → ℕ → ℕ → ℕ
-needed_of notes start first = top_of (filter (λ n. is_head_to first n && (n.offset == start)) notes)
 
 -- Where a section ends: one without an end ends where the file does, as far as that is known, unless its claim is open,
 -- or fewer bytes are given from its first byte on than the key and length of a packet can have.

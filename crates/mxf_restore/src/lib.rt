@@ -33,7 +33,6 @@
 mod disputed_place;
 mod disputes;
 mod first;
-mod head;
 pub mod laws;
 mod named;
 mod order;

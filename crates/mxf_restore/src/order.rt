@@ -4,22 +4,22 @@ ghost use Rattle.std.specs.Prelude.{OnOk};
 ghost use Rattle.std.specs.Option.{option_map, option_map_or};
 ghost use Rattle.mxf_places.specs.AtHand.{AtHandParts, has_offset, has_offsets, up_to_bound};
 ghost use Rattle.mxf_places.specs.Claims.{claim_at, claims_of};
+ghost use Rattle.mxf_places.specs.Heads.{start_of};
 ghost use Rattle.mxf_catalogue.specs.Content.{IsContent};
 ghost use Rattle.mxf_catalogue.specs.Covers.{IsCover};
 ghost use Rattle.mxf_klv.specs.Parts.{NoteParts};
 ghost use Rattle.mxf_restore.specs.Fronts.{IsFront, front_by, front_of, front_range, looked_for};
 ghost use Rattle.mxf_restore.specs.Orders.{IsAsked};
 ghost use Rattle.mxf_restore.specs.Plan.{asked, asked_of, begun_at, end_by, found_orders, is_again, is_whole_needed};
-ghost use Rattle.mxf_restore.specs.Plan.{orders_by, orders_of, part_order, parts_of, start_of};
+ghost use Rattle.mxf_restore.specs.Plan.{orders_by, orders_of, part_order, parts_of};
 ghost use Rattle.mxf_restore.specs.declared.section.Section.{Section};
 ghost use Rattle.mxf_restore.specs.declared.plan.Order.{Order};
 
 use crate::first::FirstClaims;
-use crate::head::Heads;
 use crate::plan::Order;
 use crate::section::{Section, sections};
 use mxf_klv::{KEY_AND_LENGTH, MAX, OutOfMemory};
-use mxf_places::{AtHand, Claim, Holdings, OffsetRange, Reason, up_to_bound};
+use mxf_places::{AtHand, Claim, Heads, Holdings, OffsetRange, Reason, up_to_bound};
 use std::alloc::Global;
 use std::marker::Model;
 

@@ -1,16 +1,16 @@
+use denote.Bor.{Bor}
 use Rattle.std.proofs.Common.{◌≡◌, ◌∙◌, ◌&&◌, ◌∷◌, [], Option, Some, ap, cond, map, refl, sym, true}
 use Rattle.std.specs.Option.{option_map, option_map_or}
 use Rattle.mxf_klv.specs.Parts.{NoteParts}
 use Rattle.mxf_hand.specs.Hand.{is_value_at_hand, packet_of}
 use Rattle.mxf_hand.specs.Sections.{ends_within, made_by, made_of_head, only}
-use Rattle.mxf_hand.specs.declared.head.HeadNote.{HeadNote}
 use Rattle.mxf_hand.proofs.FindingLaws.{same_growth}
 use Rattle.mxf_hand.proofs.section.add_made.Goals as goal
 
 pub returns-clause-added : goal.returns-clause-added
 returns-clause-added g c = λ h t.
-    let note = λ (x : HeadNote). x.0.now in
-    let n = c.in-Some.head.0.now in
+    let note = λ (x : Bor NoteParts). x.now in
+    let n = c.in-Some.head.now in
     let end = c.args.hole_end in
     let heads = map note c.args.fitting.now in
     let one : only heads ≡ Some n = sym c.only.ensures ∙ ap (option_map note) c.in-Some.is in

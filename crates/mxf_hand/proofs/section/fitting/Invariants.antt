@@ -1,5 +1,5 @@
 -- The heads that fit so far, with those that are to come.
-use Rattle.std.proofs.Common.{◌≡◌, ◌++◌, ◌&&◌, ◌==◌, drop, filter, map}
+use Rattle.std.proofs.Common.{◌≡◌, ◌++◌, ◌&&◌, ◌==◌, ◌∷◌, [], drop, filter, flat_map, map}
 use Rattle.mxf_hand.specs.Hand.{AreToldIn, HandBytes}
 use Rattle.mxf_hand.specs.Heads.{fits}
 use Rattle.mxf_hand.proofs.section.fitting.Given as goal
@@ -7,6 +7,5 @@ use Rattle.mxf_hand.proofs.section.fitting.Given as goal
 abbrev pub invariant-loop-head : goal.invariant-loop-head
 invariant-loop-head g l = (g.S.Sources.told l.sources ≡ g.S.Sources.told l.initial.sources) × ((h : HandBytes)
     → AreToldIn (g.S.Sources.told l.initial.sources) l.hand.given.extents l.hand.runs h
-    → map (λ x. x.0.now) l.fitting.items ++ filter (λ n. (n.offset == l.start) && fits h n)
-    (map (λ x. x.0.now) (drop l.head-index l.heads))
-    ≡ filter (λ n. (n.offset == l.start) && fits h n) (map (λ x. x.0.now) l.heads))
+    → map (λ x. x.now) l.fitting.items ++ flat_map (λ x. filter (λ n. (n.offset == l.start) && fits h n) (x.now ∷ []))
+    (drop l.head-index l.heads) ≡ flat_map (λ x. filter (λ n. (n.offset == l.start) && fits h n) (x.now ∷ [])) l.heads)

@@ -3,7 +3,7 @@ use Rattle.mxf_views.proofs.Common.{get_or, length, ◌≢◌, In, LiesIn}
 use Rattle.mxf_catalogue.specs.declared.run.Run.{Run}
 use Rattle.mxf_hand.specs.Given.{AreTold, bytes_between}
 use Rattle.mxf_hand.specs.Hand.{HandParts}
-use Rattle.mxf_hand.specs.Heads.{key_and_length}
+use Rattle.mxf_places.specs.Heads.{key_and_length}
 use Rattle.mxf_hand.proofs.FitLaws.{between_lies, between_part, stands, unfit}
 use Rattle.mxf_hand.proofs.HandLaws.{at_fits, told_after}
 use Rattle.mxf_hand.proofs.hand.Hand.fits.Goals as goal

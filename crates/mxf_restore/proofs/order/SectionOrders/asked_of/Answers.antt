@@ -1,6 +1,7 @@
 use Rattle.std.proofs.Common.{◌∙◌, ap, find}
 use Rattle.mxf_places.specs.Claims.{is_claimed}
-use Rattle.mxf_restore.specs.Plan.{asked_of, needed_of, start_of}
+use Rattle.mxf_restore.specs.Plan.{asked_of}
+use Rattle.mxf_places.specs.Heads.{needed_of, start_of}
 use Rattle.mxf_restore.proofs.OrderLaws.{asked_is}
 use Rattle.mxf_restore.proofs.order.SectionOrders.asked_of.Goals as goal
 
