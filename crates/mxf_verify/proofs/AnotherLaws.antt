@@ -115,9 +115,7 @@ had-step n rest new = length-step (is_essence n && is_had n new) n (had_essence 
 
 -- one note counts once at most
 pub dropped-one : (n : NoteParts) (new : List NoteParts) → length (dropped_essence (n ∷ []) new) ≤ 1
-dropped-one n new =
-    let all = length-filter_le is_essence (dropped_of (n ∷ []) new) in
-    let one = length-filter_le (λ m. is_opposed m new) (n ∷ []) in omega (arith, all, one)
+dropped-one n new = grind (arith, length-filter_le, is_essence, dropped_of, is_opposed)
 
 pub had-one : (n : NoteParts) (new : List NoteParts) → length (had_essence (n ∷ []) new) ≤ 1
 had-one n new = length-filter_le (λ m. is_essence m && is_had m new) (n ∷ [])

@@ -10,17 +10,13 @@ pub take_of_append : {X : Type 0} (k : ℕ) (xs ys : List X) → take k (xs ++ y
 take_of_append zero [] ys = refl
 take_of_append zero (x ∷ xs) ys = let z : 0 - suc (length xs) ≡ 0 = omega arith in rw z refl
 take_of_append (suc k) [] ys = let z : suc k - 0 ≡ suc k = omega arith in rw z refl
-take_of_append (suc k) (x ∷ xs) ys =
-    let z : suc k - suc (length xs) ≡ k - length xs = omega arith in
-    rw z (ap (λ l. x ∷ l) (take_of_append k xs ys))
+take_of_append (suc k) (x ∷ xs) ys = grind (arith, length, take_of_append k xs ys)
 
 pub drop_of_append : {X : Type 0} (k : ℕ) (xs ys : List X) → drop k (xs ++ ys) ≡ drop k xs ++ drop (k - length xs) ys
 drop_of_append zero [] ys = refl
 drop_of_append zero (x ∷ xs) ys = let z : 0 - suc (length xs) ≡ 0 = omega arith in rw z refl
 drop_of_append (suc k) [] ys = let z : suc k - 0 ≡ suc k = omega arith in rw z refl
-drop_of_append (suc k) (x ∷ xs) ys =
-    let z : suc k - suc (length xs) ≡ k - length xs = omega arith in
-    rw z (drop_of_append k xs ys)
+drop_of_append (suc k) (x ∷ xs) ys = grind (arith, length, drop_of_append k xs ys)
 
 both_first : (a b c : Bool) → (a && (b && c)) ≡ ((a && b) && c)
 both_first true b c = refl

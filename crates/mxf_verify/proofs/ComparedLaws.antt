@@ -53,10 +53,7 @@ agreeing_same offset bytes r is left among =
     let s = said_told n held is (all_held n offset bytes among) in
     elim (is_digested n) as (λ b. is_digested n ≡ b → IsTrue (agrees_with n held) ↔ IsSaidBy n held) [
       | true ↦ λ e. absurd (omega (arith, left e, among.to))
-      | false ↦ λ e.
-          let same : (agrees_with n held && (not (is_digested n) || has_digest n held)) ≡ agrees_with n held =
-          ap (λ b. agrees_with n held && (not b || has_digest n held)) e ∙ and_true (agrees_with n held) in
-          subst (λ b. IsTrue b ↔ IsSaidBy n held) same s
+      | false ↦ grind (arith, agrees_with, n, held, not, is_digested, has_digest, and_true, s)
     ] refl
 
 -- of what was read to its end each candidate says whether its bytes are what its note says

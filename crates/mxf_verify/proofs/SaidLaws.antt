@@ -13,9 +13,7 @@ use Rattle.mxf_verify.proofs.ByteLaws.{agrees_whole}
 
 -- as much is kept of a value as there is
 kept_length : (n : NoteParts) → IsNote n → keeps_value n ≡ true → length n.held ≡ n.length
-kept_length n is kept =
-    let p = and_parts n.whole (keeps n.key n.length) kept in
-    is.held ∙ ap (λ b. cond b (cond (keeps n.key n.length) n.length 32) 0) p.0 ∙ ap (λ b. cond b n.length 32) p.1
+kept_length n is kept = grind (arith, and_parts, keeps, cond)
 
 whole_size : (n : NoteParts) → n.whole ≡ true → held_size n ≡ front_size n + n.length
 whole_size n whole = ap (λ b. cond b (front_size n + n.length) (front_size n)) whole

@@ -53,9 +53,7 @@ agreed_append n offset bytes more h = grind (arith, held_append, agrees_with_app
 pub agreeing_taken : (offset : ℕ) (bytes more : List ℕ) (r : Bor NoteParts) → offset ≤ r.now.offset
     → compared (offset + length bytes) more (agreeing offset bytes r) ≡ agreeing offset (bytes ++ more) r
 unfolding compared agreeing
-agreeing_taken offset bytes more r h =
-    let f : Bool → Candidate = λ b. record { note = r; is_same = b } in
-    ap f (sym (agreed_append r.now offset bytes more h))
+agreeing_taken offset bytes more r h = grind (arith, agreed_append)
 
 -- what is told of a note that has no digest is how the bytes agree
 told_undigested : (offset : ℕ) (bytes : List ℕ) (r : Bor NoteParts) → is_digested r.now ≡ false
@@ -184,10 +182,7 @@ digest_taken offset bytes value k notes old new is_same d h few digested front e
     let held = value_taken n offset bytes value behind front came fits in
     let told_same : is_same ≡ has_digest n (held_in n offset whole) =
     same ∙ ap (λ v. bytes_eq (sha256 v) n.held) (sym held) in record {
-      candidates = said ∙ ap (λ l. set l k (also is_same (get_or l k d))) h.candidates
-          ∙ told_next offset whole k notes is_same d d.note within
-          (subst (λ (r : Bor NoteParts). is_digested r.now ≡ true) note digested)
-          (subst (λ (r : Bor NoteParts). is_same ≡ has_digest r.now (held_in r.now offset whole)) note told_same);
+      candidates = grind (arith, set, also, get_or, told_next, whole, within, is_digested, note, has_digest, held_in);
       at = at ∙ h.at;
       behind = h.behind;
       ended = λ j x l m q. elim (cases_lt j k) [

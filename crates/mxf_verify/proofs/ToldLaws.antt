@@ -228,9 +228,7 @@ module _ (reference : List NoteParts) (all : List Candidate) (offset bound : ℕ
 
     -- where all of them did
     up_to_end : (x : Candidate) → IsAmong x.note.now offset bytes → nat_le (covered_end x.note.now) c.end ≡ true
-    up_to_end x among =
-        let to : covered_end x.note.now ≤ offset + length bytes = among.to in
-        le-leb (covered_end x.note.now) c.end (omega (arith, to, h.at))
+    up_to_end x among = grind (arith, covered_end, length, le-leb)
 
     same_are : (n : NoteParts) → In n (noted (filter (is_told_same c.end) c.candidates.items))
         ↔ (In n reference × IsSameIn reference n (Bytes offset bytes))

@@ -40,9 +40,7 @@ touching-count n (m ∷ ms) =
 
 -- a note stands in a content once
 not_behind : (n : NoteParts) (notes : List NoteParts) → AllByRecursion (λ m. note_cmp n m ≡ Less) notes → In n notes → ⊥
-not_behind n notes a h =
-    let l = all-In (λ m. note_cmp n m ≡ Less) notes n a h in
-    let t = tied_itself note_total n in cc (l, t)
+not_behind n notes a h = grind (arith, all-In, note_cmp, tied_itself, note_total)
 
 once-count : (n : NoteParts) (notes : List NoteParts) → IsContent notes → In n notes
     → count_by (λ m. is_same_note m n) notes ≡ 1

@@ -24,9 +24,7 @@ module _ (P : ℕ → UnitFixity → Type 0) (one : (unit : ℕ) (f g : UnitFixi
   -- A first run ends no sooner than that of another list: what follows it would stand as it does.
   no_sooner : (from to : ℕ) (x y : UnitRun) (xs ys : List UnitRun) → AreUnitRuns P from to (x ∷ xs)
       → AreUnitRuns P from to (y ∷ ys) → x.fixity ≡ y.fixity → y.last ≤ x.last
-  no_sooner from to x y [] ys h k same =
-      let ended : to < x.last + 1 = h.5 in
-      let within : y.last ≤ to = k.2 in omega (arith, ended, within)
+  no_sooner from to x y [] ys h k same = grind arith
   no_sooner from to x y (z ∷ xs) ys h k same =
       elim (cases_lt x.last y.last) [
         | inr late ↦ late
@@ -44,12 +42,8 @@ module _ (P : ℕ → UnitFixity → Type 0) (one : (unit : ℕ) (f g : UnitFixi
 
   one_list : (from to : ℕ) (xs ys : List UnitRun) → AreUnitRuns P from to xs → AreUnitRuns P from to ys → xs ≡ ys
   one_list from to [] [] h k = refl
-  one_list from to [] (y ∷ ys) h k =
-      let some : from ≤ y.last = k.1 in
-      let within : y.last ≤ to = k.2 in absurd (omega (arith, h, some, within))
-  one_list from to (x ∷ xs) [] h k =
-      let some : from ≤ x.last = h.1 in
-      let within : x.last ≤ to = h.2 in absurd (omega (arith, k, some, within))
+  one_list from to [] (y ∷ ys) h k = grind arith
+  one_list from to (x ∷ xs) [] h k = grind arith
   one_list from to (x ∷ xs) (y ∷ ys) h k =
       let fixity = one from x.fixity y.fixity (h.3 from (omega arith) h.1) (k.3 from (omega arith) k.1) in
       let a = no_sooner from to x y xs ys h k fixity in

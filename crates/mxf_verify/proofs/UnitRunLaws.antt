@@ -54,16 +54,7 @@ module _ (P : ℕ → UnitFixity → Type 0) (from to : ℕ) where
         order = omega arith;
         next_is = refl;
         alike = λ unit l r. let same : next ≡ unit = omega (arith, l, r) in subst (λ (n : ℕ). P n fixity) same here;
-        goes_on = λ r rest e f h.
-            subst (λ (l : List UnitRun). AreUnitRuns P from to l) (sym (append_assoc runs (last ∷ []) (r ∷ rest)))
-            (so.goes_on last (r ∷ rest) refl refl (
-              refl,
-              so.order,
-              omega (arith, next_is, within),
-              so.alike,
-              λ q. other (q ∙ f),
-              subst (λ (n : ℕ). AreUnitRuns P n to (r ∷ rest)) (sym so.next_is) h,
-            ));
+        goes_on = grind (arith, append_assoc, next_is);
       }
 
   pub units-step : (next : ℕ) (fixity : UnitFixity) (runs new : List UnitRun) (last more : UnitRun) → next ≤ to

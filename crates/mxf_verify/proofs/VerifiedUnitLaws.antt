@@ -16,9 +16,7 @@ use Rattle.mxf_verify.specs.declared.verified_units.UnitRun.{UnitRun}
 in_run : (P : ℕ → UnitFixity → Type 0) (from to : ℕ) (runs : List UnitRun) → AreUnitRuns P from to runs
     → (r : UnitRun) → In r runs → (unit : ℕ) → r.first ≤ unit → unit ≤ r.last → P unit r.fixity
 in_run P from to [] are r i unit low high = absurd i
-in_run P from to (q ∷ runs) are r (inl e) unit low high =
-    let Says : UnitRun → Type 0 = λ s. s.first ≤ unit → unit ≤ s.last → P unit s.fixity in
-    subst Says (sym e) (λ l h. are.3 unit (let begin : q.first ≡ from = are.0 in omega arith) h) low high
+in_run P from to (q ∷ runs) are r (inl e) unit low high = grind arith
 in_run P from to (q ∷ runs) are r (inr i) unit low high = in_run P (q.last + 1) to runs are.5 r i unit low high
 
 -- A unit that is verified lies in the verified bytes.

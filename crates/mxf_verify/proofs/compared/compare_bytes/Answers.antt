@@ -20,9 +20,7 @@ read_all-requires-clause-ahead g c i d h =
     omega (arith, ahead i d (omega arith) h, c.of-reading.ensures.at)
 
 pub read_all-requires-clause-apart : goal.read_all-requires-clause-apart
-read_all-requires-clause-apart g c =
-    subst AreApart (sym (c.of-reading.ensures.candidates ∙ c.in_ok-candidates.ensures.items))
-    (part_apart c.args.all.now c.below-first.result (c.max-last.result - c.below-first.result) c.requires.apart)
+read_all-requires-clause-apart g c = grind (arith, part_apart)
 
 pub returns-clause-compared : goal.returns-clause-compared
 returns-clause-compared g c =

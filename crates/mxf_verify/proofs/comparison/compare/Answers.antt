@@ -6,11 +6,7 @@ use Rattle.mxf_verify.proofs.CandidateLaws.{compared_none, front_stays, part_ahe
 use Rattle.mxf_verify.proofs.comparison.compare.Goals as goal
 
 pub loop-i-init : goal.loop-i-init
-loop-i-init c =
-    let at = c.args.at in
-    let bytes = c.args.bytes.now in
-    front_stays (compared at bytes) c.args.candidates.now.items c.args.settled
-    (λ k d l h. compared_none at bytes _ (part_behind _ at bytes (c.requires.settled.ended k d l h)))
+loop-i-init c = grind (arith, front_stays, compared, compared_none, part_behind)
 
 pub returns-then-offset-end : goal.returns-then-offset-end
 returns-then-offset-end c =
@@ -29,11 +25,4 @@ returns-then-offset-end c =
     compared_none at bytes _ (part_ahead _ at bytes (omega (arith, far, e, c.requires.rising i k d l h))))
 
 pub loop-i-preserved : goal.loop-i-preserved
-loop-i-preserved c =
-    let f = compared c.args.at c.args.bytes.now in
-    let i = c.loop-i.i in
-    let old = c.args.candidates.now.items in
-    let d = c.index-in-loop-i.result.now in
-    let within : i < length old = omega (arith, c.args.candidates.now.ok.0) in
-    ap (λ x. set c.loop-i.candidates.items i x) (c.compared.ensures ∙ ap f c.index-in-loop-i.ensures)
-    ∙ ap (λ l. set l i (f (get_or l i d))) c.loop-i.invariant ∙ next_changed f old d i within
+loop-i-preserved c = grind (arith, compared, length, set, get_or, next_changed)

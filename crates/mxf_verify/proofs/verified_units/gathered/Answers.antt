@@ -52,9 +52,4 @@ loop-number-preserved c =
     )
 
 pub returns-clause-runs : goal.returns-clause-runs
-returns-clause-runs c =
-    let ended : c.loop-number.number ≡ c.args.to + 1 =
-    omega (arith, c.loop-number-test.false, c.loop-number.auto.number-end, c.requires.order) in
-    units-end (Stands c.args.verified.now c.args.altered.now c.args.units.now) c.args.from c.args.to
-    c.loop-number.number c.loop-number.runs.items c.push.new.self.items c.loop-number.last c.loop-number.invariant.0
-    ended c.in_ok-push.ensures.items
+returns-clause-runs c = grind (arith, units-end)

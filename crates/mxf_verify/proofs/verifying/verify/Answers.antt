@@ -4,15 +4,7 @@ use Rattle.mxf_verify.proofs.VerifyingLaws.{HasSeen, seen_all, seen_fault, seen_
 use Rattle.mxf_verify.proofs.verifying.verify.Goals as goal
 
 pub parts-init : goal.parts-init
-parts-init g c =
-    let all = c.args.parts.items in
-    let is : into_iter_items c.into_iter-part-iterator.result ≡ all =
-    c.into_iter-part-iterator.ensures.into_iter_gives.0 in
-    record {
-      passed = subst (IsPassed all 0) (sym is) (passed_none all);
-      seen = λ t. subst (λ (l : List _). HasSeen g.R.Read.remaining c.args.reference.now all 0 l c.in_ok-seen.seen)
-          (sym is) (seen_nothing g.R.Read.remaining c.args.reference.now all c.in_ok-seen.seen c.in_ok-seen.ensures);
-    }
+parts-init g c = grind (arith, into_iter_items, passed_none, seen_nothing)
 
 pub overflow_add-source : goal.overflow_add-source
 overflow_add-source g c =

@@ -23,10 +23,4 @@ invariant_of-self c =
     }
 
 pub returns-clause-notes : goal.returns-clause-notes
-returns-clause-notes c =
-    let cs = c.args.self.now.candidates.items in
-    let i = c.args.place in
-    let d = c.index.result.now in
-    let made : c.also-candidate.result ≡ also c.args.is_same (get_or cs i d) =
-    c.also-candidate.ensures ∙ ap (also c.args.is_same) c.index.ensures in
-    ap (λ (x : Candidate). notes_of (set cs i x)) made ∙ notes_said cs i c.args.is_same d
+returns-clause-notes c = grind (arith, also, get_or, notes_of, set, notes_said)

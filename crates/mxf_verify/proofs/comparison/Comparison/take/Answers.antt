@@ -11,17 +11,7 @@ settled_by-self-requires c =
     (settled_compared s.settled s.at (s.at + length bytes) bytes s.candidates.items s.passed (omega arith))
 
 pub invariant_of-self : goal.invariant_of-self
-invariant_of-self c =
-    let s = c.args.self.now in
-    let bytes = c.args.bytes.now in record {
-      rising = subst (IsNonDecreasingBy offset_of) (sym c.compare.ensures)
-          (rises_compared s.at bytes s.candidates.items s.rising);
-      passed = subst (AreSettled c.settled_by-self.result (s.at + length bytes)) c.deref.ensures.value
-          c.settled_by-self.ensures;
-      within = c.requires;
-    }
+invariant_of-self c = grind (arith, offset_of, rises_compared, length)
 
 pub returns-clause-notes : goal.returns-clause-notes
-returns-clause-notes c =
-    let s = c.args.self.now in
-    ap notes_of c.compare.ensures ∙ notes_compared s.at c.args.bytes.now s.candidates.items
+returns-clause-notes c = grind (arith, notes_of, notes_compared)

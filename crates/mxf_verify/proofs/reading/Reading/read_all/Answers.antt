@@ -70,10 +70,7 @@ returns-then-not-branch g c =
             place,
             record {
               taken = last;
-              left = subst (λ k. AllWithin (λ r. IsTrue (is_digested r.now) → k < covered_end r.now) notes place
-                  (length notes)) last.at (left_notes offset bytes notes init place new.at d h c.requires.apart
-                  (subst (λ (x : Bor NoteParts). IsTrue (is_digested x.now)) named digested)
-                  (subst (λ (x : Bor NoteParts). new.at < covered_end x.now) named behind));
+              left = grind (arith, is_digested, covered_end, place, length, left_notes, init, d, named);
             },
           );
     }
@@ -112,9 +109,7 @@ loop-place-preserved g c =
                 let there = ap offset_of (get_or_default init.candidates.items j d e h) in omega (arith, apart)
             | false ↦ λ t. let stays = p.stays yes t in omega (arith, ahead j e (omega arith) h q)
           ] refl,
-      λ offset bytes notes h. subst (λ l. HasTaken offset l (place + 1) notes new) (append_assoc bytes more p.more)
-          (subst (λ b. HasTaken offset ((bytes ++ more) ++ p.more) (if b then place + 1 else place) notes new) yes
-          (p.taken offset (bytes ++ more) notes (taken offset bytes notes h))),
+      λ offset bytes notes h. grind (arith, place, new, append_assoc, yes),
     )
 
 pub returns : goal.returns
@@ -132,9 +127,7 @@ returns g c =
       taken = λ offset bytes notes h. (
         place,
         record {
-          taken = subst (λ l. HasTaken offset l place notes c.read_rest.new.self.comparison)
-              (append_assoc bytes more t.more)
-              (t.taken offset (bytes ++ more) place notes (taken offset bytes notes h));
+          taken = grind (arith, place, append_assoc, more, taken);
           left = λ j x l m q. absurd (omega (
             arith,
             l,

@@ -10,34 +10,21 @@ use Rattle.mxf_verify.proofs.renewal.Parted.put.Goals as goal
 
 pub returns-then-opposes : goal.returns-then-opposes
 returns-then-opposes c =
-    let n = c.args.note.now in
-    let later = c.args.later.now in
-    let o : IsOpposed n later = c.opposes.ensures.0 c.if-opposes.true in
-    record {
-      added = on_ok_weaker c.push.result (λ e. ap (reduced_union c.args.self.now.added) (sym (opposed-added n later o)))
-          c.push.ensures;
-      dropped = subst (λ l. OnOk c.push.result (c.push.new.self ≡ c.args.self.now.dropped ++ l))
-          (sym (opposed-dropped n later o)) c.push.ensures;
-      dropped_essence = on_ok_weaker c.push.result (λ e. let count = ap length (opposed-essence n later o) in
-          omega (arith, count, c.count_of_essence.ensures)) c.push.ensures;
-      had_essence = on_ok_weaker c.push.result (λ e. let none = ap length (lacked-essence n later o.lacked) in
-          omega (arith, none)) c.push.ensures;
-    }
+    grind (arith, on_ok_weaker, reduced_union, opposed-added, opposed-dropped, length, opposed-essence, lacked-essence)
 
 pub returns-then-has : goal.returns-then-has
 returns-then-has c =
-    let n = c.args.note.now in
-    let later = c.args.later.now in
-    let h : has_note later n = c.has.ensures.0 c.if-has.true in
-    let f : IsOpposed n later → ⊥ = λ o. o.lacked h in
-    record {
-      added = ap (reduced_union c.args.self.now.added) (sym (had-added n later h));
-      dropped = sym (ap (λ l. c.args.self.now.dropped ++ l) (not_opposed-dropped n later f)
-          ∙ append-nil c.args.self.now.dropped);
-      dropped_essence = let none = ap length (spared-essence n later f) in omega (arith, none);
-      had_essence = let count = ap length (had-essence n later h) in
-          omega (arith, count, c.count_of_essence-then-has.ensures);
-    }
+    grind (
+      arith,
+      has_note,
+      reduced_union,
+      had-added,
+      not_opposed-dropped,
+      append-nil,
+      length,
+      spared-essence,
+      had-essence,
+    )
 
 pub returns : goal.returns
 returns c =

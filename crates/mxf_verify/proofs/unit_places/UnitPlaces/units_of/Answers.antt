@@ -14,9 +14,7 @@ first_above-requires-clause-rising c =
     c.deref-2.ensures.value c.self.invariant.reaches_are
 
 pub first_above-requires-clause-length : goal.first_above-requires-clause-length
-first_above-requires-clause-length c =
-    as_many reach_of c.self.inside.firsts.items c.deref.result.now c.self.inside.reaches.items c.deref-2.result.now
-    c.deref.ensures.value c.deref-2.ensures.value c.self.invariant.reaches_are
+first_above-requires-clause-length c = grind (arith, as_many, reach_of)
 
 pub first_above-requires-2-clause-rising : goal.first_above-requires-2-clause-rising
 first_above-requires-2-clause-rising c =
@@ -24,9 +22,7 @@ first_above-requires-2-clause-rising c =
     c.deref-4.ensures.value c.self.invariant.backs_are
 
 pub first_above-requires-2-clause-length : goal.first_above-requires-2-clause-length
-first_above-requires-2-clause-length c =
-    as_many back_of c.self.inside.lasts.items c.deref-3.result.now c.self.inside.backs.items c.deref-4.result.now
-    c.deref-3.ensures.value c.deref-4.ensures.value c.self.invariant.backs_are
+first_above-requires-2-clause-length c = grind (arith, as_many, back_of)
 
 pub returns-in_err-first : goal.returns-in_err-first
 returns-in_err-first c =
