@@ -8,7 +8,7 @@
 //! | What is wrong or missing? | [`findings`] | [`Findings`]: each [`Code`] with its offset |
 //! | Which programs wrote the file, which packages has it? | [`resolved`] | [`Resolved`]: each [`Ref`] with its
 //! [`Target`] |
-//! | Which set has an identifier? | [`find`] | [`Found`] |
+//! | Which set has an identifier? | [`find`], of many [`CopySets::find`] | [`Found`] |
 //!
 //! Each call's clause says that its answer is a function of the notes; a law of [`laws`] (`.._by_definition`) says what
 //! that function is in the words of the standards. `findings` and `resolved` take memory, and fail only if it runs out;
@@ -28,5 +28,6 @@ mod small_files;
 pub use asked::{find, findings, resolved};
 pub use finding::{Code, Finding, Findings};
 pub use reference::Found;
+pub use reference::identified::CopySets;
 pub use reference::resolved::Resolved;
 pub use reference::target::{Ref, Refs, Target};

@@ -100,9 +100,11 @@ fn find_sorted(sets: &[Identified], uid: &Uuid) -> Found
     }
 }
 
-/// The sets of the copy of a partition, to be found by their identifiers.
+/// The sets of the copy of a partition, to be found by their instance identifiers.
+///
+/// They are sorted once. [`find`](crate::find) answers the same without memory, and goes over all sets each time.
 #[derive(Drop)]
-pub(crate) struct CopySets<'a> {
+pub struct CopySets<'a> {
     catalogue: &'a Catalogue,
     partition: u64,
     by_uid: Vec<Identified>,
@@ -124,7 +126,7 @@ impl<'a> Model for CopySets<'a> {
 }
 
 impl<'a> CopySets<'a> {
-    /// Those of the copy of a partition. It takes memory.
+    /// Those of the copy of the partition at a file offset, in bytes; none if there is no such copy. It takes memory.
     pub fn of(alloc: Global, views: &'a Views, partition: u64) -> Result<CopySets<'a>, OutOfMemory>
         ensures { IfOk result (λ s. s ≡ record { notes = views.now; partition = partition }) }
     {
@@ -139,7 +141,7 @@ impl<'a> CopySets<'a> {
         })
     }
 
-    /// What is found of an identifier.
+    /// What is found of an identifier: a binary search.
     pub fn find(&self, uid: &Uuid) -> Found
         ensures { result ≡ found_in self.now.notes self.now.partition uid.now }
     {
@@ -147,7 +149,7 @@ impl<'a> CopySets<'a> {
     }
 
     /// Whether the set isn't kept, or can't be read by its kind: a binary search.
-    pub fn is_unreadable(&self, set: &Note) -> bool
+    pub(crate) fn is_unreadable(&self, set: &Note) -> bool
         requires { In set.now (sets_of self.now.notes self.now.partition) }
         ensures { result ≡ is_unreadable set.now }
     {
@@ -155,7 +157,7 @@ impl<'a> CopySets<'a> {
         has_key(&self.unreadable, set.offset())
     }
 
-    /// The clear note at a file offset.
+    /// The clear note at a file offset, in bytes: a binary search.
     pub fn note_at(&self, offset: u64) -> Option<&'a Note>
         ensures { option_copied result ≡ find (λ n. n.offset == offset) (clear_notes self.now.notes) }
     {

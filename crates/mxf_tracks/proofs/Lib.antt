@@ -1,0 +1,4 @@
+pub mod ComponentLaws
+pub mod ContainerLaws
+pub mod ReachedLaws
+pub mod WalkLaws

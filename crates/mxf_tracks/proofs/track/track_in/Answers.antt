@@ -1,0 +1,10 @@
+use Rattle.mxf_findings.proofs.Common.{◌∙◌, ap, result_ok}
+use Rattle.mxf_sets.specs.Track.{track_at}
+use Rattle.mxf_tracks.specs.Walk.{track_in}
+use Rattle.mxf_tracks.proofs.track.track_in.Goals as goal
+
+pub returns : goal.returns
+unfolding track_in
+returns c =
+    let held = c.in_ok-value.ensures.some in
+    rw held.0 (c.ok.ensures.value ∙ ap result_ok (c.read.ensures ∙ ap track_at held.1))

@@ -1,0 +1,4 @@
+pub mod Keys
+pub mod Targets
+pub mod Containers
+pub mod Walk

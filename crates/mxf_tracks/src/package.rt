@@ -1,0 +1,235 @@
+//! Packages.
+ghost use Rattle.std.specs.Prelude.{◌≡◌, ◌==◌, [], find, IfOk};
+ghost use Rattle.mxf_catalogue.specs.Disputes.{clear_notes};
+ghost use Rattle.mxf_klv.specs.Kind.{kind_of};
+ghost use Rattle.mxf_findings.specs.Resolved.{resolved_of};
+ghost use Rattle.mxf_views.specs.Copies.{sets_of};
+ghost use Rattle.mxf_tracks.specs.Containers.{AreContainersOf};
+ghost use Rattle.mxf_tracks.specs.Walk.{found_package, package_by, package_in, package_kind, package_of, packages_from};
+ghost use Rattle.mxf_tracks.specs.Walk.{package_there, target_unfollowed, tracks_from_resolved, tracks_in};
+
+use crate::container::{Container, Containers};
+use crate::descriptor::{DescriptorAt, descriptor_named};
+use crate::reached::Reached;
+use crate::target::Target;
+use crate::track::{TracksOf, tracks_of};
+use mxf_findings::{CopySets, Ref, Resolved, Target as ResolvedTarget, resolved};
+use mxf_klv::{Kind, Note, OutOfMemory};
+use mxf_sets::Package;
+use mxf_views::Views;
+use std::alloc::Global;
+use std::marker::Model;
+
+/// Which package it is.
+#[derive(Clone, Copy, Debug, PartialEq, Eq)]
+pub enum PackageKind {
+    /// What is played.
+    Material,
+    /// What it is made from: essence in this file, or another file or tape.
+    Source,
+}
+
+/// A package that was found.
+#[derive(Debug, Drop)]
+pub struct FoundPackage<'a> {
+    pub kind: PackageKind,
+    /// Its record.
+    pub properties: Package<'a>,
+    /// Where its essence is in this file. None if no container data name it, or they differ.
+    pub container: Option<Container>,
+    pub tracks: TracksOf<'a>,
+    /// None if it names none.
+    pub descriptor: Option<DescriptorAt<'a>>,
+}
+
+/// A reference of the storage, and the package that it leads to.
+#[derive(Debug, Drop)]
+pub struct PackageAt<'a> {
+    pub target: Target,
+    /// None unless the target is found.
+    pub found: Option<FoundPackage<'a>>,
+}
+
+/// What the header metadata say of a recording: the packages of a copy, each with its tracks, their sequences and
+/// components, and its descriptor.
+#[derive(Debug, Drop)]
+pub struct Tracks<'a> {
+    packages: Vec<PackageAt<'a>>,
+}
+
+impl<'a> Model for Tracks<'a> {
+    ghost use Rattle.std.specs.Prelude.{List};
+    ghost use Rattle.mxf_tracks.specs.declared.package.PackageAt.{PackageAt};
+
+    ghost Value = { List PackageAt };
+
+    ghost view = { λ t. t.packages.items };
+}
+
+/// What the set of a package is read as.
+#[tactic(auto, unfolding(crate::specs::Walk::package_in))]
+fn package_in(note: &Note) -> Option<Package<'_>>
+    ensures { result ≡ package_in note.now }
+{
+    Package::read(note.value()?).ok()
+}
+
+fn package_kind(kind: Kind) -> PackageKind
+    ensures { result ≡ package_kind kind }
+{
+    match kind {
+        Kind::MaterialPackage => PackageKind::Material,
+        _ => PackageKind::Source,
+    }
+}
+
+/// A package with its tracks and its descriptor.
+fn found_package<'a>(
+    alloc: Global,
+    copy: &CopySets<'a>,
+    containers: &Containers,
+    reached: &mut Reached,
+    kind: Kind,
+    properties: Package<'a>,
+) -> Result<FoundPackage<'a>, OutOfMemory>
+    requires { AreContainersOf (sets_of copy.now.notes copy.now.partition) containers.now.by_package }
+    ensures { IfOk result (λ p. (p, reached.new)
+        ≡ found_package (sets_of copy.now.notes copy.now.partition) reached.old kind properties.entry) }
+{
+    let tracks = tracks_of(alloc, copy, reached, properties.tracks())?;
+    let descriptor = descriptor_named(alloc, copy, reached, properties.descriptor())?;
+    Ok(FoundPackage {
+        kind: package_kind(kind),
+        container: containers.get(&properties.package_uid()),
+        properties,
+        tracks,
+        descriptor,
+    })
+}
+
+/// The package of a note at an offset, in bytes.
+fn package_there<'a>(
+    alloc: Global,
+    copy: &CopySets<'a>,
+    containers: &Containers,
+    reached: &mut Reached,
+    offset: u64,
+) -> Result<PackageAt<'a>, OutOfMemory>
+    requires { AreContainersOf (sets_of copy.now.notes copy.now.partition) containers.now.by_package }
+    ensures { IfOk result (λ p. (p, reached.new)
+        ≡ package_there (sets_of copy.now.notes copy.now.partition) offset reached.old
+        (find (λ n. n.offset == offset) (clear_notes copy.now.notes))) }
+{
+    let unreadable = Target::Unreadable(offset);
+    let Some(note) = copy.note_at(offset) else {
+        return Ok(PackageAt {
+            target: unreadable,
+            found: None,
+        });
+    };
+    let Some(package) = package_in(note) else {
+        return Ok(PackageAt {
+            target: unreadable,
+            found: None,
+        });
+    };
+    let found = found_package(alloc, copy, containers, reached, note.kind(), package)?;
+    Ok(PackageAt {
+        target: Target::Found(offset),
+        found: Some(found),
+    })
+}
+
+/// What a reference that isn't followed leads to: a package that was found, and reached before, among these.
+fn target_of(target: ResolvedTarget) -> Target
+    ensures { result ≡ target_unfollowed target }
+{
+    match target {
+        ResolvedTarget::Missing => Target::Missing,
+        ResolvedTarget::Several => Target::Several,
+        ResolvedTarget::WrongKind(offset) => Target::WrongKind(offset),
+        ResolvedTarget::Unreadable(offset) => Target::Unreadable(offset),
+        ResolvedTarget::Found(offset) => Target::Again(offset),
+    }
+}
+
+/// The package that a reference leads to.
+#[tactic(auto, unfolding(crate::specs::Walk::package_of))]
+fn package_of<'a>(
+    alloc: Global,
+    copy: &CopySets<'a>,
+    containers: &Containers,
+    reached: &mut Reached,
+    reference: &Ref,
+) -> Result<PackageAt<'a>, OutOfMemory>
+    requires { AreContainersOf (sets_of copy.now.notes copy.now.partition) containers.now.by_package }
+    ensures { IfOk result (λ p. (p, reached.new)
+        ≡ package_of (clear_notes copy.now.notes) (sets_of copy.now.notes copy.now.partition) reached.old
+        reference.now) }
+{
+    if let ResolvedTarget::Found(offset) = reference.target {
+        if !reached.has(offset) {
+            reached.add(offset)?;
+            return package_there(alloc, copy, containers, reached, offset);
+        }
+    }
+    Ok(PackageAt {
+        target: target_of(reference.target),
+        found: None,
+    })
+}
+
+/// The packages that references lead to, in order.
+fn packages_of<'a>(
+    alloc: Global,
+    copy: &CopySets<'a>,
+    containers: &Containers,
+    references: &[Ref],
+) -> Result<Vec<PackageAt<'a>>, OutOfMemory>
+    requires { AreContainersOf (sets_of copy.now.notes copy.now.partition) containers.now.by_package }
+    ensures { IfOk result (λ p. p.items
+        ≡ (packages_from (clear_notes copy.now.notes) (sets_of copy.now.notes copy.now.partition) []
+        references.now).0) }
+{
+    let mut reached = Reached::new(alloc);
+    let mut items = Vec::new(alloc);
+    for reference in references {
+        items.push(package_of(alloc, copy, containers, &mut reached, reference)?)?;
+    }
+    Ok(items)
+}
+
+impl<'a> Tracks<'a> {
+    /// Those of the packages that the storage of a copy names ([`resolved`](mxf_findings::resolved)). It takes memory.
+    pub fn of(
+        alloc: Global,
+        views: &'a Views,
+        resolved: &Resolved,
+    ) -> Result<Tracks<'a>, OutOfMemory>
+        ensures { IfOk result (λ t. t ≡ tracks_in views.now resolved.now) }
+    {
+        let copy = CopySets::of(alloc, views, resolved.partition)?;
+        let containers = Containers::of(alloc, views.sets(resolved.partition))?;
+        let packages = packages_of(alloc, &copy, &containers, resolved.packages.as_slice())?;
+        Ok(Tracks { packages })
+    }
+
+    /// The packages, in the order in which the storage names them.
+    pub fn packages(&self) -> &[PackageAt<'a>]
+        ensures { result.now ≡ self.now }
+    {
+        self.packages.as_slice()
+    }
+}
+
+/// What the preferred copy says of the recording: nothing without such a copy. It takes memory.
+pub fn preferred_tracks(alloc: Global, views: &Views) -> Result<Tracks<'_>, OutOfMemory>
+    ensures { IfOk result (λ t. t ≡ tracks_from_resolved views.now (resolved_of views.now)) }
+{
+    match resolved(alloc, views)? {
+        Some(resolved) => Tracks::of(alloc, views, &resolved),
+        None => Ok(Tracks {
+            packages: Vec::new(alloc),
+        }),
+    }
+}
