@@ -50,10 +50,12 @@ pub use Rattle.mxf_views.specs.Copies.{status_rank, zone_of}
 unfoldable pub use Rattle.mxf_views.specs.Copies.{copies_of, is_preface_note, is_set_note, sets_of}
 pub use Rattle.mxf_findings.specs.FindingCauses.{AtClear}
 pub use Rattle.mxf_findings.specs.Findings.{are_entries_of, ends_above, findings_for, findings_of, footer_stands_at}
-pub use Rattle.mxf_findings.specs.Findings.{has_other_rip, is_partial, is_unfit_rip, is_unreadable, lost_at}
-pub use Rattle.mxf_findings.specs.Findings.{lost_beside, lost_by, offsets_for, reads_value}
+pub use Rattle.mxf_findings.specs.Findings.{has_other_rip, is_partial, is_unfit_rip, lost_at}
+pub use Rattle.mxf_references.specs.Readable.{is_unreadable}
+pub use Rattle.mxf_findings.specs.Findings.{lost_beside, lost_by, offsets_for}
+pub use Rattle.mxf_references.specs.Readable.{reads_value}
 pub use Rattle.mxf_views.specs.Gaps.{gaps_of}
-pub use Rattle.mxf_findings.specs.Identified.{is_below, is_of, unreadable_offsets, with_uid}
+pub use Rattle.mxf_references.specs.Identified.{is_below, is_of, unreadable_offsets, with_uid}
 pub use Rattle.mxf_views.specs.Labels.{is_in_copy, primer_there}
 unfoldable pub use Rattle.mxf_views.specs.Labels.{primer_for}
 pub use Rattle.mxf_views.specs.Partitions.{HangTogether, PartitionParts, chain_of, is_footer, link_at, link_of, pack_of}
@@ -67,13 +69,13 @@ pub use Rattle.mxf_views.specs.RandomIndexView.{rip_view_among, rip_view_by, rip
 pub use Rattle.mxf_views.specs.Reading.{partitions_read, place_by_segment, segments_read}
 pub use Rattle.mxf_views.specs.Readings.{IsReadAs, IsReadable}
 unfoldable pub use Rattle.mxf_views.specs.Records.{read_pack, read_rip, read_segment}
-pub use Rattle.mxf_findings.specs.References.{found_among, reads_uid}
-unfoldable pub use Rattle.mxf_findings.specs.References.{has_uid}
-pub use Rattle.mxf_findings.specs.Resolved.{ResolvedParts, packages_of, resolved_by, resolved_from, resolved_of}
-pub use Rattle.mxf_findings.specs.Resolved.{storage_among}
-unfoldable pub use Rattle.mxf_findings.specs.Resolved.{preface_in, storage_in}
-pub use Rattle.mxf_findings.specs.Targets.{fits, is_readable, refs_of, target_among}
-unfoldable pub use Rattle.mxf_findings.specs.Targets.{target_at, target_of}
+pub use Rattle.mxf_references.specs.References.{found_among, reads_uid}
+unfoldable pub use Rattle.mxf_references.specs.References.{has_uid}
+pub use Rattle.mxf_references.specs.Resolved.{ResolvedParts, packages_of, resolved_by, resolved_from, resolved_of}
+pub use Rattle.mxf_references.specs.Resolved.{storage_among}
+unfoldable pub use Rattle.mxf_references.specs.Resolved.{preface_in, storage_in}
+pub use Rattle.mxf_references.specs.Targets.{fits, is_readable, refs_of, target_among}
+unfoldable pub use Rattle.mxf_references.specs.Targets.{target_at, target_of}
 pub use Rattle.mxf_views.specs.WellFormed.{Agree, EndsWithFooter, EndsWithRandomIndex, HasMetadata, IsFill}
 pub use Rattle.mxf_views.specs.WellFormed.{IsFooterPack, IsHeaderPack, IsPartitionPack, IsPrimerPack, IsRandomIndexPack}
 pub use Rattle.mxf_views.specs.WellFormed.{IsWellFormed, entry_of, total_of}
@@ -86,13 +88,13 @@ pub use Rattle.mxf_findings.specs.declared.finding.Finding.{Finding}
 pub use Rattle.mxf_views.specs.declared.index.place.Place.{Place}
 pub use Rattle.mxf_views.specs.declared.index.place.Place.TheVariants.{Ambiguous, At, NotIndexed}
 pub use Rattle.mxf_views.specs.declared.random_index.RipView.TheVariants.{One}
-pub use Rattle.mxf_findings.specs.declared.reference.Found.{Found}
-pub use Rattle.mxf_findings.specs.declared.reference.Found.TheVariants.{Several}
-pub use Rattle.mxf_findings.specs.declared.reference.target.Ref.{Ref}
-pub use Rattle.mxf_findings.specs.declared.reference.target.Target.{Target}
-pub use Rattle.mxf_findings.specs.declared.reference.target.Target.TheVariants.{Unreadable}
-pub use Rattle.mxf_findings.specs.declared.reference.target.Wanted.{Wanted}
-pub use Rattle.mxf_findings.specs.declared.reference.target.Wanted.TheVariants.{Identification, Package, Storage}
+pub use Rattle.mxf_references.specs.declared.reference.Found.{Found}
+pub use Rattle.mxf_references.specs.declared.reference.Found.TheVariants.{Several}
+pub use Rattle.mxf_references.specs.declared.reference.target.Ref.{Ref}
+pub use Rattle.mxf_references.specs.declared.reference.target.Target.{Target}
+pub use Rattle.mxf_references.specs.declared.reference.target.Target.TheVariants.{Unreadable}
+pub use Rattle.mxf_references.specs.declared.reference.target.Wanted.{Wanted}
+pub use Rattle.mxf_references.specs.declared.reference.target.Wanted.TheVariants.{Identification, Package, Storage}
 pub use Rattle.std.proofs.lemmas.Bool.{and_from, and_parts, cases_lt, false_from_ne_true, false≢true, or_cases}
 pub use Rattle.std.proofs.lemmas.Bool.{or_parts}
 pub use Rattle.std.proofs.lemmas.Cmp.{nat_cmp_total, tied_itself}

@@ -9,7 +9,7 @@ use Rattle.mxf_findings.proofs.Common.{false_from_ne_true, and_parts, preface_at
 use Rattle.mxf_findings.proofs.Common.{Target, Unreadable, is_set, ResolvedParts, is_partial, lost_beside, lost_by}
 use Rattle.mxf_findings.proofs.Common.{reads_value, In-chosen}
 use Rattle.std.specs.Prelude.{is_none}
-use Rattle.mxf_findings.specs.declared.reference.target.Target.TheVariants.{Found, Missing, Several, WrongKind}
+use Rattle.mxf_references.specs.declared.reference.target.Target.TheVariants.{Found, Missing, Several, WrongKind}
 use Rattle.mxf_views.specs.SetItems.{whole_items}
 use Rattle.mxf_findings.specs.Findings.{is_found, is_unreadable_segment, is_unreadable_set, lost_behind, lost_in}
 use Rattle.mxf_findings.specs.FindingCauses.{Holds, HoldsLost, IsReadableSet}
@@ -17,7 +17,7 @@ use Rattle.mxf_views.specs.Copies.{IsMetadataKind}
 use Rattle.mxf_views.proofs.CopyLaws.{copies_are}
 use Rattle.mxf_views.proofs.KindLaws.{primer_kind, segment_kind, set_kind}
 use Rattle.mxf_views.proofs.ReadingLaws.{ok_readable}
-use Rattle.mxf_findings.proofs.ResolvedLaws.{resolved_iff}
+use Rattle.mxf_references.proofs.ResolvedLaws.{resolved_iff}
 use Rattle.mxf_klv.proofs.Tests.{none_says}
 use Rattle.std.proofs.lemmas.List.{nil_from_length}
 use Rattle.mxf_klv.specs.declared.kinds.Kind.TheVariants as kinds

@@ -2,16 +2,11 @@ pub mod CauseLaws
 pub mod Common
 pub mod FindingLaws
 pub mod FindingMembers
-pub mod FoundLaws
 pub mod GoodFiles
 pub mod HeaderCauses
-pub mod IdentifiedLaws
 pub mod IndexCauses
 pub mod KeptFindings
-pub mod OnlyFound
 pub mod PartitionCauses
 pub mod RefusedLaws
-pub mod ResolvedLaws
 pub mod SameViewsLaws
 pub mod SmallFiles
-pub mod UnreadableLaws

@@ -22,8 +22,8 @@ use Rattle.mxf_sets.specs.Segment.{segment_at}
 use Rattle.mxf_catalogue.specs.Disputes.{IsClear, Overlaps, SharesOffset}
 use Rattle.mxf_views.specs.declared.chain.Link.TheVariants.{Skips, Missing, Wrong}
 use Rattle.mxf_views.specs.declared.copy.CopyInfo.{CopyInfo}
-use Rattle.mxf_findings.specs.declared.reference.target.Ref.{Ref}
-use Rattle.mxf_findings.specs.declared.reference.target.Target.TheVariants.{Found}
+use Rattle.mxf_references.specs.declared.reference.target.Ref.{Ref}
+use Rattle.mxf_references.specs.declared.reference.target.Target.TheVariants.{Found}
 use Rattle.mxf_findings.specs.declared.finding.Code.{Code}
 use Rattle.mxf_findings.specs.declared.finding.Code.TheVariants.{F01, F02, F03, F04, F05, F06, F07, F08, F09, F10, F11}
 use Rattle.mxf_findings.specs.declared.finding.Code.TheVariants.{F12, F13, F14}
@@ -32,8 +32,8 @@ use Rattle.mxf_views.specs.Partitions.{IsLink, HangTogether, PartitionParts, par
 use Rattle.mxf_views.specs.Gaps.{IsGap}
 use Rattle.mxf_views.specs.Readings.{IsReadAs, IsReadable}
 use Rattle.mxf_views.specs.Copies.{IsCopy, IsMetadataKind}
-use Rattle.mxf_findings.specs.Resolved.{ResolvedParts}
-use Rattle.mxf_findings.specs.ResolvedView.{IsResolvedFrom}
+use Rattle.mxf_references.specs.Resolved.{ResolvedParts}
+use Rattle.mxf_references.specs.ResolvedView.{IsResolvedFrom}
 
 -- A primer pack or a set of that kind is readable: a raw set if items make up its value.
 abbrev pub IsReadableSet : Kind → NoteParts → Type 0

@@ -1,32 +1,25 @@
 -- Findings: where the notes of a file show something to be wrong or missing (this project's profile).
-use Rattle.std.specs.Prelude.{ℕ, Bool, true, false, not, ◌&&◌, ◌||◌, ◌==◌, nat_lt, Option, Some, None, is_ok, is_none}
-use Rattle.std.specs.Prelude.{is_some, List, [], ◌∷◌, ◌++◌, map, flat_map, filter, if◌then◌else◌}
+use Rattle.std.specs.Prelude.{if◌then◌else◌, ℕ, Bool, true, false, not, ◌&&◌, ◌||◌, ◌==◌, nat_lt, Option, Some, None, is_none}
+use Rattle.std.specs.Prelude.{List, [], ◌∷◌, ◌++◌, map, flat_map, filter}
 use Rattle.std.specs.List.{list_any}
-use Rattle.mxf_klv.specs.declared.kinds.Kind.{Kind}
 use Rattle.mxf_klv.specs.declared.kinds.Kind.TheVariants as kinds
 use Rattle.mxf_klv.specs.declared.kinds.Status.{Status}
 use Rattle.mxf_klv.specs.declared.kinds.Status.TheVariants.{OpenIncomplete, OpenComplete}
 use Rattle.mxf_klv.specs.Parts.{NoteParts}
-use Rattle.mxf_klv.specs.Note.{end_of, keeps_value}
+use Rattle.mxf_klv.specs.Note.{end_of}
 use Rattle.mxf_klv.specs.Kind.{kind_of}
 use Rattle.mxf_klv.specs.Rising.{union}
 use Rattle.mxf_sets.specs.declared.pack.random_index.RipEntry.{RipEntry}
 use Rattle.mxf_sets.specs.RandomIndexPack.{RipParts}
-use Rattle.mxf_sets.specs.PackReadings.{primer_at}
-use Rattle.mxf_sets.specs.Preface.{preface_at}
-use Rattle.mxf_sets.specs.Identification.{identification_at}
-use Rattle.mxf_sets.specs.Storage.{storage_at}
-use Rattle.mxf_sets.specs.Package.{package_at}
-use Rattle.mxf_sets.specs.Segment.{segment_at}
 use Rattle.mxf_catalogue.specs.Disputes.{DisputedParts, clear_notes, disputed_notes}
 use Rattle.mxf_views.specs.declared.chain.Link.{Link}
 use Rattle.mxf_views.specs.declared.chain.Link.TheVariants.{Skips, Missing, Wrong}
 use Rattle.mxf_views.specs.declared.chain.Chain.{Chain}
 use Rattle.mxf_views.specs.declared.chain.Chain.TheVariants.{Whole, Broken}
 use Rattle.mxf_views.specs.declared.copy.CopyInfo.{CopyInfo}
-use Rattle.mxf_findings.specs.declared.reference.target.Ref.{Ref}
-use Rattle.mxf_findings.specs.declared.reference.target.Target.{Target}
-use Rattle.mxf_findings.specs.declared.reference.target.Target.TheVariants.{Found}
+use Rattle.mxf_references.specs.declared.reference.target.Ref.{Ref}
+use Rattle.mxf_references.specs.declared.reference.target.Target.{Target}
+use Rattle.mxf_references.specs.declared.reference.target.Target.TheVariants.{Found}
 use Rattle.mxf_findings.specs.declared.finding.Code.{Code}
 use Rattle.mxf_findings.specs.declared.finding.Code.TheVariants.{F01, F02, F03, F04, F05, F06, F07, F08, F09, F10, F11}
 use Rattle.mxf_findings.specs.declared.finding.Code.TheVariants.{F12, F13, F14}
@@ -37,8 +30,8 @@ use Rattle.mxf_views.specs.Gaps.{gaps_of}
 use Rattle.mxf_views.specs.Copies.{copies_of, is_primer, is_set}
 use Rattle.mxf_views.specs.Places.{is_segment}
 use Rattle.mxf_views.specs.RandomIndex.{is_rip_note, rip_in}
-use Rattle.mxf_views.specs.SetItems.{whole_items}
-use Rattle.mxf_findings.specs.Resolved.{ResolvedParts, resolved_of}
+use Rattle.mxf_references.specs.Readable.{is_unreadable}
+use Rattle.mxf_references.specs.Resolved.{ResolvedParts, resolved_of}
 use Rattle.mxf_findings.specs.Codes.{all_codes, finding, finding_cmp}
 
 -- ---- Partitions
@@ -73,23 +66,6 @@ lacks_footer partitions p =
     let footer = p.pack.numbers.footer_partition in not (footer == 0) && not (footer_stands_at footer partitions)
 
 -- ---- Packets that can't be read
-
--- The value can be read by its kind: as a primer pack, as a metadata set, as the items of a raw set, or as an index
--- table segment.
-abbrev pub reads_value : Kind → List ℕ → Bool
-reads_value kinds.Primer bytes = is_ok (primer_at bytes)
-reads_value kinds.Preface bytes = is_ok (preface_at bytes)
-reads_value kinds.Identification bytes = is_ok (identification_at bytes)
-reads_value kinds.ContentStorage bytes = is_ok (storage_at bytes)
-reads_value kinds.MaterialPackage bytes = is_ok (package_at bytes)
-reads_value kinds.SourcePackage bytes = is_ok (package_at bytes)
-reads_value kinds.RawSet bytes = is_some (whole_items bytes)
-reads_value kinds.Segment bytes = is_ok (segment_at bytes)
-reads_value _ bytes = true
-
--- The value isn't kept, or can't be read by its kind.
-abbrev pub is_unreadable : NoteParts → Bool
-is_unreadable n = not (keeps_value n && reads_value (kind_of n.key) n.held)
 
 -- A primer pack, a metadata set or a raw set that isn't readable.
 unfoldable pub is_unreadable_set : NoteParts → Bool

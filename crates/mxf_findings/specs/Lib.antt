@@ -1,12 +1,7 @@
-pub mod References
-pub mod Targets
-pub mod Resolved
-pub mod ResolvedView
 pub mod Codes
 pub mod Findings
 pub mod FindingCauses
 pub mod SameViews
-pub mod Identified
 pub mod WorkedFiles
 pub mod RefusedFiles
 pub mod WorkedSegments

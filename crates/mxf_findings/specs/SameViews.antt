@@ -4,8 +4,8 @@ use Rattle.mxf_klv.specs.Parts.{NoteParts}
 use Rattle.mxf_views.specs.Partitions.{chain_of, link_at, partitions_of}
 use Rattle.mxf_views.specs.Copies.{copies_of, preferred_of, sets_of}
 use Rattle.mxf_views.specs.Labels.{primer_for}
-use Rattle.mxf_findings.specs.References.{found_in}
-use Rattle.mxf_findings.specs.Resolved.{resolved_of}
+use Rattle.mxf_references.specs.References.{found_in}
+use Rattle.mxf_references.specs.Resolved.{resolved_of}
 use Rattle.mxf_views.specs.Places.{place_of, segments_of}
 use Rattle.mxf_views.specs.RandomIndexView.{rip_view_of}
 

@@ -56,7 +56,7 @@ pub enum Code {
     /// A clear random index pack isn't readable; or there is another clear one; or a whole note ends above its end; or
     /// its entries aren't the BodySIDs and the offsets of the partitions, in their order.
     F12,
-    /// A set of the preferred copy holds a reference whose target isn't [`Found`](crate::Target::Found): the Preface
+    /// A set of the preferred copy holds a reference whose target isn't [`Found`](mxf_references::Target::Found): the Preface
     /// holds those to the storage and to the identifications, the storage those to the packages.
     F13,
     /// The chain of the partitions is broken. The offset is 0.

@@ -1,9 +1,6 @@
-//! The laws of findings, of references and of small files.
+//! The laws of findings and of small files.
 
 pub use crate::finding::findings_by_definition;
-pub use crate::reference::found_by_definition;
-pub use crate::reference::resolved::resolved_by_definition;
-pub use crate::reference::target::targets_by_definition;
 pub use crate::same_views::views_let_go_of_disputed_notes;
 pub use crate::small_files::{
     an_indexed_file_is_read_from_the_front, each_condition_of_well_formed_files_refuses_a_file,

@@ -2,8 +2,8 @@
 use Rattle.mxf_views.proofs.Common.{◌≡◌, ◌∙◌, ◌==◌, ℕ, List, [], Bool, Option, Some, true, false, refl, ap, sym, cond}
 use Rattle.mxf_views.proofs.Common.{eqb-true, ◌<◌, ◌∷◌, arith, length, unwrap_or, nat_cmp, BTreeMap, get, is_at}
 use Rattle.mxf_views.proofs.Common.{NoteParts, at_equal, at_other}
-use Rattle.mxf_findings.specs.declared.reference.target.Ref.{Ref}
-use Rattle.mxf_findings.specs.declared.reference.target.Target.TheVariants.{Found}
+use Rattle.mxf_references.specs.declared.reference.target.Ref.{Ref}
+use Rattle.mxf_references.specs.declared.reference.target.Target.TheVariants.{Found}
 use Rattle.mxf_lines.specs.declared.printing.line.record.Named.{Named}
 use Rattle.mxf_lines.specs.declared.printing.references.Record.{Record}
 use Rattle.mxf_lines.specs.ReferenceLines.{AreRecordsIn, found_record, named_lines}

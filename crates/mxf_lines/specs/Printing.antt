@@ -9,7 +9,7 @@ use Rattle.mxf_views.specs.Gaps.{gaps_of}
 use Rattle.mxf_views.specs.Partitions.{chain_of, partitions_of}
 use Rattle.mxf_views.specs.Places.{segments_of}
 use Rattle.mxf_views.specs.RandomIndexView.{rip_view_of}
-use Rattle.mxf_findings.specs.Resolved.{resolved_of}
+use Rattle.mxf_references.specs.Resolved.{resolved_of}
 use Rattle.mxf_lines.specs.declared.printing.AnswerFault.{AnswerFault}
 use Rattle.mxf_lines.specs.declared.printing.AnswerFault.TheVariants.{OutOfMemory, Write, BadUnit}
 use Rattle.mxf_forms.specs.declared.form.Form.{Form}

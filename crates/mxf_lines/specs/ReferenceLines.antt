@@ -15,11 +15,11 @@ use Rattle.mxf_sets.specs.Package.{PackageParts, package_at}
 use Rattle.mxf_sets.specs.Readable.{read_as}
 use Rattle.mxf_sets.specs.declared.record.timestamp.Timestamp.{Timestamp}
 use Rattle.mxf_catalogue.specs.Disputes.{clear_notes}
-use Rattle.mxf_findings.specs.Resolved.{ResolvedParts}
-use Rattle.mxf_findings.specs.declared.reference.target.Ref.{Ref}
-use Rattle.mxf_findings.specs.declared.reference.target.Target.{Target}
-use Rattle.mxf_findings.specs.declared.reference.target.Target.TheVariants.{Missing, Several, WrongKind, Unreadable}
-use Rattle.mxf_findings.specs.declared.reference.target.Target.TheVariants.{Found}
+use Rattle.mxf_references.specs.Resolved.{ResolvedParts}
+use Rattle.mxf_references.specs.declared.reference.target.Ref.{Ref}
+use Rattle.mxf_references.specs.declared.reference.target.Target.{Target}
+use Rattle.mxf_references.specs.declared.reference.target.Target.TheVariants.{Missing, Several, WrongKind, Unreadable}
+use Rattle.mxf_references.specs.declared.reference.target.Target.TheVariants.{Found}
 use Rattle.mxf_lines.specs.declared.printing.line.record.Property.{Property}
 use Rattle.mxf_lines.specs.declared.printing.line.record.Property.TheVariants as properties
 use Rattle.mxf_lines.specs.declared.printing.line.record.Named.{Named}

@@ -2,10 +2,11 @@
 use crate::additions::{add_to_views, essence, in_views};
 use crate::files::{M, R, header_value};
 use crate::units::add_piece;
-use mxf_findings::{Code, Finding, Findings, Resolved, findings, resolved};
+use mxf_findings::{Code, Finding, Findings, findings};
 use mxf_forms::hex_text;
 use mxf_klv::{Held, Note, NoteFault, OutOfMemory, Packet, read_packet};
 use mxf_read::AbsorbFault;
+use mxf_references::{Resolved, resolved};
 use mxf_sets::{Primer, PrimerLabels, TextFault, text};
 use mxf_views::{BadUnit, Views};
 use std::alloc::Global;

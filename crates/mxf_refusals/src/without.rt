@@ -2,9 +2,9 @@
 use crate::additions::{essence, in_views};
 use crate::files::{M, R, SEGMENT};
 use mxf_catalogue::{Catalogue, Change};
-use mxf_findings::{Found, find};
 use mxf_klv::{Encode, Held, Note, OutOfMemory, cut_head, read_packet};
 use mxf_read::absorb;
+use mxf_references::{Found, find};
 use mxf_views::{BadUnit, Chain, Link, Place, RipView, Views, set_items};
 use std::alloc::Global;
 use uuid::Uuid;

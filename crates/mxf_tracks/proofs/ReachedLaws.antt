@@ -1,5 +1,6 @@
 -- The offsets of a set in order, with one more.
-use Rattle.mxf_findings.proofs.Common.{◌≡◌, ℕ, List, [], ◌∷◌, refl, ap, cond, nat_cmp, Less, Equal, Greater}
+use Rattle.mxf_views.proofs.Common.{◌≡◌, ℕ, List, [], ◌∷◌, refl, ap, cond}
+use Rattle.std.proofs.Common.{nat_cmp, Less, Equal, Greater}
 use Rattle.std.specs.Ordering.{is_lt, is_eq, match_ordering}
 use Rattle.std.specs.BTreeSet.{insert_key}
 use Rattle.mxf_tracks.specs.Targets.{with_reached}

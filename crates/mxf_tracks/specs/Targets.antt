@@ -8,7 +8,7 @@ use Rattle.mxf_klv.specs.declared.kinds.Kind.TheVariants as kinds
 use Rattle.mxf_klv.specs.Parts.{NoteParts}
 use Rattle.mxf_klv.specs.Kind.{kind_of}
 use Rattle.mxf_klv.specs.Rising.{with_one}
-use Rattle.mxf_findings.specs.References.{has_uid}
+use Rattle.mxf_references.specs.References.{has_uid}
 use Rattle.mxf_tracks.specs.declared.target.Target.{Target}
 use Rattle.mxf_tracks.specs.declared.target.Target.TheVariants.{Missing, Several, WrongKind, Other, Again}
 use Rattle.mxf_tracks.specs.declared.target.Wanted.{Wanted}

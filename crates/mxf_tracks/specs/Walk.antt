@@ -13,10 +13,10 @@ use Rattle.mxf_sets.specs.Package.{PackageParts, package_at}
 use Rattle.mxf_sets.specs.Readable.{read_as}
 use Rattle.mxf_sets.specs.Sequence.{SequenceParts, sequence_at}
 use Rattle.mxf_sets.specs.Track.{TrackParts, track_at}
-use Rattle.mxf_findings.specs.declared.reference.target.Ref.{Ref}
-use Rattle.mxf_findings.specs.declared.reference.target.Target.{Target as ResolvedTarget}
-use Rattle.mxf_findings.specs.declared.reference.target.Target.TheVariants as resolved
-use Rattle.mxf_findings.specs.Resolved.{ResolvedParts}
+use Rattle.mxf_references.specs.declared.reference.target.Ref.{Ref}
+use Rattle.mxf_references.specs.declared.reference.target.Target.{Target as ResolvedTarget}
+use Rattle.mxf_references.specs.declared.reference.target.Target.TheVariants as resolved
+use Rattle.mxf_references.specs.Resolved.{ResolvedParts}
 use Rattle.mxf_catalogue.specs.Disputes.{clear_notes}
 use Rattle.mxf_views.specs.Copies.{sets_of}
 use Rattle.mxf_tracks.specs.declared.component.Component.{Component}

@@ -6,8 +6,8 @@ ghost use Rattle.mxf_tracks.specs.Walk.{subdescriptors_from};
 
 use crate::reached::Reached;
 use crate::target::{Target, Wanted, set_of};
-use mxf_findings::CopySets;
 use mxf_klv::{Note, OutOfMemory};
+use mxf_references::CopySets;
 use mxf_sets::{Descriptor, References};
 use std::alloc::Global;
 use std::marker::Model;

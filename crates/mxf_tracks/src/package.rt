@@ -2,7 +2,7 @@
 ghost use Rattle.std.specs.Prelude.{◌≡◌, ◌==◌, [], find, IfOk};
 ghost use Rattle.mxf_catalogue.specs.Disputes.{clear_notes};
 ghost use Rattle.mxf_klv.specs.Kind.{kind_of};
-ghost use Rattle.mxf_findings.specs.Resolved.{resolved_of};
+ghost use Rattle.mxf_references.specs.Resolved.{resolved_of};
 ghost use Rattle.mxf_views.specs.Copies.{sets_of};
 ghost use Rattle.mxf_tracks.specs.Containers.{AreContainersOf};
 ghost use Rattle.mxf_tracks.specs.Walk.{found_package, package_by, package_in, package_kind, package_of, packages_from};
@@ -13,8 +13,8 @@ use crate::descriptor::{DescriptorAt, descriptor_named};
 use crate::reached::Reached;
 use crate::target::Target;
 use crate::track::{TracksOf, tracks_of};
-use mxf_findings::{CopySets, Ref, Resolved, Target as ResolvedTarget, resolved};
 use mxf_klv::{Kind, Note, OutOfMemory};
+use mxf_references::{CopySets, Ref, Resolved, Target as ResolvedTarget, resolved};
 use mxf_sets::Package;
 use mxf_views::Views;
 use std::alloc::Global;
@@ -200,7 +200,7 @@ fn packages_of<'a>(
 }
 
 impl<'a> Tracks<'a> {
-    /// Those of the packages that the storage of a copy names ([`resolved`](mxf_findings::resolved)). It takes memory.
+    /// Those of the packages that the storage of a copy names ([`resolved`](mxf_references::resolved)). It takes memory.
     pub fn of(
         alloc: Global,
         views: &'a Views,

@@ -7,8 +7,8 @@ ghost use Rattle.mxf_tracks.specs.Targets.{set_at, set_of};
 
 use crate::keys::{is_clip, is_filler, is_sequence, is_timecode, is_track};
 use crate::reached::Reached;
-use mxf_findings::{CopySets, Found};
 use mxf_klv::{Kind, Note, Ul};
+use mxf_references::{CopySets, Found};
 use uuid::Uuid;
 
 /// What a reference leads to, with file offsets in bytes: the first of these that fits.

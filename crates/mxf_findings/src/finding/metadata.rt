@@ -5,10 +5,8 @@ ghost use Rattle.mxf_findings.specs.Findings.{findings_for, is_found, is_partial
 
 use super::Code;
 use super::collected::Collected;
-use crate::asked::resolved;
-use crate::reference::resolved::Resolved;
-use crate::reference::target::{Ref, Target};
 use mxf_klv::OutOfMemory;
+use mxf_references::{Ref, Resolved, Target, resolved};
 use mxf_views::{CopyInfo, Views};
 use std::alloc::Global;
 

@@ -1,37 +1,10 @@
 //! Packets that should be readable and aren't.
 ghost use Rattle.std.specs.Prelude.{◌≡◌};
-ghost use Rattle.mxf_findings.specs.Findings.{is_unreadable, is_unreadable_segment, is_unreadable_set, reads_value};
+ghost use Rattle.mxf_findings.specs.Findings.{is_unreadable_segment, is_unreadable_set};
 
 use mxf_klv::{Kind, Note};
-use mxf_sets::{ContentStorage, Identification, Package, Preface, Primer, Segment};
-use mxf_views::{is_set, whole_items};
-
-/// Whether the value can be read by its kind: as a primer pack, as a metadata set, as the items of a raw set, or as an
-/// index table segment.
-fn reads_value(kind: Kind, value: &[u8]) -> bool
-    ensures { result ≡ reads_value kind value.now }
-{
-    match kind {
-        Kind::Primer => Primer::read(value).is_ok(),
-        Kind::Preface => Preface::read(value).is_ok(),
-        Kind::Identification => Identification::read(value).is_ok(),
-        Kind::ContentStorage => ContentStorage::read(value).is_ok(),
-        Kind::MaterialPackage => Package::read(value).is_ok(),
-        Kind::SourcePackage => Package::read(value).is_ok(),
-        Kind::RawSet => whole_items(value).is_some(),
-        Kind::Segment => Segment::read(value).is_ok(),
-        _ => true,
-    }
-}
-
-/// Whether the value isn't kept, or can't be read by its kind.
-pub(crate) fn is_unreadable(note: &Note) -> bool
-    ensures { result ≡ is_unreadable note.now }
-{
-    !note
-        .value()
-        .is_some_and(|value| reads_value(note.kind(), value))
-}
+use mxf_references::is_unreadable;
+use mxf_views::is_set;
 
 /// Whether the note is a primer pack, a metadata set or a raw set that isn't readable.
 #[tactic(auto, unfolding(crate::specs::Findings::is_unreadable_set, mxf_views::specs::Copies::is_set_note))]

@@ -8,8 +8,8 @@ use super::line::{NoteLines, PartitionLines, PreferredLine};
 use super::lines::{Each, Lines, Printer, Then};
 use super::references::ReferenceLines;
 use super::sets::SetLines;
-use mxf_findings::resolved;
 use mxf_read::Gathered;
+use mxf_references::resolved;
 use mxf_views::Views;
 use std::io::Write;
 

@@ -1,8 +1,8 @@
 //! Telling that sources dispute packets, and which recordings they are of.
-use mxf_findings::{Target, resolved};
 use mxf_forms::hex_text;
 use mxf_hints::{tell_apart, tell_on_screen, views_of};
 use mxf_read::PieceReport;
+use mxf_references::{Target, resolved};
 use mxf_saving::Source;
 use mxf_sets::Package;
 use mxf_views::Views;

@@ -1,4 +1,4 @@
-use Rattle.mxf_findings.proofs.Common.{◌∙◌, ap, result_ok}
+use Rattle.mxf_views.proofs.Common.{◌∙◌, ap, result_ok}
 use Rattle.mxf_sets.specs.Descriptor.{descriptor_at}
 use Rattle.mxf_tracks.specs.Walk.{descriptor_in}
 use Rattle.mxf_tracks.proofs.descriptor.descriptor_in.Goals as goal

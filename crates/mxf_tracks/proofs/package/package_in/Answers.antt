@@ -1,4 +1,4 @@
-use Rattle.mxf_findings.proofs.Common.{◌∙◌, ap, result_ok}
+use Rattle.mxf_views.proofs.Common.{◌∙◌, ap, result_ok}
 use Rattle.mxf_sets.specs.Package.{package_at}
 use Rattle.mxf_tracks.specs.Walk.{package_in}
 use Rattle.mxf_tracks.proofs.package.package_in.Goals as goal

@@ -1,4 +1,4 @@
-use Rattle.mxf_findings.proofs.Common.{◌≡◌, [], drop}
+use Rattle.mxf_views.proofs.Common.{◌≡◌, [], drop}
 use Rattle.mxf_catalogue.specs.Disputes.{clear_notes}
 use Rattle.mxf_views.specs.Copies.{sets_of}
 use Rattle.mxf_tracks.specs.Walk.{packages_from}

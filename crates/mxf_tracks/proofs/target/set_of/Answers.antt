@@ -1,5 +1,6 @@
-use Rattle.mxf_findings.proofs.Common.{◌≡◌, ◌∙◌, ap, sym, none_some, same_Some}
-use Rattle.mxf_findings.proofs.OnlyFound.{only_there}
+use Rattle.mxf_views.proofs.Common.{◌≡◌, ◌∙◌, ap, sym, same_Some}
+use Rattle.mxf_klv.proofs.Tests.{none_some}
+use Rattle.mxf_references.proofs.OnlyFound.{only_there}
 use Rattle.mxf_tracks.specs.Targets.{set_among, set_at, set_of}
 use Rattle.mxf_tracks.proofs.target.set_of.Goals as goal
 

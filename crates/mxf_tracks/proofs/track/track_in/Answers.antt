@@ -1,4 +1,4 @@
-use Rattle.mxf_findings.proofs.Common.{◌∙◌, ap, result_ok}
+use Rattle.mxf_views.proofs.Common.{◌∙◌, ap, result_ok}
 use Rattle.mxf_sets.specs.Track.{track_at}
 use Rattle.mxf_tracks.specs.Walk.{track_in}
 use Rattle.mxf_tracks.proofs.track.track_in.Goals as goal

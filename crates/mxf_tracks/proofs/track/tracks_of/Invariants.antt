@@ -1,4 +1,4 @@
-use Rattle.mxf_findings.proofs.Common.{◌≡◌}
+use Rattle.mxf_views.proofs.Common.{◌≡◌}
 use Rattle.mxf_views.specs.Copies.{sets_of}
 use Rattle.mxf_tracks.specs.Walk.{tracks_from}
 use Rattle.mxf_tracks.proofs.WalkLaws.{behind}

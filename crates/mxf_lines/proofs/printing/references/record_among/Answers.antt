@@ -1,6 +1,6 @@
 use Rattle.std.proofs.Common.{◌≡◌, ◌∙◌, None, Some, IfNone, IfSome, ap, refl, sym}
 use Rattle.std.specs.Option.{option_copied}
-use Rattle.mxf_findings.specs.declared.reference.target.Target.TheVariants as targets
+use Rattle.mxf_references.specs.declared.reference.target.Target.TheVariants as targets
 use Rattle.mxf_lines.specs.ReferenceLines.{IsNotAmong, found_record}
 use Rattle.mxf_lines.proofs.printing.references.record_among.Goals as goal
 

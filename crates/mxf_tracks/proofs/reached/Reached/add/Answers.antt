@@ -1,4 +1,4 @@
-use Rattle.mxf_findings.proofs.Common.{◌∙◌, ap}
+use Rattle.mxf_views.proofs.Common.{◌∙◌, ap}
 use Rattle.mxf_tracks.specs.Targets.{with_reached}
 use Rattle.mxf_tracks.proofs.ReachedLaws.{inserted}
 use Rattle.mxf_tracks.proofs.reached.Reached.add.Goals as goal

@@ -1,5 +1,0 @@
-use Rattle.mxf_findings.proofs.ResolvedLaws.{resolved_iff}
-use Rattle.mxf_findings.proofs.reference.resolved.resolved_by_definition.Goals as goal
-
-pub returns : goal.returns
-returns c = resolved_iff
