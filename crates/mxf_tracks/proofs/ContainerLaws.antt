@@ -1,10 +1,10 @@
 -- What is kept of the containers that sets name, with one more set.
 use Rattle.std.proofs.Common.{◌≡◌, ◌∙◌, ℕ, Bool, true, false, cond, List, [], ◌∷◌, ◌++◌, Option, Some, None, refl, ap}
-use Rattle.std.proofs.Common.{sym, subst, Less, Equal, Greater, nat_cmp}
+use Rattle.std.proofs.Common.{sym, Less, Equal, Greater, nat_cmp}
 use Rattle.std.specs.BTreeMap.{BTreeMap, get, is_at}
 use Rattle.std.specs.Cmp.Lexicographic.{nat_list_cmp_total, slice_cmp}
-use Rattle.std.specs.FinSet.{slice_cmp-IsAntisymmetric, nat_cmp-IsAntisymmetric}
-use Rattle.std.specs.List.{filter_map, list_all, cons_option}
+use Rattle.std.specs.FinSet.{slice_cmp-IsAntisymmetric}
+use Rattle.std.specs.List.{list_all, cons_option}
 use Rattle.std.specs.Option.{option_and_then}
 use Rattle.std.specs.Ordering.{is_eq}
 use Rattle.std.specs.Prelude.{◌&&◌}
@@ -17,7 +17,7 @@ use Rattle.mxf_klv.specs.Parts.{NoteParts}
 use Rattle.mxf_sets.specs.ContainerData.{ContainerDataParts}
 use Rattle.mxf_tracks.specs.declared.container.Container.{Container}
 use Rattle.mxf_tracks.specs.Containers.{AreContainersOf, container_data_in, is_same, kept_of, named_by, named_for}
-use Rattle.mxf_tracks.specs.Containers.{only_one, streams_for, with_container}
+use Rattle.mxf_tracks.specs.Containers.{streams_for, with_container}
 
 -- Identifiers compare alike where they have the same bytes.
 pub same_test : (a b : List ℕ) → is_eq (slice_cmp nat_cmp a b) ≡ bytes_eq a b

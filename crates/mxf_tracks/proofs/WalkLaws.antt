@@ -1,5 +1,5 @@
 -- Lists that the walk finds, in parts.
-use Rattle.mxf_views.proofs.Common.{◌≡◌, ◌∙◌, List, ◌∷◌, [], ◌++◌, ap, append_assoc}
+use Rattle.mxf_views.proofs.Common.{◌≡◌, List, ◌∷◌, [], ◌++◌, ap, append_assoc}
 
 -- A list and what comes with it, behind others.
 abbrev pub behind : {A B : Type 0} → List A → List A × B → List A × B

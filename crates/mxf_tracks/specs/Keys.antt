@@ -1,7 +1,6 @@
 -- The keys of the sets that are read as records of tracks, and the labels of what sequences hold (ST 377-1; RP 224 and
 -- ST 400, data definitions). Bytes of a key or a label are counted from 1, and byte 8, the version, decides nothing.
-use Rattle.std.specs.Prelude.{ℕ, Bool, true, ◌&&◌, ◌||◌, ◌==◌, if◌then◌else◌, List, [], ◌∷◌, ◌++◌, take, drop}
-use Rattle.std.specs.Prelude.{slice_index}
+use Rattle.std.specs.Prelude.{ℕ, Bool, true, ◌&&◌, ◌||◌, if◌then◌else◌, List, [], ◌∷◌, take, drop}
 use Rattle.std.specs.Str.{bytes_eq}
 use Rattle.mxf_tracks.specs.declared.target.Wanted.{Wanted}
 use Rattle.mxf_tracks.specs.declared.target.Wanted.TheVariants as wanted

@@ -23,7 +23,6 @@ use Rattle.mxf_tracks.specs.declared.component.Component.{Component}
 use Rattle.mxf_tracks.specs.declared.component.Part.{Part}
 use Rattle.mxf_tracks.specs.declared.component.Part.TheVariants.{Clip, Timecode, Filler}
 use Rattle.mxf_tracks.specs.declared.descriptor.DescriptorAt.{DescriptorAt}
-use Rattle.mxf_tracks.specs.declared.descriptor.FoundDescriptor.{FoundDescriptor}
 use Rattle.mxf_tracks.specs.declared.descriptor.SubdescriptorAt.{SubdescriptorAt}
 use Rattle.mxf_tracks.specs.declared.package.FoundPackage.{FoundPackage}
 use Rattle.mxf_tracks.specs.declared.package.PackageAt.{PackageAt}
@@ -34,7 +33,6 @@ use Rattle.mxf_tracks.specs.declared.sequence.FoundSequence.{FoundSequence}
 use Rattle.mxf_tracks.specs.declared.target.Target.{Target}
 use Rattle.mxf_tracks.specs.declared.target.Target.TheVariants.{Missing, Several, WrongKind, Again, Found, Unreadable}
 use Rattle.mxf_tracks.specs.declared.target.Wanted.TheVariants as wanted
-use Rattle.mxf_tracks.specs.declared.track.FoundTrack.{FoundTrack}
 use Rattle.mxf_tracks.specs.declared.track.TrackAt.{TrackAt}
 use Rattle.mxf_tracks.specs.Keys.{is_clip, is_timecode, sequence_kind}
 use Rattle.mxf_tracks.specs.Containers.{container_of}

@@ -9,6 +9,7 @@ mod component;
 mod container;
 mod descriptor;
 mod keys;
+pub mod laws;
 mod package;
 mod reached;
 mod sequence;

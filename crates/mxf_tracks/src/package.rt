@@ -1,10 +1,14 @@
 //! Packages.
-ghost use Rattle.std.specs.Prelude.{◌≡◌, ◌==◌, [], find, IfOk};
+ghost use Rattle.std.specs.Prelude.{◌≡◌, ◌==◌, List, [], find, IfOk};
+ghost use Rattle.mxf_klv.specs.Parts.{NoteParts};
+ghost use Rattle.std.specs.List.{AllByRecursion};
 ghost use Rattle.mxf_catalogue.specs.Disputes.{clear_notes};
 ghost use Rattle.mxf_klv.specs.Kind.{kind_of};
-ghost use Rattle.mxf_references.specs.Resolved.{resolved_of};
+ghost use Rattle.mxf_references.specs.Resolved.{ResolvedParts, resolved_of};
 ghost use Rattle.mxf_views.specs.Copies.{sets_of};
 ghost use Rattle.mxf_tracks.specs.Containers.{AreContainersOf};
+ghost use Rattle.mxf_tracks.specs.FoundSets.{IsPackageThere};
+ghost use Rattle.mxf_tracks.specs.Once.{AreOnce, read_of_packages};
 ghost use Rattle.mxf_tracks.specs.Walk.{found_package, package_by, package_in, package_kind, package_of, packages_from};
 ghost use Rattle.mxf_tracks.specs.Walk.{package_there, target_unfollowed, tracks_from_resolved, tracks_in};
 
@@ -233,3 +237,15 @@ pub fn preferred_tracks(alloc: Global, views: &Views) -> Result<Tracks<'_>, OutO
         }),
     }
 }
+
+/// A law of [`Tracks::of`]: no set is read for two references, whatever lists repeat.
+pub fn each_set_is_read_once()
+    ensures { (notes : List NoteParts) (r : ResolvedParts) → AreOnce (read_of_packages (tracks_in notes r)) }
+{}
+
+/// A law of [`Tracks::of`]: there is a record exactly where a target is found, and it is what the set there is read as,
+/// a set of the copy with the key that the reference wants.
+pub fn what_is_found_is_read_there()
+    ensures { (notes : List NoteParts) (r : ResolvedParts)
+        → AllByRecursion (IsPackageThere (clear_notes notes) (sets_of notes r.partition)) (tracks_in notes r) }
+{}

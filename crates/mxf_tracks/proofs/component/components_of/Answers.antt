@@ -1,11 +1,8 @@
-use Rattle.std.proofs.Common.{◌≡◌, ◌∙◌, ◌+◌, ◌*◌, ◌^◌, ◌<◌, ◌≤◌, ◌++◌, ◌∷◌, [], ℕ, List, Option, Some, ap, sym, subst}
-use Rattle.std.proofs.Common.{length, length-append, rules}
+use Rattle.std.proofs.Common.{◌≡◌, ◌∙◌, ◌+◌, ◌^◌, ◌<◌, ◌∷◌, [], ℕ, Option, ap, sym, subst, length, length-append, rules}
 use Rattle.std.specs.Prelude.{IfSome}
 use Rattle.mxf_views.specs.Copies.{sets_of}
-use Rattle.mxf_tracks.specs.declared.component.Component.{Component}
-use Rattle.mxf_tracks.specs.Walk.{components_from, end_of_part}
+use Rattle.mxf_tracks.specs.Walk.{end_of_part}
 use Rattle.mxf_tracks.proofs.ComponentLaws.{next_room, parts_kept, room, start_kept}
-use Rattle.mxf_tracks.proofs.WalkLaws.{behind}
 use Rattle.mxf_tracks.proofs.component.components_of.Goals as goal
 
 pub end_of-start-requires : goal.end_of-start-requires

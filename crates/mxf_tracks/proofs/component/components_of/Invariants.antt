@@ -1,6 +1,5 @@
 use Rattle.std.proofs.Common.{◌≡◌, ℕ, ◌*◌, ◌^◌, ◌≤◌, List, Option, Some, length}
 use Rattle.std.specs.Prelude.{IfSome}
-use Rattle.mxf_klv.specs.Parts.{NoteParts}
 use Rattle.mxf_views.specs.Copies.{sets_of}
 use Rattle.mxf_tracks.specs.declared.component.Component.{Component}
 use Rattle.mxf_tracks.specs.Walk.{components_from}
