@@ -12,7 +12,7 @@ use Rattle.std.specs.Str.{bytes_eq}
 use Rattle.std.proofs.lemmas.Cmp.{tied_itself}
 use Rattle.std.proofs.lemmas.List.Elements.{filter_map-append}
 use Rattle.std.proofs.lemmas.List.Folds.{list_all-append}
-use Rattle.mxf_views.proofs.Common.{bytes_eq-Decides, false_from_ne_true}
+use Rattle.mxf_views.proofs.Common.{nat_cmp-IsAntisymmetric, bytes_eq-Decides, false_from_ne_true}
 use Rattle.mxf_klv.specs.Parts.{NoteParts}
 use Rattle.mxf_sets.specs.ContainerData.{ContainerDataParts}
 use Rattle.mxf_tracks.specs.declared.container.Container.{Container}
