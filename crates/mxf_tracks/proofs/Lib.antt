@@ -4,3 +4,4 @@ pub mod FoundLaws
 pub mod OnceLaws
 pub mod ReachedLaws
 pub mod WalkLaws
+pub mod TimecodeLaws

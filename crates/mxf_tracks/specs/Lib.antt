@@ -4,3 +4,6 @@ pub mod Containers
 pub mod Walk
 pub mod Once
 pub mod FoundSets
+pub mod Timecodes
+pub mod Digits
+pub mod Lengths
