@@ -7,24 +7,25 @@ use Rattle.mxf_tracks.specs.declared.component.Component.{Component}
 use Rattle.mxf_tracks.specs.declared.component.Part.{Part}
 use Rattle.mxf_tracks.specs.declared.target.Target.{Target}
 use Rattle.mxf_tracks.specs.declared.target.Wanted.TheVariants as wanted
-use Rattle.mxf_tracks.specs.Targets.{set_of}
-use Rattle.mxf_tracks.specs.Walk.{component_by, component_of, components_from, end_of_part, part_in, read_component}
+use Rattle.mxf_tracks.specs.Targets.{set_of, with_reached}
+use Rattle.mxf_tracks.specs.Walk.{component_of, component_to, components_from, end_of_part, nothing_follows, part_in}
+use Rattle.mxf_tracks.specs.Walk.{read_step, step}
 use Rattle.mxf_tracks.proofs.WalkLaws.{behind, one_more}
 
-read_start : (start : Option ℕ) (offset : ℕ) (part : Option Part) → (read_component start offset part).start ≡ start
-read_start start offset None = refl
-read_start start offset (Some p) = refl
-
-by_start : (start : Option ℕ) (reached : List ℕ) (r : Result NoteParts Target)
-    → (component_by start reached r).0.start ≡ start
-by_start start reached (Err t) = refl
-by_start start reached (Ok n) = read_start start n.offset (part_in n)
+by_start : (start : Option ℕ) (uid reached : List ℕ) (r : Result NoteParts Target)
+    → (step (component_to start uid) part_in nothing_follows reached r).0.start ≡ start
+by_start start uid reached (Err t) = refl
+by_start start uid reached (Ok n) = elim (part_in n) as (λ p.
+    (read_step (component_to start uid) nothing_follows n.offset (with_reached n.offset reached) p).0.start ≡ start) [
+      | None ↦ refl
+      | Some p ↦ refl
+    ]
 
 -- A component begins where it is asked for.
 pub start_kept : (sets : List NoteParts) (start : Option ℕ) (reached uid : List ℕ)
     → (component_of sets start reached uid).0.start ≡ start
 unfolding component_of
-start_kept sets start reached uid = by_start start reached (set_of sets wanted.Component reached uid)
+start_kept sets start reached uid = by_start start uid reached (set_of sets wanted.Component reached uid)
 
 -- The first reference and those behind it.
 pub stepped : (sets : List NoteParts) (start : Option ℕ) (reached uid : List ℕ) (uids : List (List ℕ))

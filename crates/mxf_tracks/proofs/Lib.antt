@@ -2,6 +2,8 @@ pub mod ComponentLaws
 pub mod ContainerLaws
 pub mod FoundLaws
 pub mod OnceLaws
+pub mod OneTarget
+pub mod TargetLaws
 pub mod ReachedLaws
 pub mod WalkLaws
 pub mod TimecodeLaws

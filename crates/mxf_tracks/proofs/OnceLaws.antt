@@ -1,6 +1,6 @@
 -- A walk reads no set twice.
 use Rattle.std.proofs.Common.{◌≡◌, ℕ, Bool, true, false, cond, List, [], ◌∷◌, ◌++◌, Option, Some, None, refl, sym}
-use Rattle.std.proofs.Common.{subst, inl, inr}
+use Rattle.std.proofs.Common.{◌∙◌, ap, append-nil, flat_map, subst, inl, inr}
 use Rattle.std.specs.Option.{option_map_or}
 use Rattle.std.specs.Prelude.{Result, Ok, Err, not, filter, find, ◌==◌}
 use Rattle.mxf_views.proofs.Common.{In-append, nat_cmp_total, list_any-In, In, eq-eqb}
@@ -14,21 +14,29 @@ use Rattle.mxf_klv.specs.Kind.{kind_of}
 use Rattle.mxf_klv.specs.Parts.{NoteParts}
 use Rattle.mxf_klv.specs.Rising.{In-with_one}
 use Rattle.mxf_sets.specs.Package.{PackageParts}
+use Rattle.mxf_sets.specs.Descriptor.{DescriptorParts}
+use Rattle.mxf_tracks.specs.declared.component.Component.{Component}
+use Rattle.mxf_tracks.specs.declared.component.Part.{Part}
+use Rattle.mxf_tracks.specs.declared.descriptor.FoundDescriptor.{FoundDescriptor}
+use Rattle.mxf_tracks.specs.declared.descriptor.SubdescriptorAt.{SubdescriptorAt}
+use Rattle.mxf_tracks.specs.declared.sequence.FoundSequence.{FoundSequence}
 use Rattle.mxf_tracks.specs.declared.target.Target.{Target}
-use Rattle.mxf_tracks.specs.declared.target.Target.TheVariants.{WrongKind, Other, Again}
+use Rattle.mxf_tracks.specs.declared.target.Target.TheVariants.{Found, Unreadable, WrongKind, Other, Again}
 use Rattle.mxf_tracks.specs.declared.target.Wanted.{Wanted}
 use Rattle.mxf_tracks.specs.declared.target.Wanted.TheVariants as wanted
+use Rattle.mxf_tracks.specs.declared.track.FoundTrack.{FoundTrack}
 use Rattle.mxf_tracks.specs.Keys.{fits}
 use Rattle.mxf_tracks.specs.Once.{AreOnce, read_for, read_of_components, read_of_descriptor, read_of_found}
 use Rattle.mxf_tracks.specs.Once.{read_of_package, read_of_packages, read_of_sequence, read_of_subdescriptors}
 use Rattle.mxf_tracks.specs.Once.{read_of_track, read_of_tracks}
 use Rattle.mxf_tracks.specs.Targets.{is_raw, is_reached, set_among, set_at, set_of, with_reached}
-use Rattle.mxf_tracks.specs.Walk.{component_by, component_of, components_from, descriptor_by, descriptor_in}
-use Rattle.mxf_tracks.specs.Walk.{descriptor_named, descriptor_of, end_of_part, found_package, package_by, package_in}
-use Rattle.mxf_tracks.specs.Walk.{package_of, package_there, packages_from, part_in, unfollowed, read_component}
-use Rattle.mxf_tracks.specs.Walk.{read_descriptor, read_package, read_sequence, read_subdescriptor, read_track}
-use Rattle.mxf_tracks.specs.Walk.{sequence_by, sequence_in, sequence_of, subdescriptor_by, subdescriptor_of}
-use Rattle.mxf_tracks.specs.Walk.{subdescriptors_from, track_by, track_in, track_of, tracks_from}
+use Rattle.mxf_tracks.specs.Walk.{component_of, component_to, components_from, descriptor_in, descriptor_named}
+use Rattle.mxf_tracks.specs.Walk.{descriptor_of, descriptor_to, end_of_part, found_descriptor, found_package}
+use Rattle.mxf_tracks.specs.Walk.{found_sequence, found_track, nothing_follows, package_by, package_in, package_of}
+use Rattle.mxf_tracks.specs.Walk.{package_there, package_to, packages_from, part_in, read_step, sequence_in}
+use Rattle.mxf_tracks.specs.Walk.{sequence_of}
+use Rattle.mxf_tracks.specs.Walk.{sequence_to, step, steps, subdescriptor_of, subdescriptor_to, track_in, track_of}
+use Rattle.mxf_tracks.specs.Walk.{track_to, tracks_from, unfollowed}
 
 -- Where some were reached, a part of the walk reads these, each new, and all of both are reached behind it.
 pub record Goes (reached read after : List ℕ) : Type 0 where
@@ -72,7 +80,7 @@ abbrev pub StepSays : List ℕ → Result NoteParts Target → Type 0
 StepSays reached (Err t) = read_for t ≡ []
 StepSays reached (Ok n) = ¬ In n.offset reached
 
-not_reached : (o : ℕ) (reached : List ℕ) → is_reached o reached ≡ false → ¬ In o reached
+pub not_reached : (o : ℕ) (reached : List ℕ) → is_reached o reached ≡ false → ¬ In o reached
 not_reached o [] e h = h
 not_reached o (r ∷ rs) e h =
     let found = (list_any-In (λ x. x == o) (r ∷ rs)).1 (o, h, eq-eqb o o refl) in cc (found, e)
@@ -98,28 +106,51 @@ step_says : (sets : List NoteParts) (w : Wanted) (reached uid : List ℕ) → St
 unfolding set_of
 step_says sets w reached uid = among_says w reached (filter (has_uid uid) sets)
 
--- A target of which nothing is read.
-stopped : (t : Target) (reached : List ℕ) → read_for t ≡ [] → Goes reached (read_for t) reached
-stopped t reached e = subst (λ (os : List ℕ). Goes reached os reached) (sym e) (none_read reached)
+-- A step reads its set, and what is below it.
+step_goes : {A F R : Type 0} (reads : R → List ℕ) (under : F → List ℕ) (make : Target → Option F → R)
+    (read : NoteParts → Option A) (follow : List ℕ → A → F × List ℕ) (reached : List ℕ) (r : Result NoteParts Target)
+    → StepSays reached r
+    → ((t : Target) (f : Option F) → reads (make t f) ≡ read_for t ++ option_map_or under f [])
+    → ((after : List ℕ) (a : A) → Goes after (under (follow after a).0) (follow after a).1)
+    → Goes reached (reads (step make read follow reached r).0) (step make read follow reached r).1
+step_goes reads under make read follow reached (Err t) e says go =
+    let none : reads (make t None) ≡ [] = says t None ∙ ap (λ (os : List ℕ). os ++ []) e in
+    subst (λ (os : List ℕ). Goes reached os reached) (sym none) (none_read reached)
+step_goes {A} {F} {R} reads under make read follow reached (Ok n) e says go =
+    let o = n.offset in
+    let after = with_reached o reached in
+    elim (read n) as (λ (v : Option A). Goes reached (reads (read_step make follow o after v).0)
+    (read_step make follow o after v).1) [
+      | None ↦ subst (λ (os : List ℕ). Goes reached os after) (sym (says (Unreadable o) None)) (one_read o reached e)
+      | Some a ↦
+          let below = follow after a in
+          subst (λ (os : List ℕ). Goes reached os below.1) (sym (says (Found o) (Some below.0)))
+          (both_read reached (o ∷ []) after (under below.0) below.1 (one_read o reached e) (go after a))
+    ]
 
--- The same with nothing below.
-stopped_here : (t : Target) (reached : List ℕ) → read_for t ≡ [] → Goes reached (read_for t ++ []) reached
-stopped_here t reached e = subst (λ (os : List ℕ). Goes reached (os ++ []) reached) (sym e) (none_read reached)
+steps_go : {U R : Type 0} (reads : R → List ℕ) (one : List ℕ → U → R × List ℕ)
+    → ((reached : List ℕ) (u : U) → Goes reached (reads (one reached u).0) (one reached u).1) → (reached : List ℕ)
+    → (us : List U) → Goes reached (flat_map reads (steps one reached us).0) (steps one reached us).1
+steps_go reads one goes reached [] = none_read reached
+steps_go reads one goes reached (u ∷ us) =
+    let first = one reached u in
+    let others = steps one first.1 us in
+    both_read reached (reads first.0) first.1 (flat_map reads others.0) others.1 (goes reached u)
+    (steps_go reads one goes first.1 us)
+
+-- Nothing below.
+alone : {F : Type 0} (t : Target) (f : Option F) → read_for t ≡ read_for t ++ option_map_or (λ (v : F). []) f []
+alone t None = sym (append-nil (read_for t))
+alone t (Some v) = sym (append-nil (read_for t))
 
 -- ---- components
-
-component_goes : (start : Option ℕ) (reached : List ℕ) (r : Result NoteParts Target) → StepSays reached r
-    → Goes reached (read_for (component_by start reached r).0.target) (component_by start reached r).1
-component_goes start reached (Err t) e = stopped t reached e
-component_goes start reached (Ok n) e =
-    elim (part_in n) as (λ p. Goes reached (read_for (read_component start n.offset p).target)
-    (with_reached n.offset reached)) [ None ↦ one_read n.offset reached e | Some p ↦ one_read n.offset reached e ]
 
 one_component : (sets : List NoteParts) (start : Option ℕ) (reached uid : List ℕ)
     → Goes reached (read_for (component_of sets start reached uid).0.target) (component_of sets start reached uid).1
 unfolding component_of
-one_component sets start reached uid = component_goes start reached (set_of sets wanted.Component reached uid)
-    (step_says sets wanted.Component reached uid)
+one_component sets start reached uid = step_goes (λ (c : Component). read_for c.target) (λ (p : Part). [])
+    (component_to start uid) part_in nothing_follows reached (set_of sets wanted.Component reached uid)
+    (step_says sets wanted.Component reached uid) (λ t f. alone t f) (λ after p. none_read after)
 
 components_go : (sets : List NoteParts) (start : Option ℕ) (reached : List ℕ) (uids : List (List ℕ))
     → Goes reached (read_of_components (components_from sets start reached uids).0)
@@ -132,106 +163,38 @@ components_go sets start reached (uid ∷ uids) =
     both_read reached (read_for one.0.target) one.1 (read_of_components others.0) others.1
     (one_component sets start reached uid) (components_go sets next one.1 uids)
 
--- ---- sequences
-
-sequence_goes : (sets : List NoteParts) (reached : List ℕ) (r : Result NoteParts Target) → StepSays reached r
-    → Goes reached (read_of_sequence (sequence_by sets reached r).0) (sequence_by sets reached r).1
-sequence_goes sets reached (Err t) e = stopped_here t reached e
-sequence_goes sets reached (Ok n) e =
-    let o = n.offset in
-    let after = with_reached o reached in
-    elim (sequence_in n) as (λ s. Goes reached (read_of_sequence (read_sequence sets o after s).0)
-    (read_sequence sets o after s).1) [
-      | None ↦ one_read o reached e
-      | Some s ↦
-          let below = components_from sets (Some 0) after s.components in
-          both_read reached (o ∷ []) after (read_of_components below.0) below.1 (one_read o reached e)
-          (components_go sets (Some 0) after s.components)
-    ]
+-- ---- sequences, tracks and descriptors
 
 one_sequence : (sets : List NoteParts) (reached uid : List ℕ)
     → Goes reached (read_of_sequence (sequence_of sets reached uid).0) (sequence_of sets reached uid).1
 unfolding sequence_of
-one_sequence sets reached uid =
-    sequence_goes sets reached (set_of sets wanted.Sequence reached uid) (step_says sets wanted.Sequence reached uid)
-
--- ---- tracks
-
-track_goes : (sets : List NoteParts) (reached : List ℕ) (r : Result NoteParts Target) → StepSays reached r
-    → Goes reached (read_of_track (track_by sets reached r).0) (track_by sets reached r).1
-track_goes sets reached (Err t) e = stopped_here t reached e
-track_goes sets reached (Ok n) e =
-    let o = n.offset in
-    let after = with_reached o reached in
-    elim (track_in n) as (λ t. Goes reached (read_of_track (read_track sets o after t).0)
-    (read_track sets o after t).1) [
-      | None ↦ one_read o reached e
-      | Some t ↦
-          let below = sequence_of sets after t.sequence in
-          both_read reached (o ∷ []) after (read_of_sequence below.0) below.1 (one_read o reached e)
-          (one_sequence sets after t.sequence)
-    ]
+one_sequence sets reached uid = step_goes read_of_sequence (λ (f : FoundSequence). read_of_components f.components)
+    (sequence_to uid) sequence_in (found_sequence sets) reached (set_of sets wanted.Sequence reached uid)
+    (step_says sets wanted.Sequence reached uid) (λ t f. refl)
+    (λ after s. components_go sets (Some 0) after s.components)
 
 one_track : (sets : List NoteParts) (reached uid : List ℕ)
     → Goes reached (read_of_track (track_of sets reached uid).0) (track_of sets reached uid).1
 unfolding track_of
-one_track sets reached uid =
-    track_goes sets reached (set_of sets wanted.Track reached uid) (step_says sets wanted.Track reached uid)
+one_track sets reached uid = step_goes read_of_track (λ (f : FoundTrack). read_of_sequence f.sequence) (track_to uid)
+    track_in (found_track sets) reached (set_of sets wanted.Track reached uid)
+    (step_says sets wanted.Track reached uid) (λ t f. refl) (λ after t. one_sequence sets after t.sequence)
 
-tracks_go : (sets : List NoteParts) (reached : List ℕ) (uids : List (List ℕ))
-    → Goes reached (read_of_tracks (tracks_from sets reached uids).0) (tracks_from sets reached uids).1
-tracks_go sets reached [] = none_read reached
-tracks_go sets reached (uid ∷ uids) =
-    let one = track_of sets reached uid in
-    let others = tracks_from sets one.1 uids in
-    both_read reached (read_of_track one.0) one.1 (read_of_tracks others.0) others.1 (one_track sets reached uid)
-    (tracks_go sets one.1 uids)
-
--- ---- descriptors
-
-subdescriptor_goes : (reached : List ℕ) (r : Result NoteParts Target) → StepSays reached r
-    → Goes reached (read_for (subdescriptor_by reached r).0.target) (subdescriptor_by reached r).1
-subdescriptor_goes reached (Err t) e = stopped t reached e
-subdescriptor_goes reached (Ok n) e =
-    elim (descriptor_in n) as (λ d. Goes reached (read_for (read_subdescriptor n.offset d).target)
-    (with_reached n.offset reached)) [ None ↦ one_read n.offset reached e | Some d ↦ one_read n.offset reached e ]
-
-one_subdescriptor : (sets : List NoteParts) (reached uid : List ℕ)
+one_part : (sets : List NoteParts) (reached uid : List ℕ)
     → Goes reached (read_for (subdescriptor_of sets reached uid).0.target) (subdescriptor_of sets reached uid).1
 unfolding subdescriptor_of
-one_subdescriptor sets reached uid = subdescriptor_goes reached (set_of sets wanted.Descriptor reached uid)
-    (step_says sets wanted.Descriptor reached uid)
-
-subdescriptors_go : (sets : List NoteParts) (reached : List ℕ) (uids : List (List ℕ))
-    → Goes reached (read_of_subdescriptors (subdescriptors_from sets reached uids).0)
-    (subdescriptors_from sets reached uids).1
-subdescriptors_go sets reached [] = none_read reached
-subdescriptors_go sets reached (uid ∷ uids) =
-    let one = subdescriptor_of sets reached uid in
-    let others = subdescriptors_from sets one.1 uids in
-    both_read reached (read_for one.0.target) one.1 (read_of_subdescriptors others.0) others.1
-    (one_subdescriptor sets reached uid) (subdescriptors_go sets one.1 uids)
-
-descriptor_goes : (sets : List NoteParts) (reached : List ℕ) (r : Result NoteParts Target) → StepSays reached r
-    → Goes reached (read_of_descriptor (descriptor_by sets reached r).0) (descriptor_by sets reached r).1
-descriptor_goes sets reached (Err t) e = stopped_here t reached e
-descriptor_goes sets reached (Ok n) e =
-    let o = n.offset in
-    let after = with_reached o reached in
-    elim (descriptor_in n) as (λ d. Goes reached (read_of_descriptor (read_descriptor sets o after d).0)
-    (read_descriptor sets o after d).1) [
-      | None ↦ one_read o reached e
-      | Some d ↦
-          let below = subdescriptors_from sets after d.subdescriptors in
-          both_read reached (o ∷ []) after (read_of_subdescriptors below.0) below.1 (one_read o reached e)
-          (subdescriptors_go sets after d.subdescriptors)
-    ]
+one_part sets reached uid = step_goes (λ (d : SubdescriptorAt). read_for d.target) (λ (d : DescriptorParts). [])
+    (subdescriptor_to uid) descriptor_in nothing_follows reached (set_of sets wanted.Descriptor reached uid)
+    (step_says sets wanted.Descriptor reached uid) (λ t f. alone t f) (λ after d. none_read after)
 
 one_descriptor : (sets : List NoteParts) (reached uid : List ℕ)
     → Goes reached (read_of_descriptor (descriptor_of sets reached uid).0) (descriptor_of sets reached uid).1
 unfolding descriptor_of
-one_descriptor sets reached uid = descriptor_goes sets reached (set_of sets wanted.Descriptor reached uid)
-    (step_says sets wanted.Descriptor reached uid)
+one_descriptor sets reached uid =
+    step_goes read_of_descriptor (λ (f : FoundDescriptor). read_of_subdescriptors f.subdescriptors)
+    (descriptor_to uid) descriptor_in (found_descriptor sets) reached (set_of sets wanted.Descriptor reached uid)
+    (step_says sets wanted.Descriptor reached uid) (λ t f. refl) (λ after d. steps_go
+    (λ (p : SubdescriptorAt). read_for p.target) (subdescriptor_of sets) (one_part sets) after d.subdescriptors)
 
 -- ---- packages
 
@@ -239,7 +202,7 @@ found_goes : (sets : List NoteParts) (reached : List ℕ) (kind : Kind) (p : Pac
     → Goes reached (read_of_found (found_package sets reached kind p).0) (found_package sets reached kind p).1
 found_goes sets reached kind p =
     let tracks = tracks_from sets reached p.tracks in
-    let above = tracks_go sets reached p.tracks in
+    let above = steps_go read_of_track (track_of sets) (one_track sets) reached p.tracks in
     elim p.descriptor as (λ d. Goes reached
     (read_of_tracks tracks.0 ++ option_map_or read_of_descriptor (descriptor_named sets tracks.1 d).0 [])
     (descriptor_named sets tracks.1 d).1) [
@@ -259,15 +222,16 @@ passed_by o reached = record {
   noted = λ z h. absurd h;
 }
 
-there_goes : (sets : List NoteParts) (o : ℕ) (reached : List ℕ) (n : Option NoteParts) → ¬ In o reached
-    → Goes reached (read_of_package (package_there sets o (with_reached o reached) n).0)
-    (package_there sets o (with_reached o reached) n).1
-there_goes sets o reached None e = passed_by o reached
-there_goes sets o reached (Some n) e =
+there_goes : (sets : List NoteParts) (uid : List ℕ) (o : ℕ) (reached : List ℕ) (n : Option NoteParts)
+    → ¬ In o reached → Goes reached (read_of_package (package_there sets uid o (with_reached o reached) n).0)
+    (package_there sets uid o (with_reached o reached) n).1
+there_goes sets uid o reached None e = passed_by o reached
+there_goes sets uid o reached (Some n) e =
     let after = with_reached o reached in
     let kind = kind_of n.key in
-    elim (package_in n) as (λ p. Goes reached (read_of_package (read_package sets o after kind p).0)
-    (read_package sets o after kind p).1) [
+    elim (package_in n) as (λ p. Goes reached (read_of_package
+    (read_step (package_to uid) (λ a q. found_package sets a kind q) o after p).0)
+    (read_step (package_to uid) (λ a q. found_package sets a kind q) o after p).1) [
       | None ↦ passed_by o reached
       | Some p ↦
           let found = found_package sets after kind p in
@@ -275,32 +239,28 @@ there_goes sets o reached (Some n) e =
           (found_goes sets after kind p)
     ]
 
-package_goes : (clear sets : List NoteParts) (reached : List ℕ) (t : ResolvedTarget)
-    → Goes reached (read_of_package (package_by clear sets reached t).0) (package_by clear sets reached t).1
-package_goes clear sets reached resolved.Missing = none_read reached
-package_goes clear sets reached resolved.Several = none_read reached
-package_goes clear sets reached (resolved.WrongKind o) = none_read reached
-package_goes clear sets reached (resolved.Unreadable o) = none_read reached
-package_goes clear sets reached (resolved.Found o) =
-    let there = package_there sets o (with_reached o reached) (find (λ n. n.offset == o) clear) in
+package_goes : (clear sets : List NoteParts) (uid reached : List ℕ) (t : ResolvedTarget)
+    → Goes reached (read_of_package (package_by clear sets uid reached t).0) (package_by clear sets uid reached t).1
+package_goes clear sets uid reached resolved.Missing = none_read reached
+package_goes clear sets uid reached resolved.Several = none_read reached
+package_goes clear sets uid reached (resolved.WrongKind o) = none_read reached
+package_goes clear sets uid reached (resolved.Unreadable o) = none_read reached
+package_goes clear sets uid reached (resolved.Found o) =
+    let there = package_there sets uid o (with_reached o reached) (find (λ n. n.offset == o) clear) in
     elim (is_reached o reached) as (λ b. is_reached o reached ≡ b
-    → Goes reached (read_of_package (cond b (unfollowed (resolved.Found o), reached) there).0)
-    (cond b (unfollowed (resolved.Found o), reached) there).1) [
+    → Goes reached (read_of_package (cond b (unfollowed uid (resolved.Found o), reached) there).0)
+    (cond b (unfollowed uid (resolved.Found o), reached) there).1) [
       | true ↦ λ e. none_read reached
-      | false ↦ λ e. there_goes sets o reached (find (λ n. n.offset == o) clear) (not_reached o reached e)
+      | false ↦ λ e. there_goes sets uid o reached (find (λ n. n.offset == o) clear) (not_reached o reached e)
     ] refl
 
 one_package : (clear sets : List NoteParts) (reached : List ℕ) (r : Ref)
     → Goes reached (read_of_package (package_of clear sets reached r).0) (package_of clear sets reached r).1
 unfolding package_of
-one_package clear sets reached r = package_goes clear sets reached r.target
+one_package clear sets reached r = package_goes clear sets r.uid reached r.target
 
 pub packages_go : (clear sets : List NoteParts) (reached : List ℕ) (refs : List Ref)
     → Goes reached (read_of_packages (packages_from clear sets reached refs).0)
     (packages_from clear sets reached refs).1
-packages_go clear sets reached [] = none_read reached
-packages_go clear sets reached (r ∷ refs) =
-    let one = package_of clear sets reached r in
-    let others = packages_from clear sets one.1 refs in
-    both_read reached (read_of_package one.0) one.1 (read_of_packages others.0) others.1
-    (one_package clear sets reached r) (packages_go clear sets one.1 refs)
+packages_go clear sets reached refs =
+    steps_go read_of_package (package_of clear sets) (one_package clear sets) reached refs

@@ -1,6 +1,7 @@
--- What is found by a walk: of each target, and of each record, that it is that of a set of the copy.
-use Rattle.std.specs.Prelude.{◌≡◌, ℕ, Bool, true, false, IsTrue, List, MatchOption, Option, Result}
+-- What is found by a walk: each record is that of a set of the copy, and what it names are the references behind it.
+use Rattle.std.specs.Prelude.{◌≡◌, ℕ, Bool, true, false, IsTrue, List, map, MatchOption, Option, Result}
 use Rattle.std.specs.List.{AllByRecursion}
+use Rattle.std.specs.Option.{option_map}
 use Rattle.mxf_klv.specs.Parts.{NoteParts}
 use Rattle.mxf_klv.specs.Rising.{In}
 use Rattle.mxf_sets.specs.Component.{clip_at, timecode_at, filler_at}
@@ -60,6 +61,7 @@ pub record IsSequenceOf (sets : List NoteParts) (target : Target) (f : FoundSequ
   pub there : IsReadThere sets is_sequence sequence_at target sequence
   pub kind : f.kind ≡ sequence_kind sequence.data_definition
   pub duration : f.duration ≡ sequence.duration
+  pub named : map (λ c. c.uid) f.components ≡ sequence.components
   pub components : AllByRecursion (IsComponentThere sets) f.components
 
 abbrev pub IsSequenceThere : List NoteParts → SequenceAt → Type 0
@@ -68,6 +70,7 @@ IsSequenceThere sets s = IsSoWhereFound s.target s.found (IsSequenceOf sets s.ta
 -- A track, with its sequence.
 pub record IsTrackOf (sets : List NoteParts) (target : Target) (f : FoundTrack) : Type 0 where
   pub there : IsReadThere sets is_track track_at target f.track
+  pub named : f.sequence.uid ≡ f.track.sequence
   pub sequence : IsSequenceThere sets f.sequence
 
 abbrev pub IsTrackThere : List NoteParts → TrackAt → Type 0
@@ -79,6 +82,7 @@ IsSubdescriptorThere sets d = IsSoWhereFound d.target d.found (IsReadThere sets 
 -- A descriptor, with those of its parts.
 pub record IsDescriptorOf (sets : List NoteParts) (target : Target) (f : FoundDescriptor) : Type 0 where
   pub there : IsReadThere sets any_key descriptor_at target f.descriptor
+  pub named : map (λ d. d.uid) f.subdescriptors ≡ f.descriptor.subdescriptors
   pub parts : AllByRecursion (IsSubdescriptorThere sets) f.subdescriptors
 
 abbrev pub IsDescriptorThere : List NoteParts → DescriptorAt → Type 0
@@ -87,7 +91,9 @@ IsDescriptorThere sets d = IsSoWhereFound d.target d.found (IsDescriptorOf sets 
 -- A package of the clear notes, with its tracks and its descriptor, which are those of sets.
 pub record IsPackageOf (clear sets : List NoteParts) (target : Target) (f : FoundPackage) : Type 0 where
   pub there : IsReadThere clear any_key package_at target f.properties
+  pub tracks_named : map (λ t. t.uid) f.tracks ≡ f.properties.tracks
   pub tracks : AllByRecursion (IsTrackThere sets) f.tracks
+  pub descriptor_named : option_map (λ d. d.uid) f.descriptor ≡ f.properties.descriptor
   pub descriptor : MatchOption f.descriptor (Unit {0}) (IsDescriptorThere sets)
 
 abbrev pub IsPackageThere : List NoteParts → List NoteParts → PackageAt → Type 0

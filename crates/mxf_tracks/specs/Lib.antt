@@ -4,6 +4,7 @@ pub mod Containers
 pub mod Walk
 pub mod Once
 pub mod FoundSets
+pub mod References
 pub mod Timecodes
 pub mod Digits
 pub mod Lengths

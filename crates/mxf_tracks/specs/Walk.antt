@@ -23,6 +23,7 @@ use Rattle.mxf_tracks.specs.declared.component.Component.{Component}
 use Rattle.mxf_tracks.specs.declared.component.Part.{Part}
 use Rattle.mxf_tracks.specs.declared.component.Part.TheVariants.{Clip, Timecode, Filler}
 use Rattle.mxf_tracks.specs.declared.descriptor.DescriptorAt.{DescriptorAt}
+use Rattle.mxf_tracks.specs.declared.descriptor.FoundDescriptor.{FoundDescriptor}
 use Rattle.mxf_tracks.specs.declared.descriptor.SubdescriptorAt.{SubdescriptorAt}
 use Rattle.mxf_tracks.specs.declared.package.FoundPackage.{FoundPackage}
 use Rattle.mxf_tracks.specs.declared.package.PackageAt.{PackageAt}
@@ -33,10 +34,38 @@ use Rattle.mxf_tracks.specs.declared.sequence.FoundSequence.{FoundSequence}
 use Rattle.mxf_tracks.specs.declared.target.Target.{Target}
 use Rattle.mxf_tracks.specs.declared.target.Target.TheVariants.{Missing, Several, WrongKind, Again, Found, Unreadable}
 use Rattle.mxf_tracks.specs.declared.target.Wanted.TheVariants as wanted
+use Rattle.mxf_tracks.specs.declared.track.FoundTrack.{FoundTrack}
 use Rattle.mxf_tracks.specs.declared.track.TrackAt.{TrackAt}
 use Rattle.mxf_tracks.specs.Keys.{is_clip, is_timecode, sequence_kind}
 use Rattle.mxf_tracks.specs.Containers.{container_of}
 use Rattle.mxf_tracks.specs.Targets.{is_reached, set_of, with_reached}
+
+-- ---- One reference, and several
+
+-- Of a set that is reached: that it can't be read, or what is found of it, with what follows.
+abbrev pub read_step : {A F R : Type 0} → (Target → Option F → R) → (List ℕ → A → F × List ℕ) → ℕ → List ℕ
+    → Option A → R × List ℕ
+read_step make follow offset reached None = (make (Unreadable offset) None, reached)
+read_step make follow offset reached (Some value) =
+    let found = follow reached value in (make (Found offset) (Some found.0), found.1)
+
+-- Of a reference: a target that ends there, or a set that is reached and read.
+abbrev pub step : {A F R : Type 0} → (Target → Option F → R) → (NoteParts → Option A) → (List ℕ → A → F × List ℕ)
+    → List ℕ → Result NoteParts Target → R × List ℕ
+step make read follow reached (Err target) = (make target None, reached)
+step make read follow reached (Ok n) = read_step make follow n.offset (with_reached n.offset reached) (read n)
+
+-- Nothing follows.
+abbrev pub nothing_follows : {A : Type 0} → List ℕ → A → A × List ℕ
+nothing_follows reached value = (value, reached)
+
+-- Of references one after another, each with what is below it before the next.
+abbrev pub steps : {U R : Type 0} → (List ℕ → U → R × List ℕ) → List ℕ → List U → List R × List ℕ
+steps one reached [] = ([], reached)
+steps one reached (u ∷ us) =
+    let first = one reached u in
+    let others = steps one first.1 us in
+    (first.0 ∷ others.0, others.1)
 
 -- ---- Components
 
@@ -67,18 +96,13 @@ abbrev pub end_of_part : Option ℕ → Option Part → Option ℕ
 end_of_part start part =
     option_and_then (λ s. option_map (λ d. s + d) (option_and_then duration_of part)) start
 
-abbrev pub read_component : Option ℕ → ℕ → Option Part → Component
-read_component start offset None = record { target = Unreadable offset; start = start; part = None }
-read_component start offset (Some p) = record { target = Found offset; start = start; part = Some p }
-
-abbrev pub component_by : Option ℕ → List ℕ → Result NoteParts Target → Component × List ℕ
-component_by start reached (Err target) = (record { target = target; start = start; part = None }, reached)
-component_by start reached (Ok n) =
-    (read_component start n.offset (part_in n), with_reached n.offset reached)
+abbrev pub component_to : Option ℕ → List ℕ → Target → Option Part → Component
+component_to start uid target part = record { uid = uid; target = target; start = start; part = part }
 
 -- The component that a reference leads to.
 unfoldable pub component_of : List NoteParts → Option ℕ → List ℕ → List ℕ → Component × List ℕ
-component_of sets start reached uid = component_by start reached (set_of sets wanted.Component reached uid)
+component_of sets start reached uid =
+    step (component_to start uid) part_in nothing_follows reached (set_of sets wanted.Component reached uid)
 
 -- The components that references lead to: the first one begins at the start, each later one where the one before it
 -- ends.
@@ -100,19 +124,13 @@ found_sequence sets reached s =
     let components = components_from sets (Some 0) reached s.components in
     (record { kind = sequence_kind s.data_definition; duration = s.duration; components = components.0 }, components.1)
 
-abbrev pub read_sequence : List NoteParts → ℕ → List ℕ → Option SequenceParts → SequenceAt × List ℕ
-read_sequence sets offset reached None = (record { target = Unreadable offset; found = None }, reached)
-read_sequence sets offset reached (Some s) =
-    let found = found_sequence sets reached s in
-    (record { target = Found offset; found = Some found.0 }, found.1)
-
-abbrev pub sequence_by : List NoteParts → List ℕ → Result NoteParts Target → SequenceAt × List ℕ
-sequence_by sets reached (Err target) = (record { target = target; found = None }, reached)
-sequence_by sets reached (Ok n) = read_sequence sets n.offset (with_reached n.offset reached) (sequence_in n)
+abbrev pub sequence_to : List ℕ → Target → Option FoundSequence → SequenceAt
+sequence_to uid target found = record { uid = uid; target = target; found = found }
 
 -- The sequence that a reference leads to, with its components.
 unfoldable pub sequence_of : List NoteParts → List ℕ → List ℕ → SequenceAt × List ℕ
-sequence_of sets reached uid = sequence_by sets reached (set_of sets wanted.Sequence reached uid)
+sequence_of sets reached uid =
+    step (sequence_to uid) sequence_in (found_sequence sets) reached (set_of sets wanted.Sequence reached uid)
 
 -- ---- Tracks
 
@@ -120,27 +138,22 @@ sequence_of sets reached uid = sequence_by sets reached (set_of sets wanted.Sequ
 unfoldable pub track_in : NoteParts → Option TrackParts
 track_in n = read_as track_at n
 
-abbrev pub read_track : List NoteParts → ℕ → List ℕ → Option TrackParts → TrackAt × List ℕ
-read_track sets offset reached None = (record { target = Unreadable offset; found = None }, reached)
-read_track sets offset reached (Some t) =
+abbrev pub found_track : List NoteParts → List ℕ → TrackParts → FoundTrack × List ℕ
+found_track sets reached t =
     let sequence = sequence_of sets reached t.sequence in
-    (record { target = Found offset; found = Some (record { track = t; sequence = sequence.0 }) }, sequence.1)
+    (record { track = t; sequence = sequence.0 }, sequence.1)
 
-abbrev pub track_by : List NoteParts → List ℕ → Result NoteParts Target → TrackAt × List ℕ
-track_by sets reached (Err target) = (record { target = target; found = None }, reached)
-track_by sets reached (Ok n) = read_track sets n.offset (with_reached n.offset reached) (track_in n)
+abbrev pub track_to : List ℕ → Target → Option FoundTrack → TrackAt
+track_to uid target found = record { uid = uid; target = target; found = found }
 
 -- The track that a reference leads to, with its sequence.
 unfoldable pub track_of : List NoteParts → List ℕ → List ℕ → TrackAt × List ℕ
-track_of sets reached uid = track_by sets reached (set_of sets wanted.Track reached uid)
+track_of sets reached uid =
+    step (track_to uid) track_in (found_track sets) reached (set_of sets wanted.Track reached uid)
 
 -- The tracks that references lead to, each with what is below it before the next.
 abbrev pub tracks_from : List NoteParts → List ℕ → List (List ℕ) → List TrackAt × List ℕ
-tracks_from sets reached [] = ([], reached)
-tracks_from sets reached (uid ∷ uids) =
-    let one = track_of sets reached uid in
-    let others = tracks_from sets one.1 uids in
-    (one.0 ∷ others.0, others.1)
+tracks_from sets reached uids = steps (track_of sets) reached uids
 
 -- ---- Descriptors
 
@@ -148,39 +161,30 @@ tracks_from sets reached (uid ∷ uids) =
 unfoldable pub descriptor_in : NoteParts → Option DescriptorParts
 descriptor_in n = read_as descriptor_at n
 
-abbrev pub read_subdescriptor : ℕ → Option DescriptorParts → SubdescriptorAt
-read_subdescriptor offset None = record { target = Unreadable offset; found = None }
-read_subdescriptor offset (Some d) = record { target = Found offset; found = Some d }
-
-abbrev pub subdescriptor_by : List ℕ → Result NoteParts Target → SubdescriptorAt × List ℕ
-subdescriptor_by reached (Err target) = (record { target = target; found = None }, reached)
-subdescriptor_by reached (Ok n) = (read_subdescriptor n.offset (descriptor_in n), with_reached n.offset reached)
+abbrev pub subdescriptor_to : List ℕ → Target → Option DescriptorParts → SubdescriptorAt
+subdescriptor_to uid target found = record { uid = uid; target = target; found = found }
 
 -- The descriptor of a part that a reference leads to. What it names itself isn't followed.
 unfoldable pub subdescriptor_of : List NoteParts → List ℕ → List ℕ → SubdescriptorAt × List ℕ
-subdescriptor_of sets reached uid = subdescriptor_by reached (set_of sets wanted.Descriptor reached uid)
+subdescriptor_of sets reached uid =
+    step (subdescriptor_to uid) descriptor_in nothing_follows reached (set_of sets wanted.Descriptor reached uid)
 
 -- The descriptors of parts that references lead to, in order.
 abbrev pub subdescriptors_from : List NoteParts → List ℕ → List (List ℕ) → List SubdescriptorAt × List ℕ
-subdescriptors_from sets reached [] = ([], reached)
-subdescriptors_from sets reached (uid ∷ uids) =
-    let one = subdescriptor_of sets reached uid in
-    let others = subdescriptors_from sets one.1 uids in
-    (one.0 ∷ others.0, others.1)
+subdescriptors_from sets reached uids = steps (subdescriptor_of sets) reached uids
 
-abbrev pub read_descriptor : List NoteParts → ℕ → List ℕ → Option DescriptorParts → DescriptorAt × List ℕ
-read_descriptor sets offset reached None = (record { target = Unreadable offset; found = None }, reached)
-read_descriptor sets offset reached (Some d) =
+abbrev pub found_descriptor : List NoteParts → List ℕ → DescriptorParts → FoundDescriptor × List ℕ
+found_descriptor sets reached d =
     let parts = subdescriptors_from sets reached d.subdescriptors in
-    (record { target = Found offset; found = Some (record { descriptor = d; subdescriptors = parts.0 }) }, parts.1)
+    (record { descriptor = d; subdescriptors = parts.0 }, parts.1)
 
-abbrev pub descriptor_by : List NoteParts → List ℕ → Result NoteParts Target → DescriptorAt × List ℕ
-descriptor_by sets reached (Err target) = (record { target = target; found = None }, reached)
-descriptor_by sets reached (Ok n) = read_descriptor sets n.offset (with_reached n.offset reached) (descriptor_in n)
+abbrev pub descriptor_to : List ℕ → Target → Option FoundDescriptor → DescriptorAt
+descriptor_to uid target found = record { uid = uid; target = target; found = found }
 
 -- The descriptor that a reference leads to, with those of its parts.
 unfoldable pub descriptor_of : List NoteParts → List ℕ → List ℕ → DescriptorAt × List ℕ
-descriptor_of sets reached uid = descriptor_by sets reached (set_of sets wanted.Descriptor reached uid)
+descriptor_of sets reached uid =
+    step (descriptor_to uid) descriptor_in (found_descriptor sets) reached (set_of sets wanted.Descriptor reached uid)
 
 -- The same of a package that may name one.
 abbrev pub descriptor_named : List NoteParts → List ℕ → Option (List ℕ) → Option DescriptorAt × List ℕ
@@ -214,16 +218,14 @@ found_package sets reached kind p =
       descriptor.1,
     )
 
-abbrev pub read_package : List NoteParts → ℕ → List ℕ → Kind → Option PackageParts → PackageAt × List ℕ
-read_package sets offset reached kind None = (record { target = Unreadable offset; found = None }, reached)
-read_package sets offset reached kind (Some p) =
-    let found = found_package sets reached kind p in
-    (record { target = Found offset; found = Some found.0 }, found.1)
+abbrev pub package_to : List ℕ → Target → Option FoundPackage → PackageAt
+package_to uid target found = record { uid = uid; target = target; found = found }
 
 -- By the clear note at an offset.
-abbrev pub package_there : List NoteParts → ℕ → List ℕ → Option NoteParts → PackageAt × List ℕ
-package_there sets offset reached None = (record { target = Unreadable offset; found = None }, reached)
-package_there sets offset reached (Some n) = read_package sets offset reached (kind_of n.key) (package_in n)
+abbrev pub package_there : List NoteParts → List ℕ → ℕ → List ℕ → Option NoteParts → PackageAt × List ℕ
+package_there sets uid offset reached None = (package_to uid (Unreadable offset) None, reached)
+package_there sets uid offset reached (Some n) =
+    read_step (package_to uid) (λ after p. found_package sets after (kind_of n.key) p) offset reached (package_in n)
 
 -- The package that a reference of the storage leads to. Its target is that of the reference; where it is found there,
 -- and was so before, it isn't followed again.
@@ -234,24 +236,20 @@ target_unfollowed (resolved.WrongKind offset) = WrongKind offset
 target_unfollowed (resolved.Unreadable offset) = Unreadable offset
 target_unfollowed (resolved.Found offset) = Again offset
 
-abbrev pub unfollowed : ResolvedTarget → PackageAt
-unfollowed target = record { target = target_unfollowed target; found = None }
+abbrev pub unfollowed : List ℕ → ResolvedTarget → PackageAt
+unfollowed uid target = package_to uid (target_unfollowed target) None
 
-abbrev pub package_by : List NoteParts → List NoteParts → List ℕ → ResolvedTarget → PackageAt × List ℕ
-package_by clear sets reached (resolved.Found offset) =
-    if is_reached offset reached then (unfollowed (resolved.Found offset), reached)
-    else package_there sets offset (with_reached offset reached) (find (λ n. n.offset == offset) clear)
-package_by clear sets reached target = (unfollowed target, reached)
+abbrev pub package_by : List NoteParts → List NoteParts → List ℕ → List ℕ → ResolvedTarget → PackageAt × List ℕ
+package_by clear sets uid reached (resolved.Found offset) =
+    if is_reached offset reached then (unfollowed uid (resolved.Found offset), reached)
+    else package_there sets uid offset (with_reached offset reached) (find (λ n. n.offset == offset) clear)
+package_by clear sets uid reached target = (unfollowed uid target, reached)
 
 unfoldable pub package_of : List NoteParts → List NoteParts → List ℕ → Ref → PackageAt × List ℕ
-package_of clear sets reached r = package_by clear sets reached r.target
+package_of clear sets reached r = package_by clear sets r.uid reached r.target
 
 abbrev pub packages_from : List NoteParts → List NoteParts → List ℕ → List Ref → List PackageAt × List ℕ
-packages_from clear sets reached [] = ([], reached)
-packages_from clear sets reached (r ∷ refs) =
-    let one = package_of clear sets reached r in
-    let others = packages_from clear sets one.1 refs in
-    (one.0 ∷ others.0, others.1)
+packages_from clear sets reached refs = steps (package_of clear sets) reached refs
 
 -- The packages that the storage of a copy names, each with what is below it before the next.
 abbrev pub tracks_in : List NoteParts → ResolvedParts → List PackageAt

@@ -25,6 +25,8 @@ pub enum Part {
 /// A reference of a sequence, and the component that it leads to.
 #[derive(Debug, Drop)]
 pub struct Component {
+    /// The instance identifier that the reference names.
+    pub uid: Uuid,
     pub target: Target,
     /// Where the component begins, in edit units from the start of the sequence. None if it isn't known: behind a
     /// component that isn't found, or whose duration isn't known.
@@ -121,6 +123,7 @@ fn component_of(
         Ok(note) => note,
         Err(target) => {
             return Ok(Component {
+                uid: *uid,
                 target,
                 start,
                 part: None,
@@ -135,6 +138,7 @@ fn component_of(
         None => Target::Unreadable(offset),
     };
     Ok(Component {
+        uid: *uid,
         target,
         start,
         part,

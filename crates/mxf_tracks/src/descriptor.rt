@@ -16,6 +16,8 @@ use uuid::Uuid;
 /// A reference of a descriptor, and the descriptor of a part that it leads to.
 #[derive(Debug, Drop)]
 pub struct SubdescriptorAt<'a> {
+    /// The instance identifier that the reference names.
+    pub uid: Uuid,
     pub target: Target,
     /// None unless the target is found.
     pub found: Option<Descriptor<'a>>,
@@ -56,6 +58,8 @@ pub struct FoundDescriptor<'a> {
 /// The reference of a package to its descriptor, and the descriptor.
 #[derive(Debug, Drop)]
 pub struct DescriptorAt<'a> {
+    /// The instance identifier that the reference names.
+    pub uid: Uuid,
     pub target: Target,
     /// None unless the target is found.
     pub found: Option<FoundDescriptor<'a>>,
@@ -83,6 +87,7 @@ fn subdescriptor_of<'a>(
         Ok(note) => note,
         Err(target) => {
             return Ok(SubdescriptorAt {
+                uid: *uid,
                 target,
                 found: None,
             });
@@ -95,7 +100,11 @@ fn subdescriptor_of<'a>(
         Some(_) => Target::Found(offset),
         None => Target::Unreadable(offset),
     };
-    Ok(SubdescriptorAt { target, found })
+    Ok(SubdescriptorAt {
+        uid: *uid,
+        target,
+        found,
+    })
 }
 
 /// The descriptors of parts that references lead to, in order.
@@ -130,6 +139,7 @@ fn descriptor_of<'a>(
         Ok(note) => note,
         Err(target) => {
             return Ok(DescriptorAt {
+                uid: *uid,
                 target,
                 found: None,
             });
@@ -139,12 +149,14 @@ fn descriptor_of<'a>(
     reached.add(offset)?;
     let Some(descriptor) = descriptor_in(note) else {
         return Ok(DescriptorAt {
+            uid: *uid,
             target: Target::Unreadable(offset),
             found: None,
         });
     };
     let subdescriptors = subdescriptors_of(alloc, copy, reached, descriptor.subdescriptors())?;
     Ok(DescriptorAt {
+        uid: *uid,
         target: Target::Found(offset),
         found: Some(FoundDescriptor {
             descriptor,

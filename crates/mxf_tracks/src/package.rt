@@ -1,13 +1,16 @@
 //! Packages.
-ghost use Rattle.std.specs.Prelude.{◌≡◌, ◌==◌, List, [], find, IfOk};
+ghost use Rattle.std.specs.Prelude.{◌≡◌, ◌==◌, ℕ, List, [], Some, find, map, IfOk};
 ghost use Rattle.mxf_klv.specs.Parts.{NoteParts};
 ghost use Rattle.std.specs.List.{AllByRecursion};
+ghost use Rattle.mxf_catalogue.specs.Content.{IsContent};
 ghost use Rattle.mxf_catalogue.specs.Disputes.{clear_notes};
 ghost use Rattle.mxf_klv.specs.Kind.{kind_of};
 ghost use Rattle.mxf_references.specs.Resolved.{ResolvedParts, resolved_of};
 ghost use Rattle.mxf_views.specs.Copies.{sets_of};
 ghost use Rattle.mxf_tracks.specs.Containers.{AreContainersOf};
 ghost use Rattle.mxf_tracks.specs.FoundSets.{IsPackageThere};
+ghost use Rattle.mxf_tracks.specs.References.{AreTargets, LeadsTo, Named, Reference, references_of};
+ghost use Rattle.mxf_tracks.specs.declared.target.Target.{Target};
 ghost use Rattle.mxf_tracks.specs.Once.{AreOnce, read_of_packages};
 ghost use Rattle.mxf_tracks.specs.Walk.{found_package, package_by, package_in, package_kind, package_of, packages_from};
 ghost use Rattle.mxf_tracks.specs.Walk.{package_there, target_unfollowed, tracks_from_resolved, tracks_in};
@@ -23,6 +26,7 @@ use mxf_sets::Package;
 use mxf_views::Views;
 use std::alloc::Global;
 use std::marker::Model;
+use uuid::Uuid;
 
 /// Which package it is.
 #[derive(Clone, Copy, Debug, PartialEq, Eq)]
@@ -49,6 +53,8 @@ pub struct FoundPackage<'a> {
 /// A reference of the storage, and the package that it leads to.
 #[derive(Debug, Drop)]
 pub struct PackageAt<'a> {
+    /// The instance identifier that the reference names.
+    pub uid: Uuid,
     pub target: Target,
     /// None unless the target is found.
     pub found: Option<FoundPackage<'a>>,
@@ -117,28 +123,32 @@ fn package_there<'a>(
     copy: &CopySets<'a>,
     containers: &Containers,
     reached: &mut Reached,
+    uid: &Uuid,
     offset: u64,
 ) -> Result<PackageAt<'a>, OutOfMemory>
     requires { AreContainersOf (sets_of copy.now.notes copy.now.partition) containers.now.by_package }
     ensures { IfOk result (λ p. (p, reached.new)
-        ≡ package_there (sets_of copy.now.notes copy.now.partition) offset reached.old
+        ≡ package_there (sets_of copy.now.notes copy.now.partition) uid.now offset reached.old
         (find (λ n. n.offset == offset) (clear_notes copy.now.notes))) }
 {
     let unreadable = Target::Unreadable(offset);
     let Some(note) = copy.note_at(offset) else {
         return Ok(PackageAt {
+            uid: *uid,
             target: unreadable,
             found: None,
         });
     };
     let Some(package) = package_in(note) else {
         return Ok(PackageAt {
+            uid: *uid,
             target: unreadable,
             found: None,
         });
     };
     let found = found_package(alloc, copy, containers, reached, note.kind(), package)?;
     Ok(PackageAt {
+        uid: *uid,
         target: Target::Found(offset),
         found: Some(found),
     })
@@ -174,10 +184,11 @@ fn package_of<'a>(
     if let ResolvedTarget::Found(offset) = reference.target {
         if !reached.has(offset) {
             reached.add(offset)?;
-            return package_there(alloc, copy, containers, reached, offset);
+            return package_there(alloc, copy, containers, reached, &reference.uid, offset);
         }
     }
     Ok(PackageAt {
+        uid: reference.uid,
         target: target_of(reference.target),
         found: None,
     })
@@ -244,8 +255,21 @@ pub fn each_set_is_read_once()
 {}
 
 /// A law of [`Tracks::of`]: there is a record exactly where a target is found, and it is what the set there is read as,
-/// a set of the copy with the key that the reference wants.
+/// a set of the copy with the key that the reference wants. The references behind it are those that it names, in order.
 pub fn what_is_found_is_read_there()
-    ensures { (notes : List NoteParts) (r : ResolvedParts)
+    ensures there { (notes : List NoteParts) (r : ResolvedParts)
         → AllByRecursion (IsPackageThere (clear_notes notes) (sets_of notes r.partition)) (tracks_in notes r) }
+    ensures named { (notes : List NoteParts) (r : ResolvedParts)
+        → map (λ p. p.uid) (tracks_in notes r) ≡ map (λ f. f.uid) r.packages }
+{}
+
+/// A law of [`preferred_tracks`]: each reference of the walk leads to what the sets of the copy and the references
+/// before it say. The number of sets with its identifier, the kind and the key of the only one, whether a reference
+/// before it reached that set, and whether the set can be read tell its target. There is one that they tell.
+pub fn each_target_is_by_the_references_before()
+    ensures told { (notes : List NoteParts) (r : ResolvedParts) → IsContent notes → resolved_of notes ≡ Some r
+        → AreTargets (sets_of notes r.partition) (references_of (tracks_in notes r)) }
+    ensures one { (notes : List NoteParts) (partition : ℕ) (before : List Reference) (named : Named) (uid : List ℕ)
+        (t u : Target) → IsContent notes → LeadsTo (sets_of notes partition) before named uid t
+        → LeadsTo (sets_of notes partition) before named uid u → t ≡ u }
 {}

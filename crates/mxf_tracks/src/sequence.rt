@@ -38,6 +38,8 @@ pub struct FoundSequence {
 /// The reference of a track to its sequence, and the sequence.
 #[derive(Debug, Drop)]
 pub struct SequenceAt {
+    /// The instance identifier that the reference names.
+    pub uid: Uuid,
     pub target: Target,
     /// None unless the target is found.
     pub found: Option<FoundSequence>,
@@ -83,6 +85,7 @@ pub(crate) fn sequence_of(
         Ok(note) => note,
         Err(target) => {
             return Ok(SequenceAt {
+                uid: *uid,
                 target,
                 found: None,
             });
@@ -92,12 +95,14 @@ pub(crate) fn sequence_of(
     reached.add(offset)?;
     let Some(sequence) = sequence_in(note) else {
         return Ok(SequenceAt {
+            uid: *uid,
             target: Target::Unreadable(offset),
             found: None,
         });
     };
     let found = found_sequence(alloc, copy, reached, &sequence)?;
     Ok(SequenceAt {
+        uid: *uid,
         target: Target::Found(offset),
         found: Some(found),
     })

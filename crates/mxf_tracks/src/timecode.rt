@@ -1,7 +1,8 @@
 //! Timecodes (SMPTE ST 12-1): the labels of the frames of a day.
-ghost use Rattle.std.specs.Prelude.{◌≡◌, ◌↔◌, ◌⊎◌, ◌+◌, ◌*◌, ◌<◌, ◌/◌, ◌%◌, ℕ, IfSome, None, Some, true};
+ghost use Rattle.std.specs.Prelude.{◌≡◌, ◌⊎◌, ◌<◌, ◌^◌, ℕ, ℤ, pos, Bool, Some, true};
 ghost use Rattle.mxf_tracks.specs.Digits.{timecode_text};
-ghost use Rattle.mxf_tracks.specs.Timecodes.{IsLabel, drops, labels_of_day, number_of};
+ghost use Rattle.mxf_tracks.specs.Timecodes.{IsLabel, IsTimecodeOf, drops, label_at, label_with, labels_of_day};
+ghost use Rattle.mxf_tracks.specs.Timecodes.{left_out_up_to, number_of, timecode_of};
 ghost use Rattle.mxf_tracks.specs.declared.timecode.Timecode.{Timecode};
 
 use crate::digits::TwoDigits;
@@ -40,23 +41,17 @@ impl fmt::Display for Timecode {
 }
 
 impl Timecode {
-    /// The timecode of a number of frames since midnight, modulo a day, at a base of frames a second. None if the base
-    /// is 0. Labels are left out at the bases 30 and 60 alone, if that is asked for.
-    pub fn of(number: u64, base: u16, is_drop: bool) -> Option<Timecode>
-        ensures none { (result ≡ None) ↔ (base ≡ 0) }
-        ensures label { IfSome result (λ t. IsLabel base t) }
-        ensures drops { IfSome result (λ t. t.is_drop ≡ drops base is_drop) }
-        ensures number { IfSome result (λ t.
-            number_of base t ≡ number % labels_of_day base (drops base is_drop)) }
+    /// The timecode of a number of frames since midnight, modulo a day (below 0 it is of the day before), at a base of
+    /// frames a second. None if the base is 0. Labels are left out at the bases 30 and 60 alone, if that is asked for.
+    pub fn of(number: i64, base: u16, is_drop: bool) -> Option<Timecode>
+        ensures { result ≡ timecode_of number base is_drop }
     {
-        let frames = u64::from(base);
-        if frames == 0 {
+        if base == 0 {
             return None;
         }
-        if drops(base, is_drop) {
-            return Some(drop_frame(number, frames));
-        }
-        Some(at(number % (86400 * frames), frames, false))
+        let is_drop = drops(base, is_drop);
+        let number = number.rem_euclid(labels_of_day(base, is_drop));
+        Some(label_with(base, is_drop, number.unsigned_abs()))
     }
 }
 
@@ -67,17 +62,21 @@ fn drops(base: u16, is_drop: bool) -> bool
     is_drop && (base == 30 || base == 60)
 }
 
-/// The label of a frame that is so many frames after midnight, as all are counted.
-fn at(frame: u64, base: u64, is_drop: bool) -> Timecode
-    requires { 0 < base }
-    ensures { result ≡ record {
-      hours = frame / base / 3600;
-      minutes = frame / base / 60 % 60;
-      seconds = frame / base % 60;
-      frames = frame % base;
-      is_drop = is_drop;
-    } }
+/// How many labels a day has.
+fn labels_of_day(base: u16, is_drop: bool) -> i64
+    ensures { result ≡ pos (labels_of_day base is_drop) }
 {
+    let base = i64::from(base);
+    let left_out = if is_drop { base / 15 * 1296 } else { 0 };
+    86400 * base - left_out
+}
+
+/// The label of a frame that is so many frames after midnight, as all are counted.
+fn label_at(frame: u64, base: u16, is_drop: bool) -> Timecode
+    requires { 0 < base }
+    ensures { result ≡ label_at frame base is_drop }
+{
+    let base = u64::from(base);
     let seconds = frame / base;
     Timecode {
         hours: seconds / 3600,
@@ -88,27 +87,46 @@ fn at(frame: u64, base: u64, is_drop: bool) -> Timecode
     }
 }
 
-/// The timecode of a number of frames since midnight, modulo a day, if labels are left out.
-fn drop_frame(number: u64, base: u64) -> Timecode
-    requires { (base ≡ 30) ⊎ (base ≡ 60) }
-    ensures label { IsLabel base result }
-    ensures drops { result.is_drop ≡ true }
-    ensures number { number_of base result ≡ number % labels_of_day base true }
+/// How many labels are left out before the one with a number.
+fn left_out_up_to(base: u16, number: u64) -> u64
+    requires base { (base ≡ 30) ⊎ (base ≡ 60) }
+    requires number { number < labels_of_day base true }
+    ensures count { result ≡ left_out_up_to base number }
+    ensures few { result < 2 ^ 32 }
 {
+    let base = u64::from(base);
     let left_out = base / 15;
     let minute = 60 * base - left_out;
     let ten_minutes = 10 * minute + left_out;
-    let place = number % (144 * ten_minutes);
-    let tens = place / ten_minutes;
-    let minutes = (place % ten_minutes).saturating_sub(left_out) / minute;
-    at(place + (9 * tens + minutes) * left_out, base, true)
+    let minutes = (number % ten_minutes).saturating_sub(left_out) / minute;
+    (9 * (number / ten_minutes) + minutes) * left_out
 }
+
+/// The label with a number.
+fn label_with(base: u16, is_drop: bool, number: u64) -> Timecode
+    requires some { 0 < base }
+    requires number { number < labels_of_day base is_drop }
+    requires bases { is_drop ≡ true → (base ≡ 30) ⊎ (base ≡ 60) }
+    ensures { result ≡ label_with base is_drop number }
+{
+    let left_out = if is_drop {
+        left_out_up_to(base, number)
+    } else {
+        0
+    };
+    label_at(number + left_out, base, is_drop)
+}
+
+/// A law of [`Timecode::of`]: the timecode of a number is the label of the day with this number.
+pub fn each_number_has_its_label()
+    ensures { (number : ℤ) (base : ℕ) (is_drop : Bool)
+        → IsTimecodeOf number base is_drop (timecode_of number base is_drop) }
+{}
 
 /// A law of [`Timecode::of`]: no label is used twice. Two of a base and of one way to count that have the same number
 /// are one; and each has a number below that of the labels of a day.
 pub fn each_label_has_its_number()
     ensures one { (base : ℕ) (a b : Timecode) → IsLabel base a → IsLabel base b → a.is_drop ≡ b.is_drop
-        → (a.is_drop ≡ true → (base ≡ 30) ⊎ (base ≡ 60)) → number_of base a ≡ number_of base b → a ≡ b }
-    ensures within { (base : ℕ) (t : Timecode) → IsLabel base t
-        → (t.is_drop ≡ true → (base ≡ 30) ⊎ (base ≡ 60)) → number_of base t < labels_of_day base t.is_drop }
+        → number_of base a ≡ number_of base b → a ≡ b }
+    ensures within { (base : ℕ) (t : Timecode) → IsLabel base t → number_of base t < labels_of_day base t.is_drop }
 {}

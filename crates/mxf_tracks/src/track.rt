@@ -24,6 +24,8 @@ pub struct FoundTrack<'a> {
 /// A reference of a package, and the track that it leads to.
 #[derive(Debug, Drop)]
 pub struct TrackAt<'a> {
+    /// The instance identifier that the reference names.
+    pub uid: Uuid,
     pub target: Target,
     /// None unless the target is found.
     pub found: Option<FoundTrack<'a>>,
@@ -76,6 +78,7 @@ fn track_of<'a>(
         Ok(note) => note,
         Err(target) => {
             return Ok(TrackAt {
+                uid: *uid,
                 target,
                 found: None,
             });
@@ -85,12 +88,14 @@ fn track_of<'a>(
     reached.add(offset)?;
     let Some(track) = track_in(note) else {
         return Ok(TrackAt {
+            uid: *uid,
             target: Target::Unreadable(offset),
             found: None,
         });
     };
     let sequence = sequence_of(alloc, copy, reached, &track.sequence())?;
     Ok(TrackAt {
+        uid: *uid,
         target: Target::Found(offset),
         found: Some(FoundTrack { track, sequence }),
     })
