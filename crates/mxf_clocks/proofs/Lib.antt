@@ -1,0 +1,9 @@
+pub mod FractionLaws
+pub mod MomentLaws
+pub mod RateLaws
+pub mod RunFacts
+pub mod Members
+pub mod ShownLaws
+pub mod CountLaws
+pub mod OrderLaws
+pub mod TimedLaws

@@ -1,0 +1,11 @@
+pub mod ClockTracks
+pub mod FilePackages
+pub mod TracksFor
+pub mod Fractions
+pub mod Moments
+pub mod Runs
+pub mod RunTimecodes
+pub mod RunOrder
+pub mod RunLaws
+pub mod Clocks
+pub mod Shown
