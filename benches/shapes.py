@@ -3,10 +3,12 @@
 All bytes are the same in each run. `SHAPES` names them, with the question that the program is asked of each.
 """
 
+import random
 from collections.abc import Callable, Iterable
 from dataclasses import dataclass
 from pathlib import Path
 
+import hostile_files
 import notes
 
 from recordings import ESSENCE_KEY, essence_packet, laid
@@ -181,6 +183,16 @@ def listed(count: int) -> list[bytes]:
     return [b"".join(parts)]
 
 
+def tracks(count: int) -> list[bytes]:
+    """Header metadata of `count` tracks in packages of a thousand each, each with a sequence of a component."""
+    return [data for _, data in hostile_files.many_tracks(random.Random(0), count)]
+
+
+def again(count: int) -> list[bytes]:
+    """Header metadata whose lists of packages, tracks, components and subdescriptors name one set `count` times each."""
+    return [data for _, data in hostile_files.named_again(random.Random(0), count)]
+
+
 @dataclass(frozen=True)
 class Shape:
     """What the counts are of, what is asked, the least count, and what makes the pieces, which all begin at 0. Of a
@@ -209,6 +221,8 @@ SHAPES = {
     "readings": Shape("disputed notes of two sources", "sources", 37_500, disputed),
     "beside": Shape("disputed notes of a reference", "verify", 37_500, beside, contents_beside),
     "listed": Shape("segments of 250 units", "units", 450, listed),
+    "tracks": Shape("tracks in packages of a thousand", "describe", 2000, tracks),
+    "again": Shape("references to one set in each list", "describe", 500, again),
     "units": Shape("units in as many ranges", "verify", 37_500, units, contents_of_units, ("--index", "1")),
 }
 

@@ -25,7 +25,7 @@ _mxf_tool() {
     *) word=${words[-1]} before=${words[-2]-} ;;
   esac
   for one in "${words[@]:1}"; do
-    case $one in show | check | locate | units | plan | map | verify | sources | find | join | renew | help) command=$one && break ;; esac
+    case $one in describe | show | check | locate | units | plan | map | verify | sources | find | join | renew | help) command=$one && break ;; esac
   done
   [ "$command" != "$word" ] || command=''
   COMPREPLY=()
@@ -50,9 +50,9 @@ _mxf_tool() {
   esac
   local options='--help'
   case $command in
-    '') options='show check locate units plan map verify sources find join renew help --help --version' ;;
-    help) options='show check locate units plan map verify sources find join renew' ;;
-    show | check | sources) options='at: range: cat: --json --hints --sources --help' ;;
+    '') options='describe show check locate units plan map verify sources find join renew help --help --version' ;;
+    help) options='describe show check locate units plan map verify sources find join renew' ;;
+    describe | show | check | sources) options='at: range: cat: --json --hints --sources --help' ;;
     map) options='at: range: cat: --columns --rows --extents --json --hints --sources --help' ;;
     locate) options='at: range: cat: --index --unit --json --hints --sources --help' ;;
     units | plan) options='at: range: cat: --index --from --to --json --hints --sources --help' ;;

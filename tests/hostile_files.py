@@ -2,6 +2,7 @@
 saved catalogue has None for an offset, a range a RangeOffset. A shape of many alike takes how many there are, so that
 it can be made twice as large.
 """
+import itertools
 import pathlib
 import random
 
@@ -237,6 +238,97 @@ def named_by_all(rng, many=None):
     return named_by_turns(rng, many or rng.choice((3, 100, 500)), (3,))
 
 
+RATE, PICTURE = "0000001900000001", "060e2b34040101010103020201000000"
+
+
+def listed(rng, count, make, is_one):
+    """A batch of references to as many sets, or all of them to one. Of those to many a few lead nowhere, to a set of
+    another kind, or to one of the others again."""
+    refs = [make()] * count if is_one else [make() for _ in range(count)]
+    if not is_one:
+        for place in rng.sample(range(count), count // 50):
+            refs[place] = rng.choice((0, 1, 2, rng.choice(refs)))
+    return batch(count, 16, bytes.fromhex("".join(map(uid, refs))))
+
+
+def set_of(kind, number, **items):
+    """The bytes of a set of the kind that byte 15 of its key says, with this identifier and these items, each `_TAG=DIGITS`."""
+    value = bytes.fromhex(item("3c0a", uid(number)) + "".join(item(tag[1:], digits) for tag, digits in items.items()))
+    return bytes.fromhex(f"060e2b34025301010d0101010101{kind}00") + packets.length_field(4, len(value)) + value
+
+
+def described(rng, packages, tracks, components, descriptors, is_one=False):
+    """Header metadata of so many packages with so many tracks each, of so many components each, and so many
+    subdescriptors each, and two container sets for each package; or of one of each, which a list of so many names."""
+    numbers, sets = itertools.count(3), []
+
+    def made(kind, **items):
+        """The number of a set that is made."""
+        own = next(numbers)
+        sets.append(set_of(kind, own, **items))
+        return own
+
+    def component():
+        """A clip, a timecode or a filler, at times of unknown duration."""
+        duration = rng.choice(("00" * 7 + "01", "00" * 7 + "01", "FF" * 8))
+        items = {"11": {"_1201": "00" * 8, "_1101": "00" * 32, "_1102": "00" * 4}, "14": {"_1501": "00" * 8, "_1502": "0019"}, "09": {}}
+        kind = rng.choice(list(items))
+        return made(kind, _0202=duration, **items[kind])
+
+    def track():
+        """A track with its sequence."""
+        components_of = listed(rng, components, component, is_one)
+        sequence = made("0f", _0201=PICTURE, _0202="00" * 8, _1001=components_of)
+        return made("3b", _4801="00" * 4, _4b01=RATE, _4803=uid(sequence))
+
+    def descriptor():
+        """A descriptor of a picture."""
+        return made("51", _3001=RATE, _3203="00000140", _3202="000000F0")
+
+    def package():
+        """A package with its descriptor and its containers."""
+        several = made("44", _3001=RATE, _3f01=listed(rng, descriptors, descriptor, is_one))
+        of_tracks, kind = listed(rng, tracks, track, is_one), rng.choice(("36", "37"))
+        own = made(kind, _4401=uid(several) * 2, _4403=of_tracks, _4701=uid(several))
+        for _ in range(2):
+            made("23", _2701=uid(several) * 2, _3f06="00000001", _3f07="00000002")
+        return own
+
+    of_packages = listed(rng, packages, package, is_one)
+    first = [set_of("2f", 1, _3b03=uid(2), _3b06=batch(0, 16)), set_of("18", 2, _1901=of_packages)]
+    data = laid(["primer"]) + b"".join(first + sets)
+    return [(0, laid([f"header header-bytes={len(data)}"]) + data)]
+
+
+def many_packages(rng, many=None):
+    """Packages of a track of a component each."""
+    return described(rng, many or rng.choice((1, 30, 1000)), 1, 1, 1)
+
+
+def many_tracks(rng, many=None):
+    """Packages of a thousand tracks, of a component each."""
+    tracks = min(many or rng.choice((1, 30, 1000)), 1000)
+    return described(rng, max(1, (many or 1) // tracks), tracks, 1, 1)
+
+
+def many_components(rng, many=None):
+    """Tracks of a thousand components."""
+    components = min(many or rng.choice((1, 30, 1000)), 1000)
+    return described(rng, 1, max(1, (many or 1) // components), components, 1)
+
+
+def many_descriptors(rng, many=None):
+    """Packages of a thousand subdescriptors."""
+    descriptors = min(many or rng.choice((1, 30, 1000)), 1000)
+    return described(rng, max(1, (many or 1) // descriptors), 1, 1, descriptors)
+
+
+def named_again(rng, many=None):
+    """Lists of packages, tracks, components and subdescriptors that each name one set over and over."""
+    many = many or rng.choice((2, 30, 4000))
+    return described(rng, many, many, many, many, True)
+
+
 def disputes(rng, many=None):
     """Packets over one another, and one over all others, first or last."""
     pieces = [(rng.randint(0, 300), laid([rng.choice(("header", "fill 30", "essence 100", "primer", "rip 0:0"))])) for _ in range(rng.randint(2, 10))]
@@ -410,7 +502,8 @@ def two_readings(rng):
 
 SHAPES = (
     spelled_lengths, counts, items, packs_that_name, circles, zones, copies, random_indexes, segments_of_a_unit, listed_units,
-    named_partitions, long_primer, long_batches, named_by_all, disputes, many_packets, noise, mutated, mutated, mutated, two_readings, saved_heads,
+    named_partitions, long_primer, long_batches, named_by_all, many_packages, many_tracks, many_components, many_descriptors,
+    named_again, disputes, many_packets, noise, mutated, mutated, mutated, two_readings, saved_heads,
     under_one_another, fronts_of_packets, labels_that_fail, ranges, ranges, differing_ranges, heads_over_bytes, named_one_by_one,
 )  # fmt: skip
 
@@ -425,6 +518,7 @@ def pieces_of(number):
 MANY = {
     counts: 10000, items: 5000, packs_that_name: 10000, circles: 5000, zones: 5000, copies: 5000,
     random_indexes: 10000, segments_of_a_unit: 10000, listed_units: 1000, named_partitions: 20000, long_primer: 32000, long_batches: 2000, named_by_all: 2000, named_by_turns: 1000,
+    many_packages: 2000, many_tracks: 10000, many_components: 10000, many_descriptors: 10000, named_again: 2000,
     disputes: 20000, many_packets: 40000, saved_heads: 10000, under_one_another: 10000, labels_that_fail: 100000,
     differing_ranges: 10000, heads_over_bytes: 10000, named_one_by_one: 2000, moved_packets: 5000,
 }  # fmt: skip

@@ -65,6 +65,21 @@ def memory_for(size):
     return 8 * MEBIBYTE + 40 * size
 
 
+# The lines of describe whose reference leads to no set.
+REFERRING = r"package -|track -|sequence|component \S+|descriptor|subdescriptor|preface|storage"
+ASTRAY = re.compile(rf"({REFERRING}) (missing|several|wrong-kind|again|unreadable)( \d+)?")
+
+
+def described_status(lines):
+    """The status that lines of describe have, or None if the last one doesn't count those before it."""
+    packages = sum(line.startswith(("package material ", "package source ")) for line in lines)
+    tracks = sum(line.startswith("track ") and not line.startswith("track - ") for line in lines)
+    clocks = sum(line.startswith("clock ") for line in lines)
+    if not lines or lines[-1] != f"packages {packages} tracks {tracks} clocks {clocks}":
+        return None
+    return int(not re.fullmatch(r"described \d+ finished", lines[0]) or any(map(ASTRAY.fullmatch, lines)))
+
+
 class Wrong(Exception):
     """What is wrong with a run."""
 
@@ -258,6 +273,10 @@ def try_pieces(run, rng, pieces):
     saved.write_bytes(wanted)
     if run.call((0,), len(wanted), "show", f"cat:{saved}").splitlines() != shown[len(told) :]:
         raise Wrong("the saved catalogue isn't shown as its pieces are")
+    described = run.call((0, 1), size, "describe", *sources).splitlines()
+    status = described_status(described)
+    if status is None or run.call((status,), len(wanted), "describe", f"cat:{saved}").splitlines() != described:
+        raise Wrong("what is described isn't counted, or the saved catalogue isn't described as its pieces are")
     checked = run.call((0, 1), size, "check", *sources).splitlines()
     stops = list(stops_of(pieces, read, content))
     if checked[: len(stops)] != stops or checked[-1] != f"findings {len(checked) - len(stops) - 1}":

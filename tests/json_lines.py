@@ -14,6 +14,8 @@ import sys
 
 FORMATS = pathlib.Path(__file__).resolve().parent.parent / "docs" / "FORMATS.md"
 TYPES = {"number": (int, float), "word": str, "text": str, "hexadecimal": str, "flag": bool}
+# Strings that are spelled in one way: of a rate of two numbers, of a length of time, and of a timecode.
+SPELLED = {"rate": r"-?\d+/-?\d+", "length": r"\d{2,}:\d\d:\d\d\.\d{3}", "timecode": r"\d\d:\d\d:\d\d[:;]\d{2,}"}
 
 
 class Form:
@@ -47,7 +49,7 @@ class Form:
     def shown(self, value):
         """The text of a value; one that isn't there has a word."""
         if value is None:
-            return "none" if self.name in ("copy", "preferred") else "-"
+            return "none" if self.name in ("copy", "preferred", "described") else "-"
         if isinstance(value, list):
             return " ".join(map(str, value))
         return str(value)
@@ -66,6 +68,8 @@ def is_of(value, sort):
         return sort.endswith("?")
     if sort == "numbers":
         return isinstance(value, list) and all(is_of(one, "number") for one in value)
+    if sort.rstrip("?") in SPELLED:
+        return isinstance(value, str) and re.fullmatch(SPELLED[sort.rstrip("?")], value) is not None
     return isinstance(value, TYPES[sort.rstrip("?")]) and isinstance(value, bool) == (sort == "flag")
 
 

@@ -27,8 +27,9 @@ LOADING = {
 }  # fmt: skip
 ALLOWED_ADDRESS = re.compile(r"\./[^:]*")
 UNSEEN = {"style", "title", "head", "defs"}
-INLINE = {"bdi", "code", "strong", "span", "a"}
+INLINE = {"bdi", "code", "strong", "span", "tspan", "a"}
 CUT = 200
+NAMED = 8  # sources of a reading that are named
 
 
 class Table:
@@ -81,7 +82,7 @@ class Page(html.parser.HTMLParser):
         elif tag == "table":
             self.tables.append(Table(self.sections[-1]))
         elif tag == "tr" and "tbody" in self.open:
-            self.tables[-1].rows.append([])
+            self.tables[-1].rows.append([])  # a head of it is its first cell
         elif tag in ("td", "th"):
             self.cell = ""
 
@@ -92,10 +93,12 @@ class Page(html.parser.HTMLParser):
             return
         self.open.pop()
         self.seen += "" if tag in INLINE else " "
-        if tag == "td":
+        if tag == "td" or tag == "th" and "tbody" in self.open:
             self.tables[-1].rows[-1].append(self.cell)
         elif tag == "th":
             self.tables[-1].heads.append(self.cell)
+        elif tag == "section":
+            self.sections.append("top")
 
     def handle_data(self, data):
         """Takes a text."""
@@ -158,7 +161,7 @@ def differences_of_rows(page, caption, want, section=None):
             yield f"{caption}: row {number} is {row}, not {wanted}"
             return
     left = len(want) - CUT
-    if left > 0 and f"{left:,} more: mxf_tool " not in page.text[section]:
+    if left > 0 and f"{left} more: mxf_tool " not in page.text[section]:
         yield f"{caption}: it doesn't say that {left} rows are left out"
 
 
@@ -178,7 +181,7 @@ def differences_of_bar(page, told):
     if bar != marks or place != head["end"]:
         yield f"the bar is {bar} up to {place}, not {marks} up to {head['end']}"
     there = head["hand"] or told.lines("show", name="note")
-    held = f"{head['held']:,} of {head['end']:,} byte" if there else "no packet of a recording"
+    held = f"{head['held']} of {head['end']} byte" if there else "no packet of a recording"
     if held not in page.text["top"]:
         yield f"the verdict doesn't say: {held}"
 
@@ -236,10 +239,44 @@ def differences_of_metadata(page, told):
             yield f"of the reference {number} it isn't told: {detail}"
 
 
+def differences_of_description(page, told):
+    """How what the recording is differs: the identifier, length and timecode are those of the material package, and each
+    name, picture and sound that is stated is told."""
+    lines = told.lines("describe")
+    rows = page.table("What it is", "description")
+    values = collections.defaultdict(list)
+    for name, value in rows:
+        values[name].append(value)
+    materials = [line for line in lines if line["line"] == "package" and line.get("kind") == "material"]
+    if not [line for line in lines if line["line"] == "package" and "uid" in line]:
+        if rows or "What the recording is isn't known" not in page.text["description"]:
+            yield "it doesn't say that nothing says what the recording is"
+        return
+    if materials:
+        main = materials[0]["uid"]
+        of_main = [line for line in lines if line.get("of-package") == main]
+        kinds = {line["kind"]: line for line in reversed(of_main) if line["line"] == "track" and "id" in line}
+        track = next((kinds[kind] for kind in ("picture", "sound", "data") if kind in kinds), None)
+        if track and not values["Length"][0].startswith(track["length"] or ""):
+            yield f"the length is {values['Length']}, not that of {track}"
+        times = [line["at"] for line in of_main if line["line"] == "timecode"]
+        if values["Start timecode"] != [times[0] or "not stated" if times else "not stated"] or values["UMID"] != [main]:
+            yield f"the recording is {values}, of {main} that starts at {times}"
+    for kind in ("picture", "sound"):
+        if any(line["line"] == kind for line in lines) != (kind.capitalize() in values):
+            yield f"the recording is {values}, of {kind}"
+    for line in lines:
+        shown = [f"{line['width']} x {line['height']}"] if line["line"] == "picture" else []
+        shown += [f"{line['channels']} channel"] if line["line"] == "sound" else []
+        if shown and None not in line.values() and not any(shown[0] in value for value in values[line["line"].capitalize()]):
+            yield f"{line} isn't told: {values}"
+
+
 def differences_of_findings(page, told):
     """How the findings differ: where damaged pieces stop; of each code how often it is found, where, and what to do."""
+    names = names_of(told)
     stops = [cells(line, "source", "at", "stop") for line in told.lines("check", name="stop")]
-    damaged = [stop for stop in stops if stop[2] in ("not-ul", "bad-length", "too-far")]
+    damaged = [[f"{stop[0]} {names[stop[0]]}", *stop[1:]] for stop in stops if stop[2] in ("not-ul", "bad-length", "too-far")]
     told_rows = [row[:3] for row in page.table("Pieces that weren't read to their end", "findings")]
     if told_rows != damaged[:CUT]:
         yield f"the damaged pieces are {told_rows}, not {damaged}"
@@ -256,7 +293,7 @@ def differences_of_findings(page, told):
 def numbers_text(numbers, most, command):
     """Numbers as a cell has them: the first, and how many more there are."""
     left = len(numbers) - most
-    more = f" and {left:,} more: mxf_tool {command} has them all" if left > 0 else ""
+    more = f" and {left} more: mxf_tool {command} has them all" if left > 0 else ""
     return ", ".join(map(str, numbers[:most])) + more
 
 
@@ -272,13 +309,29 @@ def differences_of_orders(page, told):
     if kept != want[:CUT]:
         yield f"the orders are {kept}, not {want}"
     readings = []
+    names = names_of(told)
     for line in told.lines("sources", name="disputed"):
-        sources = numbers_text(line["sources"], 50, "sources")
+        sources = sources_text(line["sources"], names)
         named = {**line, "kind": line["kind"] + ", head" * line["head"], "sources": sources}
         readings.append(cells(named, "offset", "kind", "length", "key", "digest", "sources"))
     yield from differences_of_rows(page, "Readings", readings, "disputes")
     sources = [cells(line, "source", "word", "notes", "alone", "disputed") for line in told.lines("sources", name="source")]
     yield from differences_of_rows(page, "What each has", sources, "sources")
+
+
+def names_of(told):
+    """The name of each source that a page has: that of its file, or its word if another file has that name too."""
+    words = {str(line["source"]): line["word"] for line in told.lines("sources", name="source")[:CUT]}
+    files = {number: word.split(":", 1 + (not word.startswith("cat:")))[-1].rsplit("/", 1)[-1] for number, word in words.items()}
+    counts = collections.Counter(files.values())
+    return {number: file if counts[file] == 1 else words[number] for number, file in files.items()}
+
+
+def sources_text(numbers, names):
+    """Sources as a cell has them: each with its name, or if they are many the numbers of the first."""
+    if len(numbers) > NAMED or not all(str(number) in names for number in numbers):
+        return numbers_text(numbers, 50, "sources")
+    return ", ".join(f"{number} {names[str(number)]}" for number in numbers)
 
 
 def runs_of(units):
@@ -289,17 +342,28 @@ def runs_of(units):
         yield [begin[0], end[0], *begin[1:], end[1]]
 
 
+def span_of(told, index):
+    """The words that name the last unit of an index that doesn't say it, by the duration of a track; none if it does."""
+    if told.lines("units", "--index", str(index)):
+        return []
+    described = told.lines("describe")
+    packages = [line["of-package"] for line in described if line["line"] == "container" and line["index-sid"] == index]
+    tracks = [line for line in described if line["line"] == "track" and line.get("of-package") in packages]
+    durations = [line["origin"] + line["duration"] for line in tracks if line["kind"] in ("picture", "sound") and line["duration"]]
+    return ["--to", str(durations[0] - 1)] if durations else []
+
+
 def differences_of_units(page, told, span):
     """How edit units differ: the runs of a table, and the sums of a strip."""
     indexes = sorted({line["index-sid"] for line in told.lines("show", name="segment")})
     for index in indexes:
-        units = told.lines("units", "--index", str(index), *span, name="unit")
+        units = told.lines("units", "--index", str(index), *(span or span_of(told, index)), name="unit")
         tables = [table for table in page.tables if table.caption == "Runs of units" and len(table.heads) == 5]
         want = list(runs_of(units))
         if len(indexes) == 1 and units and tables[0].rows != want[:CUT]:
             yield f"the runs of units are {tables[0].rows}, not {want}"
         for word, count in collections.Counter(unit["standing"] for unit in units).items():
-            if f"{count:,} {word}" not in page.text["units"]:
+            if f"{count} {word}" not in page.text["units"]:
                 yield f"it isn't told that {count} units are {word}"
     drawn = [re.match(r"Units (\d+) to (\d+): (.*)", title).groups() for title in page.titles["units"]]
     for first, last, counts in drawn:
@@ -320,10 +384,11 @@ def differences_of_reference(page, told, against):
         return
     lines = told.lines("verify", *against)
     last = lines[-1]
-    for number in (f"{last['packets']:,} of {last['all-packets']:,} packet", f"{last['bytes']:,} of {last['all-bytes']:,} byte"):
+    for number in (f"{last['packets']} of {last['all-packets']} packet", f"{last['bytes']} of {last['all-bytes']} byte"):
         if number not in page.text["reference"]:
             yield f"it isn't told that {number}s are verified"
-    differs = [packet_cells(line) + cells(line, "source") for line in lines if line["line"] == "differs"]
+    names = names_of(told)
+    differs = [packet_cells(line) + [sources_text([line["source"]], names)] for line in lines if line["line"] == "differs"]
     yield from differences_of_rows(page, "Packets that differ", differs, "reference")
     cut = [packet_cells(line) for line in lines if line["line"] == "cut"]
     yield from differences_of_rows(page, "Packets that are cut in each source", cut, "reference")
@@ -351,6 +416,7 @@ def differences_of_page(tool, path, words):
     against, words = taken_from(words, ("--against",))
     span, words = taken_from(words, ("--from", "--to"))
     told = Told(tool, words)
+    yield from differences_of_description(page, told)
     yield from differences_of_bar(page, told)
     yield from differences_of_recording(page, told)
     yield from differences_of_findings(page, told)

@@ -8,6 +8,8 @@ pub enum Ask {
     Show,
     /// What is found wrong or missing.
     Check,
+    /// What the recording is, by its header metadata.
+    Describe,
     /// Where the edit unit begins in its essence stream, by the index of this IndexSID.
     Locate { index: u32, unit: u64 },
     /// How many notes the parts hold together.

@@ -44,7 +44,8 @@ pub fn command<'a>(alloc: Global) -> Result<Command<'a>, AllocError> {
         .after_help(HELP)
         .subcommand_required(true)
         .arg_required_else_help(true);
-    let tool = with(Ok(tool), content::show(alloc));
+    let tool = with(Ok(tool), content::describe(alloc));
+    let tool = with(tool, content::show(alloc));
     let tool = with(tool, content::check(alloc));
     let tool = with(tool, edit_units::locate(alloc));
     let tool = with(tool, edit_units::units(alloc));

@@ -69,6 +69,7 @@ fn task_of<'a>(name: &str, inner: &ArgMatches<'a>, units: AskedUnits) -> Option<
 /// What the matches of the command with this name are to answer, with these edit units if it has any.
 fn told_of(name: &str, inner: &ArgMatches<'_>, units: AskedUnits) -> Option<Told> {
     match name {
+        "describe" => Some(Told::Answer(Ask::Describe)),
         "show" => Some(Told::Answer(Ask::Show)),
         "check" => Some(Told::Answer(Ask::Check)),
         "locate" => Some(Told::Answer(Ask::Locate {

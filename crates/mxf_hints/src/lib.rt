@@ -7,7 +7,7 @@
 //! | what a refused argument may have been meant for | [`RefusalHint`] |
 //! | which sources end before their bytes do, or have no packet | [`tell_stops`], [`tell_foreign`] |
 //! | which begin elsewhere by their partition packs | [`tell_offsets`], if something [`is_contradicted`] |
-//! | what of the sources doesn't go together | [`tell_apart`], [`tell_unsettled`] |
+//! | what of the sources doesn't go together | [`tell_together`], [`tell_unsettled`] |
 //! | that an index isn't held | [`tell_index`] |
 //!
 //! What is proved: the exit status of each end of a run ([`Exit`]), the end for each fault, and whether hints are told
@@ -18,6 +18,7 @@
 
 mod apart;
 mod contents;
+mod disputing;
 mod exit;
 mod fault;
 mod front;
@@ -33,12 +34,13 @@ mod stops;
 mod telling;
 mod unit_range;
 
-pub use apart::{tell_apart, tell_unsettled};
+pub use apart::tell_unsettled;
 pub use contents::{Contents, gather_each, gather_one};
+pub use disputing::tell_together;
 pub use exit::Exit;
 pub use fault::{IndexSids, RunFault};
 pub use index::{only_index, tell_index};
-pub use offsets::{is_contradicted, tell_offsets, views_of};
+pub use offsets::{is_contradicted, tell_offsets};
 pub use part::part_of;
 pub use refusal::RefusalHint;
 pub use shift::{Shift, shift_of};

@@ -12,11 +12,23 @@ pub enum RefusalHint<'a> {
     Timecode(&'a str),
     /// `--unit`, which `locate` alone has.
     Units,
+    /// `info`, which other programs have.
+    Info,
+    /// The path of a file or a source, where a command stands.
+    Recording(&'a str),
 }
 
 impl<'a> RefusalHint<'a> {
-    /// What the first argument that shows it may have been meant for.
+    /// What the first argument that shows it may have been meant for. Before the arguments stands the program's name.
     pub fn of(arguments: &'a [String]) -> Option<RefusalHint<'a>> {
+        if let Some(command) = arguments.get(1) {
+            if command.as_str() == "info" {
+                return Some(RefusalHint::Info);
+            }
+            if is_path(command) {
+                return Some(RefusalHint::Recording(command));
+            }
+        }
         let is_saving = arguments.iter().any(|word| is_saving(word));
         let is_locating = arguments.iter().any(|word| word.as_str() == "locate");
         let mut before = "";
@@ -46,6 +58,16 @@ fn is_saving(word: &str) -> bool {
     word == "join" || word == "renew"
 }
 
+/// Whether the word may be a path: it has a dot or a slash, as no command has, and is no option.
+fn is_path(word: &str) -> bool {
+    !word.starts_with("-") && (word.contains(".") || word.contains("/"))
+}
+
+/// Whether the word names a source, and not a file alone.
+fn is_source(word: &str) -> bool {
+    word.starts_with("at:") || word.starts_with("range:") || word.starts_with("cat:")
+}
+
 /// Whether the word is an option of one dash.
 fn is_short(word: &str) -> bool {
     word.starts_with("-") && !word.starts_with("--") && word.len() > 1
@@ -67,6 +89,21 @@ impl fmt::Display for RefusalHint<'_> {
                 "hint: options are words with two dashes, so {word} is none; '--' before it would make it a source"
             ),
             RefusalHint::Units => f.write_str("hint: name edit units by --from and --to"),
+            RefusalHint::Info => {
+                f.write_str("hint: what a recording is says: mxf_tool describe at:0:FILE")
+            }
+            RefusalHint::Recording(word) if is_source(word) => {
+                write!(
+                    f,
+                    "hint: what a recording is says: mxf_tool describe {word}"
+                )
+            }
+            RefusalHint::Recording(word) => {
+                write!(
+                    f,
+                    "hint: what a recording is says: mxf_tool describe at:0:{word}"
+                )
+            }
             RefusalHint::Timecode(text) => write!(
                 f,
                 "hint: edit units are counted from 0: {text} is as many as there are frames from the recording's first timecode up to it"

@@ -20,9 +20,10 @@ use Rattle.mxf_units.specs.declared.unit.EditUnit.{EditUnit}
 use Rattle.mxf_read.specs.declared.gathering.report.PieceReport.{PieceReport}
 use Rattle.mxf_units.specs.Ranges.{units_from}
 use Rattle.mxf_asked.specs.declared.ask.Ask.{Ask}
-use Rattle.mxf_asked.specs.declared.ask.Ask.TheVariants.{Show, Check, Locate, Join, Plan, Units}
+use Rattle.mxf_asked.specs.declared.ask.Ask.TheVariants.{Show, Check, Describe, Locate, Join, Plan, Units}
 use Rattle.mxf_lines.specs.declared.printing.AnswerFault.{AnswerFault}
 use Rattle.mxf_lines.specs.declared.printing.AnswerFault.TheVariants.{BadUnit}
+use Rattle.mxf_lines.specs.DescriptionLines.{description_lines, description_status}
 use Rattle.mxf_lines.specs.FindingLines.{count_line, finding_line, stop_line}
 use Rattle.mxf_lines.specs.IndexLines.{place_line}
 use Rattle.mxf_forms.specs.declared.form.Form.{Form}
@@ -67,6 +68,7 @@ asked_units index range at content =
 abbrev pub answer_lines : Ask → List PieceReport → AtHandParts → List NoteParts → List PrintedLine
 answer_lines Show reports at content = report_lines reports ++ content_lines content
 answer_lines Check reports at content = check_lines reports content
+answer_lines Describe reports at content = description_lines content
 answer_lines (Locate index unit) reports at content = place_line (place_of (segments_of content) index unit) ∷ []
 answer_lines Join reports at content = join_lines content
 answer_lines Plan reports at content = plan_lines (disputes_of content) (plan_of at content)
@@ -89,6 +91,7 @@ plan_status disputes p = if length p.orders == 0 && is_none disputes then 0 else
 abbrev pub answer_status : Ask → List PieceReport → AtHandParts → List NoteParts → ℕ
 answer_status Show reports at content = 0
 answer_status Check reports at content = check_status reports (findings_of content)
+answer_status Describe reports at content = description_status content
 answer_status (Locate index unit) reports at content = place_status (place_of (segments_of content) index unit)
 answer_status Join reports at content = 0
 answer_status Plan reports at content = plan_status (disputes_of content) (plan_of at content)
@@ -98,6 +101,7 @@ answer_status (Units index range) reports at content = units_status (asked_units
 abbrev pub IsBadAsk : Ask → Type 0
 IsBadAsk Show = ⊥
 IsBadAsk Check = ⊥
+IsBadAsk Describe = ⊥
 IsBadAsk (Locate index unit) = greatest_unit < unit
 IsBadAsk Join = ⊥
 IsBadAsk Plan = ⊥

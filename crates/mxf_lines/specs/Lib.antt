@@ -2,6 +2,7 @@ pub mod MapLines
 pub mod OneRun
 pub mod PlanLines
 pub mod Answering
+pub mod DescriptionLines
 pub mod FindLines
 pub mod FindingLines
 pub mod IndexLines

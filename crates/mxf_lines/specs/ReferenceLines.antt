@@ -73,6 +73,7 @@ property_word properties.Name = codes "name"
 property_word properties.Created = codes "created"
 property_word properties.Tracks = codes "tracks"
 property_word properties.Descriptor = codes "descriptor"
+property_word properties.TrackName = codes "track-name"
 
 -- What the values of properties are printed as: an identifier, the digits of a longer one, a text, the seven numbers of
 -- a timestamp, of which the year alone may be negative, a number of tracks, and the kind of a package.
@@ -102,44 +103,45 @@ abbrev pub kind_fields : Kind → List Field
 kind_fields kind = word " " "kind" (package_word kind) ∷ []
 
 -- The member of JSON that names the set that a record is of: what a reference names, and its identifier.
-abbrev pub owner_member : Owner → Field
-owner_member o = member (named_word o.named) (Characters (uid_text o.uid))
+abbrev pub owner_fields : Owner → List Field
+owner_fields o = member (named_word o.named) (Characters (uid_text o.uid)) ∷ []
 
--- The line of a value under this word, and in JSON the set of the record that says it.
-abbrev pub value_line : Owner → List ℕ → List Field → PrintedLine
-value_line o word fields = line_of word word (fields ++ owner_member o ∷ []) []
+-- The line of a value under this word, with the members of JSON that say what it is of.
+abbrev pub value_line : List Field → List ℕ → List Field → PrintedLine
+value_line owner word fields = line_of word word (fields ++ owner) []
 
 -- The line of a value if it is there, by its fields.
-abbrev pub value_lines : {X : Type 0} → Owner → List ℕ → (X → List Field) → Option X → List PrintedLine
-value_lines o word fields value = lines_where (λ x. value_line o word (fields x) ∷ []) value
+abbrev pub value_lines : {X : Type 0} → List Field → List ℕ → (X → List Field) → Option X → List PrintedLine
+value_lines owner word fields value = lines_where (λ x. value_line owner word (fields x) ∷ []) value
 
 -- The lines of the product that an Identification is of, and of when it was modified: of those that are there.
 abbrev pub product_lines : Owner → IdentificationParts → List PrintedLine
 product_lines o i =
-    value_lines o (codes "product") shown_fields i.product_name
-    ++ (value_lines o (codes "version") shown_fields i.version_string
-    ++ (value_lines o (codes "product-uid") hex_fields i.product_uid
-    ++ value_lines o (codes "modified") timestamp_fields i.modification_date))
+    value_lines (owner_fields o) (codes "product") shown_fields i.product_name
+    ++ (value_lines (owner_fields o) (codes "version") shown_fields i.version_string
+    ++ (value_lines (owner_fields o) (codes "product-uid") hex_fields i.product_uid
+    ++ value_lines (owner_fields o) (codes "modified") timestamp_fields i.modification_date))
 
 -- The lines of an Identification: those of its properties that are there, in this order.
 abbrev pub identification_lines : Owner → IdentificationParts → List PrintedLine
 identification_lines o i =
-    value_lines o (codes "generation") uid_fields i.this_generation_uid
-    ++ (value_lines o (codes "company") shown_fields i.company_name ++ product_lines o i)
+    value_lines (owner_fields o) (codes "generation") uid_fields i.this_generation_uid
+    ++ (value_lines (owner_fields o) (codes "company") shown_fields i.company_name ++ product_lines o i)
 
 -- The lines of the dates of a package, of how many tracks it has, and of its descriptor: of those that are there.
 abbrev pub package_details : Owner → PackageParts → List PrintedLine
 package_details o p =
-    value_lines o (codes "created") timestamp_fields p.creation_date
-    ++ (value_lines o (codes "modified") timestamp_fields p.modified_date
-    ++ (value_line o (codes "tracks") (tracks_fields (length p.tracks))
-    ∷ value_lines o (codes "descriptor") uid_fields p.descriptor))
+    value_lines (owner_fields o) (codes "created") timestamp_fields p.creation_date
+    ++ (value_lines (owner_fields o) (codes "modified") timestamp_fields p.modified_date
+    ++ (value_line (owner_fields o) (codes "tracks") (tracks_fields (length p.tracks))
+    ∷ value_lines (owner_fields o) (codes "descriptor") uid_fields p.descriptor))
 
 -- The lines of a package whose set has this kind: that, its identifier, its name if it is there, and those above.
 abbrev pub package_lines : Owner → Kind → PackageParts → List PrintedLine
 package_lines o kind p =
-    value_line o (codes "kind") (kind_fields kind) ∷ value_line o (codes "package-uid") (hex_fields p.package_uid)
-    ∷ (value_lines o (codes "name") shown_fields p.name ++ package_details o p)
+    value_line (owner_fields o) (codes "kind") (kind_fields kind)
+    ∷ value_line (owner_fields o) (codes "package-uid") (hex_fields p.package_uid)
+    ∷ (value_lines (owner_fields o) (codes "name") shown_fields p.name ++ package_details o p)
 
 -- The lines of the record of a set.
 abbrev pub lines_of_record : Owner → Record → List PrintedLine

@@ -11,6 +11,7 @@ ghost use Rattle.mxf_lines.specs.declared.printing.AnswerFault.TheVariants as fa
 
 mod check;
 mod content;
+mod description;
 mod found;
 mod line;
 mod lines;
@@ -25,6 +26,7 @@ mod units;
 mod verification;
 
 use check::print_checked;
+use description::print_description;
 pub use found::{Searched, print_found};
 use line::JoinLine;
 use lines::{Printer, print_with_status};
@@ -73,7 +75,8 @@ impl From<OutOfMemory> for AnswerFault {
 
 /// Prints the lines that are asked for, in a form. The answer is 1 if a check finds something, or a piece doesn't end
 /// with a packet, if an edit unit has no place or more than one, if a plan finds something to restore or a packet is
-/// disputed, or if not all bytes of the units are held or at hand; otherwise it is 0. Only a plan and units depend on
+/// disputed, if not all bytes of the units are held or at hand, or if a description isn't of a finished copy or lacks
+/// something; otherwise it is 0. Only a plan and units depend on
 /// what is at hand.
 ///
 /// The unit is tested first: above 9,223,372,036,854,775,807 it is a `BadUnit`. Out of memory, some whole lines
@@ -114,6 +117,7 @@ fn print_asked<W: Write>(
     match *ask {
         Ask::Show => print_with_status(printer, writer, gathered, 0),
         Ask::Check => print_checked(printer, writer, gathered),
+        Ask::Describe => print_description(printer, writer, &gathered.views),
         Ask::Locate { index, unit } => {
             let Ok(place) = gathered.views.locate(index, unit) else {
                 return Err(AnswerFault::BadUnit);

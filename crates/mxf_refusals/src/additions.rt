@@ -61,7 +61,7 @@ fn between() -> Option<Note> {
 }
 
 /// The head of the packet between the two.
-fn head_between() -> Option<Note> {
+pub(crate) fn head_between() -> Option<Note> {
     Some(between()?.to_head())
 }
 

@@ -16,6 +16,8 @@ mod files;
 #[cfg(test)]
 mod finds;
 #[cfg(test)]
+mod heads;
+#[cfg(test)]
 mod looked_up;
 #[cfg(test)]
 mod pieces;
@@ -27,6 +29,8 @@ mod readers;
 mod readings;
 #[cfg(test)]
 mod renewals;
+#[cfg(test)]
+mod tracks;
 #[cfg(test)]
 mod unions;
 #[cfg(test)]

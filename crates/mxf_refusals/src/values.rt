@@ -143,7 +143,7 @@ fn is_of_the_package(resolved: &Resolved) -> bool {
 }
 
 /// What references lead to, even if one growth is refused.
-fn resolved_in(alloc: Global, views: &Views) -> Result<Option<Resolved>, OutOfMemory> {
+pub(crate) fn resolved_in(alloc: Global, views: &Views) -> Result<Option<Resolved>, OutOfMemory> {
     match resolved(alloc, views) {
         Ok(resolved) => Ok(resolved),
         Err(OutOfMemory) => resolved(alloc, views),

@@ -1,6 +1,5 @@
 //! The run of the program: its arguments, its files, its lines, and its exit status.
 mod beside;
-mod disputing;
 mod finding;
 mod renewing;
 mod verifying;
@@ -9,14 +8,13 @@ use crate::answered::exit_of_answer;
 use beside::print_beside;
 use clap::ArgMatches;
 use clap::error::ErrorKind;
-use disputing::tell_together;
 use finding::print_found_in;
 use mxf_asked::{Ask, AskedUnits, BadLastUnit, Grid, Hints, Request, Saving, Task, Told};
 use mxf_commands::{command, hints_of, request_of, signed_number, units_of, unreadable_argument};
 use mxf_forms::Form;
 use mxf_hints::{
     Exit, RefusalHint, RunFault, Telling, only_index, range_of, tell, tell_index, tell_on_screen,
-    tell_stops, tell_unsettled,
+    tell_stops, tell_together, tell_unsettled,
 };
 use mxf_lines::{
     AnswerFault, Searched, Verified, answer, print_found, print_map, print_renewed, print_sources,

@@ -1,7 +1,11 @@
-//! The subcommands that print what sources hold, and what is wrong in it: `show` and `check`.
+//! The subcommands that print what the recording is, what sources hold, and what is wrong in it: `describe`, `show` and
+//! `check`.
 use super::options::{named, with_sources};
 use clap::Command;
 use std::alloc::{AllocError, Global};
+
+/// What the help of `describe` ends with.
+const DESCRIBE_HELP: &str = source_help!("Example: mxf_tool describe at:0:clip.mxf");
 
 /// What the help of `show` ends with.
 const SHOW_HELP: &str = source_help!("Example: mxf_tool show at:0:clip.mxf");
@@ -10,6 +14,13 @@ const SHOW_HELP: &str = source_help!("Example: mxf_tool show at:0:clip.mxf");
 const CHECK_HELP: &str = source_help!(
     "Example: mxf_tool check at:0:front.bin at:62914560:rest.bin"
 );
+
+/// The subcommand that prints what the recording is.
+pub fn describe<'a>(alloc: Global) -> Result<Command<'a>, AllocError> {
+    let about =
+        "Prints what the recording is: packages, tracks, durations, timecodes, picture and sound";
+    with_sources(alloc, named(alloc, "describe", about, DESCRIBE_HELP))
+}
 
 /// The subcommand that prints what sources hold.
 pub fn show<'a>(alloc: Global) -> Result<Command<'a>, AllocError> {

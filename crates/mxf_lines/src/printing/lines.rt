@@ -8,7 +8,7 @@ mod joined;
 mod printer;
 
 use super::AnswerFault;
-pub use joined::{Each, Then, take_first};
+pub use joined::{Each, Lent, Then, take_first};
 pub use printer::{Line, Printer};
 use std::io::Write;
 

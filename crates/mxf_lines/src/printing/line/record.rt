@@ -1,8 +1,8 @@
 //! The lines of what records say.
-ghost use Rattle.std.specs.Prelude.{◌≡◌, [], ◌∷◌, ◌++◌, List, IfOk, codes, string_bytes, option_map};
+ghost use Rattle.std.specs.Prelude.{◌≡◌, ◌++◌, List, IfOk, codes, string_bytes, option_map};
 ghost use Rattle.mxf_forms.specs.Forms.{Field};
 ghost use Rattle.mxf_lines.specs.ReferenceLines.{hex_fields, identification_lines, kind_fields, named_word};
-ghost use Rattle.mxf_lines.specs.ReferenceLines.{owner_member, package_details, package_lines, shown_fields};
+ghost use Rattle.mxf_lines.specs.ReferenceLines.{owner_fields, package_details, package_lines, shown_fields};
 ghost use Rattle.mxf_lines.specs.ReferenceLines.{product_lines, text_fields, timestamp_fields, property_word};
 ghost use Rattle.mxf_lines.specs.ReferenceLines.{tracks_fields, uid_fields, value_line, value_lines};
 ghost use Rattle.mxf_lines.specs.ShownText.{shown_value, shown_char, shown_text};
@@ -15,8 +15,8 @@ use mxf_sets::{Identification, Package, TextFault, Timestamp, text};
 use std::alloc::Global;
 use uuid::Uuid;
 
-/// What a record says under a word.
-trait Value {
+/// What a record says under a word, or what a line is of.
+pub trait Value {
     // Its fields.
     ghost fields: { Self → List Field };
 
@@ -89,7 +89,7 @@ impl<'a> Value for &'a str {
 
 /// What a record says.
 #[derive(Clone, Copy)]
-enum Property {
+pub enum Property {
     Generation,
     Company,
     Product,
@@ -102,6 +102,7 @@ enum Property {
     Created,
     Tracks,
     Descriptor,
+    TrackName,
 }
 
 impl Property {
@@ -122,6 +123,7 @@ impl Property {
             Property::Created => "created",
             Property::Tracks => "tracks",
             Property::Descriptor => "descriptor",
+            Property::TrackName => "track-name",
         }
     }
 }
@@ -152,39 +154,48 @@ pub struct Owner {
     pub uid: [u8; 16],
 }
 
-/// A value under its word, and the set of the record that says it.
-#[derive(Clone, Copy)]
-struct ValueLine<V>(Owner, Property, V);
+/// Its member of JSON.
+impl Value for Owner {
+    ghost fields = { owner_fields };
 
-impl<V: Value> Line for ValueLine<V> {
-    ghost line = { λ l. value_line l.0 (property_word l.1) (V.fields l.2) };
+    fn write_to(&self, to: &mut FieldWriter) -> Result<(), AllocError> {
+        to.word_member(self.named.word(), Uuid::from_bytes(self.uid))
+    }
+}
+
+/// A value under its word, and what it is of.
+#[derive(Clone, Copy)]
+struct ValueLine<O, V>(O, Property, V);
+
+impl<O: Value, V: Value> Line for ValueLine<O, V> {
+    ghost line = { λ l. value_line (O.fields l.0) (property_word l.1) (V.fields l.2) };
 
     fn write_fields(&self, fields: &mut FieldWriter) -> Result<(), AllocError> {
         let word = self.1.word();
         fields.begin(word, word)?;
-        write_owned(fields, &self.2, self.0)?;
+        write_owned(fields, &self.2, &self.0)?;
         fields.end("")
     }
 }
 
-/// Writes a value, and the set of the record that says it.
-fn write_owned<V: Value>(
+/// Writes a value, and what it is of.
+pub fn write_owned<O: Value, V: Value>(
     fields: &mut FieldWriter,
     value: &V,
-    owner: Owner,
+    owner: &O,
 ) -> Result<(), AllocError>
-    ensures { IfOk result (λ _. fields.new ≡ with_fields (V.fields value.now ++ owner_member owner ∷ []) fields.old) }
+    ensures { IfOk result (λ _. fields.new ≡ with_fields (V.fields value.now ++ O.fields owner.now) fields.old) }
 {
     value.write_to(fields)?;
-    fields.word_member(owner.named.word(), Uuid::from_bytes(owner.uid))
+    owner.write_to(fields)
 }
 
 /// A value under its word, if it is there.
 #[derive(Clone, Copy)]
-struct ValueLines<V>(Owner, Property, Option<V>);
+pub struct ValueLines<O, V>(pub O, pub Property, pub Option<V>);
 
-impl<V: Value + Copy> Lines for ValueLines<V> {
-    ghost lines = { λ l. value_lines l.0 (property_word l.1) V.fields l.2 };
+impl<O: Value + Copy, V: Value + Copy> Lines for ValueLines<O, V> {
+    ghost lines = { λ l. value_lines (O.fields l.0) (property_word l.1) V.fields l.2 };
 
     fn print_to<W: Write>(self, printer: &mut Printer, writer: &mut W) -> Result<(), AnswerFault> {
         let ValueLines(owner, property, value) = self;
@@ -197,10 +208,10 @@ impl<V: Value + Copy> Lines for ValueLines<V> {
 
 /// A text under its word, given by the value of its item, if it is there.
 #[derive(Clone, Copy)]
-struct TextLines<'a>(Owner, Property, Option<&'a [u8]>);
+pub struct TextLines<'a, O>(pub O, pub Property, pub Option<&'a [u8]>);
 
-impl<'a> Lines for TextLines<'a> {
-    ghost lines = { λ l. value_lines l.0 (property_word l.1) shown_fields (option_map (λ v. v.now) l.2) };
+impl<'a, O: Value + Copy> Lines for TextLines<'a, O> {
+    ghost lines = { λ l. value_lines (O.fields l.0) (property_word l.1) shown_fields (option_map (λ v. v.now) l.2) };
 
     fn print_to<W: Write>(self, printer: &mut Printer, writer: &mut W) -> Result<(), AnswerFault> {
         let TextLines(owner, property, value) = self;

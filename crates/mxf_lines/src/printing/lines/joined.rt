@@ -70,3 +70,19 @@ pub fn take_first<'a, T: Copy>(items: &mut &'a [T]) -> Option<T>
     *items = left;
     Some(*first)
 }
+
+/// The items of a slice that are left, lent one by one.
+#[derive(Drop)]
+pub struct Lent<'r, T>(pub &'r [T]);
+
+impl<'r, T> Lent<'r, T> {
+    /// The next item.
+    pub fn next(&mut self) -> Option<&'r T>
+        ensures none { IfNone result (self.old.0.now ≡ []) }
+        ensures some { IfSome result (λ first. self.old.0.now ≡ first.now ∷ self.new.0.now) }
+    {
+        let (first, left) = self.0.split_first()?;
+        self.0 = left;
+        Some(first)
+    }
+}

@@ -1,6 +1,8 @@
 //! Telling that sources dispute packets, and which recordings they are of.
+use crate::apart::tell_apart;
+use crate::offsets::views_of;
+use crate::telling::tell_on_screen;
 use mxf_forms::hex_text;
-use mxf_hints::{tell_apart, tell_on_screen, views_of};
 use mxf_read::PieceReport;
 use mxf_references::{Target, resolved};
 use mxf_saving::Source;
