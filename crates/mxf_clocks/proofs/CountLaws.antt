@@ -66,7 +66,7 @@ mapped_le f p (x ∷ xs) says =
           let one : tally (p x) ≡ 1 = ap tally (says x y e) in omega (arith, ih, c, one)
     ] refl
 
-counted_length : {X : Type 0} (p : X → Bool) (xs : List X) → count_by p xs ≡ length (filter p xs)
+pub counted_length : {X : Type 0} (p : X → Bool) (xs : List X) → count_by p xs ≡ length (filter p xs)
 counted_length p [] = refl
 counted_length p (x ∷ xs) = grind (arith, count_by-cons p x xs, counted_length p xs)
 

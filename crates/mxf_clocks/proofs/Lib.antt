@@ -7,3 +7,10 @@ pub mod ShownLaws
 pub mod CountLaws
 pub mod OrderLaws
 pub mod TimedLaws
+pub mod RateTableLaws
+pub mod FileTableLaws
+pub mod LookupLaws
+pub mod FirstTracks
+pub mod SameRuns
+pub mod LoopSteps
+pub mod ClipLaws

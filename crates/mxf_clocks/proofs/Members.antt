@@ -26,3 +26,17 @@ then_with f (Some a) y e = (a, refl, e)
 pub then_to : {A B : Type 0} (f : A → Option B) (o : Option A) (a : A) (y : B) → o ≡ Some a → f a ≡ Some y
     → option_and_then f o ≡ Some y
 then_to f o a y e h = ap (option_and_then f) e ∙ h
+
+pub with_choice : {A : Type 0} (b : Bool) (o : Option A) (y : A) → cond b o None ≡ Some y → (b ≡ true) × (o ≡ Some y)
+with_choice true o y e = (refl, e)
+with_choice false o y e = absurd cc
+
+pub to_choice : {A : Type 0} (b : Bool) (o : Option A) (y : A) → b ≡ true → o ≡ Some y → cond b o None ≡ Some y
+to_choice b o y e h = ap (λ t. cond t o None) e ∙ h
+
+pub with_denial : {A : Type 0} (b : Bool) (o : Option A) (y : A) → cond b None o ≡ Some y → (b ≡ false) × (o ≡ Some y)
+with_denial true o y e = absurd cc
+with_denial false o y e = (refl, e)
+
+pub to_denial : {A : Type 0} (b : Bool) (o : Option A) (y : A) → b ≡ false → o ≡ Some y → cond b None o ≡ Some y
+to_denial b o y e h = ap (λ t. cond t None o) e ∙ h

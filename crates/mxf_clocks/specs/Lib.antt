@@ -9,3 +9,4 @@ pub mod RunOrder
 pub mod RunLaws
 pub mod Clocks
 pub mod Shown
+pub mod Lookups

@@ -2,7 +2,7 @@
 ghost use Rattle.std.specs.Prelude.{◌≡◌, ◌↔◌, ◌≤◌, ◌+◌, ◌==◌, Some, IfOk, ℕ, List, filter, length};
 ghost use Rattle.std.specs.List.{list_any};
 ghost use Rattle.mxf_klv.specs.Parts.{NoteParts};
-ghost use Rattle.mxf_klv.specs.Rising.{In, IsRising};
+ghost use Rattle.mxf_klv.specs.Rising.{In, IsRising, SameMembers};
 ghost use Rattle.mxf_tracks.specs.declared.package.PackageAt.{PackageAt};
 ghost use Rattle.mxf_clocks.specs.ClockTracks.{found_packages, found_tracks, is_of_kind, is_timecode};
 ghost use Rattle.mxf_clocks.specs.Clocks.{clips_found, clocks_of, files_found, is_finished, runs_by, runs_of, teller};
@@ -78,14 +78,14 @@ fn teller(packages: &[PackageAt<'_>]) -> PackageKind
     PackageKind::Source
 }
 
-/// The runs that packages of a kind give.
+/// The runs that packages of a kind give, in no order.
 fn runs_by(
     alloc: Global,
     by: PackageKind,
     segments: &[SegmentInNumbers],
     packages: &[PackageAt<'_>],
 ) -> Result<Vec<Run>, OutOfMemory>
-    ensures { IfOk result (λ v. v.items ≡ runs_by by (is_timed segments.now) packages.now) }
+    ensures { IfOk result (λ v. SameMembers v.items (runs_by by (is_timed segments.now) packages.now)) }
 {
     match by {
         PackageKind::Material => runs_by_material(alloc, segments, packages),
@@ -126,7 +126,7 @@ fn runs_of(
 impl Clocks {
     /// Those that the packages of the preferred copy give ([`preferred_tracks`](mxf_tracks::preferred_tracks)): none
     /// unless that copy is finished, since a set that is missing could be the one that shifts the clock. They take
-    /// memory.
+    /// memory, and n log n steps for n packages, tracks, clips and index table segments.
     pub fn of(alloc: Global, views: &Views, tracks: &Tracks<'_>) -> Result<Clocks, OutOfMemory>
         ensures { IfOk result (λ c. c ≡ clocks_of views.now tracks.now) }
     {

@@ -11,10 +11,13 @@ mod clock_track;
 mod clocks;
 mod file_package;
 mod fraction;
+mod index_rates;
 pub mod laws;
 mod material;
+mod origins;
 mod run;
 mod source;
+mod tables;
 mod track_for;
 
 pub use clocks::Clocks;

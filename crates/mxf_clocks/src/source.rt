@@ -1,13 +1,15 @@
 //! Runs by the file packages themselves, if no material package tells the time.
 ghost use Rattle.std.specs.Prelude.{◌≡◌, IfOk};
 ghost use Rattle.mxf_clocks.specs.ClockTracks.{IsClock};
-ghost use Rattle.mxf_clocks.specs.Clocks.{run_by_own_clock, run_by_source, runs_by_sources};
+ghost use Rattle.mxf_clocks.specs.Clocks.{run_by_own_clock, runs_by_sources};
+ghost use Rattle.mxf_clocks.specs.Lookups.{index_kept, run_by_index, timed_in};
 ghost use Rattle.mxf_clocks.specs.TracksFor.{is_timed};
 
 use crate::clock_track::{ClockTrack, clock_of};
-use crate::file_package::file_index;
 use crate::fraction::{rate_over, units_left};
+use crate::index_rates::IndexRates;
 use crate::run::{Run, run_from};
+use crate::tables::Tables;
 use crate::track_for::first_beside;
 use mxf_klv::OutOfMemory;
 use mxf_tracks::{FoundPackage, PackageAt, TrackAt};
@@ -16,15 +18,15 @@ use std::alloc::Global;
 
 /// The run that a clock of a file package gives its own index.
 fn run_by_own_clock(
-    segments: &[SegmentInNumbers],
+    rates: &IndexRates,
     tracks: &[TrackAt<'_>],
     index_sid: u32,
     clock: &ClockTrack,
 ) -> Option<Run>
     requires { IsClock clock.now }
-    ensures { result ≡ run_by_own_clock (is_timed segments.now) tracks.now index_sid clock.now }
+    ensures { result ≡ run_by_own_clock (timed_in rates.now.by_index) tracks.now index_sid clock.now }
 {
-    let track = first_beside(segments, index_sid, clock.rate, tracks)?;
+    let track = first_beside(rates, index_sid, clock.rate, tracks)?;
     let step = rate_over(clock.rate, track.track.edit_rate());
     let count = units_left(step, 0, clock.duration);
     let first = i128::from(track.track.origin());
@@ -32,18 +34,15 @@ fn run_by_own_clock(
 }
 
 /// The run that a package gives, if it is a file package with a clock track.
-#[tactic(auto, unfolding(crate::specs::Clocks::run_by_source))]
-fn run_by_source(
-    segments: &[SegmentInNumbers],
-    packages: &[PackageAt<'_>],
-    file: &FoundPackage<'_>,
-) -> Option<Run>
-    ensures { result ≡ run_by_source (is_timed segments.now) packages.now file.now }
+#[tactic(auto, unfolding(crate::specs::Lookups::run_by_index))]
+fn run_by_index(tables: &Tables, file: &FoundPackage<'_>) -> Option<Run>
+    ensures { result ≡ run_by_index (timed_in tables.now.rates.by_index) (index_kept tables.now.indexes.by_package)
+        file.now }
 {
-    let index_sid = file_index(packages, file)?;
+    let index_sid = tables.indexes.get(&file.properties.package_uid())?;
     let tracks = file.tracks.as_slice();
     let clock = clock_of(tracks)?;
-    run_by_own_clock(segments, tracks, index_sid, &clock)
+    run_by_own_clock(&tables.rates, tracks, index_sid, &clock)
 }
 
 /// The runs that file packages give.
@@ -54,10 +53,11 @@ pub(crate) fn runs_by_sources(
 ) -> Result<Vec<Run>, OutOfMemory>
     ensures { IfOk result (λ v. v.items ≡ runs_by_sources (is_timed segments.now) packages.now) }
 {
+    let tables = Tables::of(alloc, segments, packages)?;
     let mut runs = Vec::new(alloc);
     for package in packages {
         if let Some(file) = &package.found {
-            if let Some(run) = run_by_source(segments, packages, file) {
+            if let Some(run) = run_by_index(&tables, file) {
                 runs.push(run)?;
             }
         }
