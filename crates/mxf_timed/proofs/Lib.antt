@@ -1,0 +1,12 @@
+pub mod WordLaws
+pub mod DayLaws
+pub mod GoneLaws
+pub mod AnswerLaws
+pub mod RangeLaws
+pub mod OffsetLaws
+pub mod StoredLaws
+pub mod BoundLaws
+pub mod PlaceLaws
+pub mod SpanLaws
+pub mod StoredPositions
+pub mod ShownLaws
