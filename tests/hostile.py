@@ -6,16 +6,16 @@
                                                 it says how far it is; the last line is 'N passed, M failed'
     tests/hostile.py --make NUMBER FOLDER       writes the sources of that number into the folder
 
-Of each file the program is asked everything. Each run has to end with a status that fits what was asked, within a bound
-of processor time, n log n in the bytes of its sources, and a bound of memory, linear in them. Running out of memory
-within that bound fails, as does anything on standard error but that an index isn't held. What is noted, why a piece
-ends, what is disputed or a gap, how pieces with other bytes stand to a reference of some of them, where each source
-lies in one of them and in the saved catalogue, and that catalogue are compared with those of notes.py, which goes by ST
-336 alone, and what is put together and ordered of ranges with those of at_hand.py. Cut at packets and within them, with
-repeats, a part saved, in another order, the sources leave the same catalogue, and a saved one is shown as they are;
-ranges do in another order, with repeats, and with what was saved of them. Whole notes that version 1 of the file saved
-are shown, and joined with the others. A damaged catalogue of either version, or one with parts of both, is shown, or
-refused with its cause and place, by notes.py too.
+Of each file the program is asked everything. Each run has to end with a status that fits what was asked, within a
+bound of processor time, n log n in the bytes of its sources, and a bound of memory, linear in them. Running out of
+memory within that bound fails, as does anything on standard error but that an index isn't held. What is noted, why a
+piece ends, what is disputed or a gap, how pieces with other bytes stand to a reference of some of them, where each
+source lies in one of them and in the saved catalogue, and that catalogue are compared with those of notes.py, which
+goes by ST 336 alone, what is put together and ordered of ranges with those of at_hand.py, and clocks with those of
+clocks.py. Cut at packets and within them, with repeats, a part saved, in another order, the sources leave the same
+catalogue, and a saved one is shown as they are; ranges do in another order, with repeats, and with what was saved of
+them. Whole notes that version 1 of the file saved are shown, and joined with the others. A damaged catalogue of either
+version, or one with parts of both, is shown, or refused with its cause and place, by notes.py too.
 
 A file of a shape with many alike, and one of twice as many: no question takes more than two and a half times as long,
 and `describe` not more than 2.3 times.
@@ -38,8 +38,8 @@ import time
 
 import notes
 from hostile_files import (
-    MANY, SHAPES, TOP, differing_ranges, heads_over_bytes, listed_units, many_components, many_descriptors, many_packages,
-    many_tracks, moved_packets, named_again, named_partitions, pieces_of,
+    MANY, SHAPES, TOP, differing_ranges, heads_over_bytes, listed_units, many_clips, many_clocks, many_components,
+    many_descriptors, many_packages, many_tracks, moved_packets, named_again, named_partitions, pieces_of,
 )  # fmt: skip
 from hostile_runs import Run, Wrong, finds, is_shown, read_source, try_file, try_number, without_kind
 
@@ -48,7 +48,7 @@ GREATEST_RATIO = 2.5
 # That of describe, which reads each set once.
 GREATEST_RATIO_OF_DESCRIBE = 2.3
 # The shapes of header metadata.
-DESCRIBED = (many_packages, many_tracks, many_components, many_descriptors, named_again)
+DESCRIBED = (many_packages, many_tracks, many_components, many_descriptors, named_again, many_clocks, many_clips)
 # Seconds of processor time that a busy machine adds to a run: a ratio doesn't count them.
 NOISE = 0.05
 # How many copies of an example are sources of one run, a flipped bit in each, and how many bytes of it are tried so

@@ -329,6 +329,123 @@ def named_again(rng, many=None):
     return described(rng, many, many, many, many, True)
 
 
+TIMECODE = "060e2b34040101010103020101000000"
+
+
+def signed(number):
+    """A number of eight bytes with a sign, as digits."""
+    return number.to_bytes(8, "big", signed=True).hex()
+
+
+class Made:
+    """Sets of header metadata, which are made one by one, with numbers from 3 on."""
+
+    def __init__(self):
+        self.numbers, self.sets = itertools.count(3), []
+
+    def a(self, kind, **items):
+        """The number of a set that is made."""
+        own = next(self.numbers)
+        self.sets.append(set_of(kind, own, **items))
+        return own
+
+    def refs(self, numbers):
+        """References to these sets."""
+        return batch(len(numbers), 16, bytes.fromhex("".join(map(uid, numbers))))
+
+    def track(self, track, definition, components, rate=RATE, origin=0):
+        """A track with this TrackID, whose sequence has these components."""
+        sequence = self.a("0f", _0201=definition, _0202="00" * 7 + "01", _1001=self.refs(components))
+        return self.a("3b", _4801=f"{track:08x}", _4b01=rate, _4b02=signed(origin), _4803=uid(sequence))
+
+    def clip(self, package, track, position, duration=1):
+        """A clip of so many edit units of this track of the package, from a position on."""
+        items = {"_0202": signed(duration), "_1201": signed(position)}
+        return self.a("11", **items, _1101=uid(package) * 2, _1102=f"{track:08x}")
+
+    def timecode(self, number, duration=-1, base=25, is_drop=False):
+        """A timecode component that begins with this number."""
+        return self.a("14", _0202=signed(duration), _1501=signed(number), _1502=f"{base:04x}", _1503=f"{is_drop:02x}")
+
+    def clock(self, number):
+        """A track of timecode that begins with this number."""
+        return self.track(1, TIMECODE, [self.timecode(number)])
+
+    def package(self, kind, package, tracks, index=None):
+        """A package with these tracks, and a container with an index if it has one."""
+        if index is not None:
+            self.a("23", _2701=uid(package) * 2, _3f06=f"{index:08x}", _3f07="00000001")
+        return self.a(kind, _4401=uid(package) * 2, _4403=self.refs(tracks))
+
+    def laid(self, packages, segments):
+        """A header partition of these sets, of which these are the packages, and index table segments behind it."""
+        first = [set_of("2f", 1, _3b03=uid(2), _3b06=batch(0, 16)), set_of("18", 2, _1901=self.refs(packages))]
+        data = laid(["primer"]) + b"".join(first + self.sets)
+        return [(0, laid([f"header header-bytes={len(data)}"]) + data + laid(segments))]
+
+
+def some_clocks(rng):
+    """A few packages that tell the time or have an index, with rates, Origins, durations and bases of all kinds, and
+    segments of some of these rates."""
+    made, packages, files = Made(), [], [1 << 40 | number for number in range(rng.randint(1, 3))] + [0]
+    all_rates = (RATE, "0000003200000002", "00007530000003e9", "0000bb8000000001", "0000003c00000001", "0000000000000001", "ffffffe700000001")
+    rates = [*rng.sample(all_rates, 2), RATE]
+
+    def number(*more):
+        """A number, at times one of the edge."""
+        return rng.choice((0, 1, 2, 7, 1000, 2**62, -1, -3, *more))
+
+    def clips():
+        """Clips of the file packages, and a filler at times."""
+        parts = [made.clip(rng.choice(files), rng.choice((1, 2, 3)), number(2**63 - 1, -(2**63)), number()) for _ in range(rng.randint(1, 4))]
+        return parts + ([made.a("09", _0202=signed(number()))] if rng.random() < 0.3 else [])
+
+    def essence(track):
+        """A track of picture, or one of timecode without one."""
+        return made.track(track, rng.choice((PICTURE, PICTURE, TIMECODE)), clips(), rng.choice(rates), rng.choice((0, 0, 0, 2, -3)))
+
+    def time():
+        """A track of timecode, of two parts at times."""
+        base, is_drop = rng.choice(((25, False), (30, False), (30, True), (60, True), (25, True), (120, False), (0, False)))
+        parts = [made.timecode(number(89999, 2589407, -(2**63)), number(2**63 - 1), base, is_drop) for _ in range(rng.choice((1, 1, 1, 2)))]
+        return made.track(1, TIMECODE, parts, rng.choice(rates), rng.choice((0, 0, 0, 1)))
+
+    for file in rng.choices(files, k=len(files) + rng.choice((0, 0, 1))):
+        tracks = ([time()] if rng.random() < 0.7 else []) + [essence(rng.choice((1, 2, 2, 3))) for _ in range(rng.randint(1, 3))]
+        packages.append(made.package("37", file, rng.sample(tracks, len(tracks)), rng.choice((0, 1, 1, 2))))
+    for name in range(rng.choice((0, 1, 1, 2))):
+        tracks = ([time()] if rng.random() < 0.9 else []) + [essence(track) for track in range(rng.randint(1, 3))]
+        packages.append(made.package("36", 1 << 41 | name, tracks))
+    lines = [f"segment index-sid={rng.choice((1, 2))} rate={rng.choice(('25/1', '50/2', '48000/1', '0/1'))}" for _ in range(rng.choice((0, 0, 1, 2)))]
+    return made.laid(packages, lines)
+
+
+def many_clocks(rng, many=None):
+    """As many material packages that tell the time, of a clip each, as file packages with an index each, and as segments."""
+    many, made, packages = many or rng.choice((1, 20, 300)), Made(), []
+    files = [1 << 40 | number for number in range(many)]
+    for number, file in enumerate(files):
+        tracks = [made.track(2, PICTURE, [made.clip(0, 0, 0)])]
+        packages.append(made.package("37", file, tracks, number + 1))
+    for number in range(many):
+        tracks = [made.clock(rng.choice((0, number))), made.track(2, PICTURE, [made.clip(rng.choice(files), 2, number)])]
+        packages.append(made.package("36", 1 << 41 | number, tracks))
+    segments = [f"segment index-sid={rng.randint(1, many)} unit-bytes=1 start=0 duration=1" for _ in range(many)]
+    return made.laid(packages, segments)
+
+
+def many_clips(rng, many=None):
+    """A material package of as many clips as the file package has tracks, which show positions over one another, and as many
+    segments; at times all of one rate but the last."""
+    many, made, file = many or rng.choice((1, 20, 300)), Made(), 1 << 40
+    clips = [made.clip(file, rng.randint(1, many), rng.choice((0, number))) for number in range(many)]
+    material = made.package("36", 1 << 41, [made.clock(0), made.track(2, PICTURE, clips)])
+    tracks = [made.track(number + 1, PICTURE, [made.clip(0, 0, 0)]) for number in range(many)]
+    source = made.package("37", file, tracks, 1)
+    segments = ["segment unit-bytes=1 start=0 duration=1"] * many
+    return made.laid([material, source], segments + ["segment rate=50/1 unit-bytes=1 start=0 duration=1"] * rng.randint(0, 1))
+
+
 def disputes(rng, many=None):
     """Packets over one another, and one over all others, first or last."""
     pieces = [(rng.randint(0, 300), laid([rng.choice(("header", "fill 30", "essence 100", "primer", "rip 0:0"))])) for _ in range(rng.randint(2, 10))]
@@ -503,7 +620,8 @@ def two_readings(rng):
 SHAPES = (
     spelled_lengths, counts, items, packs_that_name, circles, zones, copies, random_indexes, segments_of_a_unit, listed_units,
     named_partitions, long_primer, long_batches, named_by_all, many_packages, many_tracks, many_components, many_descriptors,
-    named_again, disputes, many_packets, noise, mutated, mutated, mutated, two_readings, saved_heads,
+    named_again, some_clocks, some_clocks, many_clocks, many_clips, disputes, many_packets, noise, mutated, mutated, mutated,
+    two_readings, saved_heads,
     under_one_another, fronts_of_packets, labels_that_fail, ranges, ranges, differing_ranges, heads_over_bytes, named_one_by_one,
 )  # fmt: skip
 
@@ -519,6 +637,7 @@ MANY = {
     counts: 10000, items: 5000, packs_that_name: 10000, circles: 5000, zones: 5000, copies: 5000,
     random_indexes: 10000, segments_of_a_unit: 10000, listed_units: 1000, named_partitions: 20000, long_primer: 32000, long_batches: 2000, named_by_all: 2000, named_by_turns: 1000,
     many_packages: 2000, many_tracks: 10000, many_components: 10000, many_descriptors: 10000, named_again: 2000,
+    many_clocks: 1000, many_clips: 2000,
     disputes: 20000, many_packets: 40000, saved_heads: 10000, under_one_another: 10000, labels_that_fail: 100000,
     differing_ranges: 10000, heads_over_bytes: 10000, named_one_by_one: 2000, moved_packets: 5000,
 }  # fmt: skip

@@ -10,6 +10,7 @@ import subprocess
 import time
 
 import at_hand
+import clocks
 import notes
 from hostile_files import RangeOffset, mutated_bytes, pieces_of
 
@@ -277,6 +278,8 @@ def try_pieces(run, rng, pieces):
     status = described_status(described)
     if status is None or run.call((status,), len(wanted), "describe", f"cat:{saved}").splitlines() != described:
         raise Wrong("what is described isn't counted, or the saved catalogue isn't described as its pieces are")
+    if [line for line in described if line.startswith("clock ")] != clocks.clock_lines(described, shown):
+        raise Wrong("the clocks aren't those of the packages and segments")
     checked = run.call((0, 1), size, "check", *sources).splitlines()
     stops = list(stops_of(pieces, read, content))
     if checked[: len(stops)] != stops or checked[-1] != f"findings {len(checked) - len(stops) - 1}":

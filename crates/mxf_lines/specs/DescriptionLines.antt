@@ -2,11 +2,12 @@
 -- lines are this project's profile).
 use Rattle.std.specs.Prelude.{ℕ, ◌||◌, ◌&&◌, is_some, is_none, Bool, true, false, if◌then◌else◌, List, [], ◌∷◌}
 use Rattle.std.specs.Prelude.{◌++◌, length, filter, flat_map, codes, Option, None, Some, option_and_then, option_map}
+use Rattle.std.specs.Prelude.{unwrap_or}
 use Prim.Native.String.{String}
 use Rattle.std.specs.Fmt.{signed_decimal}
 use Rattle.std.specs.Int.{w32, to_be_bytes}
 use Rattle.std.specs.List.{list_all}
-use Rattle.std.specs.Option.{option_to_list}
+use Rattle.std.specs.Option.{option_map_or, option_to_list}
 use Rattle.mxf_klv.specs.Parts.{NoteParts}
 use Rattle.mxf_sets.specs.Component.{ClipParts, TimecodeParts, FillerParts, is_drop}
 use Rattle.mxf_sets.specs.Descriptor.{DescriptorParts}
@@ -43,7 +44,10 @@ use Rattle.mxf_tracks.specs.declared.track.TrackAt.{TrackAt}
 use Rattle.mxf_tracks.specs.Digits.{length_text, timecode_text}
 use Rattle.mxf_tracks.specs.Lengths.{length_of}
 use Rattle.mxf_tracks.specs.Timecodes.{timecode_of}
-use Rattle.mxf_tracks.specs.Walk.{tracks_from_resolved}
+use Rattle.mxf_tracks.specs.Walk.{tracks_in}
+use Rattle.mxf_clocks.specs.Clocks.{ClocksParts, clocks_of}
+use Rattle.mxf_clocks.specs.Runs.{RunParts}
+use Rattle.mxf_clocks.specs.RunTimecodes.{last_timecode, timecode_with}
 use Rattle.mxf_lines.specs.declared.printing.line.described.Within.{Within}
 use Rattle.mxf_forms.specs.Forms.{Absent, Characters, Field, PrintedLine, digits, field, known, line, line_of, member}
 use Rattle.mxf_forms.specs.Forms.{number, number_member, word}
@@ -205,11 +209,27 @@ sound_line s w =
     ∷ number_if " channels " "channels" s.channel_count ∷ number_if " bits " "bits" s.quantization_bits
     ∷ word_if " coding " "coding" hex_of s.coding ∷ []) w
 
--- How many packages and tracks are found.
-unfoldable pub packages_line : ℕ → ℕ → PrintedLine
-packages_line packages tracks =
+-- The positions of a run of an index: the first one, and how many there are if it has an end.
+abbrev pub position_fields : RunParts → List Field
+position_fields r =
+    number " " "index-sid" r.index_sid ∷ number " " "position" r.position ∷ number_if " " "count" r.count ∷ []
+
+-- The timecodes of its first and its last position, and frames in a second.
+abbrev pub timecode_fields : RunParts → List Field
+timecode_fields r =
+    word_if " at " "first" timecode_text (timecode_with r r.number)
+    ∷ word_if " to " "last" timecode_text (last_timecode r) ∷ number " base " "base" r.base ∷ []
+
+-- A run of a clock, and which packages tell the time.
+unfoldable pub clock_line : PackageKind → RunParts → PrintedLine
+clock_line by r =
+    line "clock" (position_fields r ++ (timecode_fields r ++ word " by " "by" (package_kind_text by) ∷ []))
+
+-- How many packages and tracks are found, and how many runs the clocks have.
+unfoldable pub packages_line : ℕ → ℕ → ℕ → PrintedLine
+packages_line packages tracks clocks =
     line "packages" (number " " "packages" packages ∷ number " tracks " "tracks" tracks
-    ∷ number " clocks " "clocks" 0 ∷ [])
+    ∷ number " clocks " "clocks" clocks ∷ [])
 
 -- ---- What is printed of each
 
@@ -336,16 +356,32 @@ tracks_found (Some p) = filter (λ t. is_some t.found) p.tracks
 abbrev pub found_tracks : List PackageAt → List TrackAt
 found_tracks packages = flat_map (λ p. tracks_found p.found) packages
 
+-- The runs of the clocks.
+abbrev pub clock_lines : ClocksParts → List PrintedLine
+clock_lines c = flat_map (λ r. clock_line c.by r ∷ []) c.runs
+
+abbrev pub runs_told : Option ClocksParts → ℕ
+runs_told clocks = option_map_or (λ c. length c.runs) clocks 0
+
 -- The lines of what the preferred copy says.
-abbrev pub description_of : Option CopyInfo → Option ResolvedParts → List PackageAt → List PrintedLine
-description_of copy resolved packages =
+abbrev pub description_of
+    : Option CopyInfo → Option ResolvedParts → List PackageAt → Option ClocksParts → List PrintedLine
+description_of copy resolved packages clocks =
     described_line copy ∷ (lines_where lost_lines resolved ++ (flat_map package_at_lines packages
-    ++ packages_line (length (found_packages packages)) (length (found_tracks packages)) ∷ []))
+    ++ (lines_where clock_lines clocks
+    ++ packages_line (length (found_packages packages)) (length (found_tracks packages)) (runs_told clocks) ∷ [])))
+
+-- The packages of the preferred copy, if there is one, and the clocks by them.
+abbrev pub packages_said : List NoteParts → Option (List PackageAt)
+packages_said content = option_map (tracks_in content) (resolved_of content)
+
+abbrev pub clocks_said : List NoteParts → Option ClocksParts
+clocks_said content = option_map (clocks_of content) (packages_said content)
 
 abbrev pub description_lines : List NoteParts → List PrintedLine
 description_lines content =
-    description_of (preferred_of (copies_of content)) (resolved_of content)
-    (tracks_from_resolved content (resolved_of content))
+    description_of (preferred_of (copies_of content)) (resolved_of content) (unwrap_or (packages_said content) [])
+    (clocks_said content)
 
 -- ---- The status
 
@@ -400,4 +436,4 @@ description_status_of copy resolved packages =
 abbrev pub description_status : List NoteParts → ℕ
 description_status content =
     description_status_of (preferred_of (copies_of content)) (resolved_of content)
-    (tracks_from_resolved content (resolved_of content))
+    (unwrap_or (packages_said content) [])

@@ -12,6 +12,8 @@ mod additions;
 #[cfg(test)]
 mod at_hand;
 #[cfg(test)]
+mod clocks;
+#[cfg(test)]
 mod files;
 #[cfg(test)]
 mod finds;

@@ -1,16 +1,18 @@
 //! What a recording is, by the preferred copy of its header metadata.
 ghost use Rattle.std.specs.Prelude.{◌≡◌, ◌&&◌, ◌∷◌, [], if◌then◌else◌, IfOk, Some, None, filter, flat_map, is_some};
-ghost use Rattle.std.specs.Prelude.{length, unwrap_or};
+ghost use Rattle.std.specs.Prelude.{length, option_map, unwrap_or};
 ghost use Rattle.std.specs.List.{list_all};
 ghost use Rattle.mxf_klv.specs.Written.{Puts};
-ghost use Rattle.mxf_lines.specs.DescriptionLines.{all_right, component_lines, description_lines, description_of};
+ghost use Rattle.mxf_lines.specs.DescriptionLines.{all_right, clock_line, clock_lines, component_lines};
+ghost use Rattle.mxf_lines.specs.DescriptionLines.{description_lines, description_of, runs_told};
 ghost use Rattle.mxf_lines.specs.DescriptionLines.{description_status, description_status_of, descriptor_lines};
 ghost use Rattle.mxf_lines.specs.DescriptionLines.{essence_lines, finds_storage, found_descriptor_lines, found_packages};
 ghost use Rattle.mxf_lines.specs.DescriptionLines.{found_package_lines, found_track_lines, found_tracks, has_picture};
 ghost use Rattle.mxf_lines.specs.DescriptionLines.{has_size, has_sound, is_finished, is_right, line_of_component};
 ghost use Rattle.mxf_lines.specs.DescriptionLines.{lost_lines, lost_storage, package_at_lines, package_container_line};
 ghost use Rattle.mxf_lines.specs.DescriptionLines.{picture_lines, right_components, sound_lines};
-ghost use Rattle.mxf_tracks.specs.Walk.{tracks_from_resolved};
+ghost use Rattle.mxf_clocks.specs.Clocks.{clocks_of};
+ghost use Rattle.mxf_tracks.specs.Walk.{tracks_in};
 ghost use Rattle.mxf_lines.specs.DescriptionLines.{right_descriptor, right_parts, right_sequence, right_tracks};
 ghost use Rattle.mxf_lines.specs.DescriptionLines.{sequence_lines_by, subdescriptor_lines, track_lines, tracks_found};
 ghost use Rattle.mxf_lines.specs.Lines.{lines_where};
@@ -18,17 +20,18 @@ ghost use Rattle.mxf_lines.specs.Printing.{Prints};
 
 use super::AnswerFault;
 use super::line::{
-    ClipLine, ComponentLine, DescribedLine, EssenceLine, FillerLine, PackageContainerLine,
-    PackageLine, PackagesLine, PictureLine, Property, SoundLine, TargetLine, TextLines,
-    TimecodeLine, TrackLine, ValueLines, Within,
+    ClipLine, ClockLine, ComponentLine, DescribedLine, EssenceLine, FillerLine,
+    PackageContainerLine, PackageLine, PackagesLine, PictureLine, Property, SoundLine, TargetLine,
+    TextLines, TimecodeLine, TrackLine, ValueLines, Within,
 };
 use super::lines::{Each, Lent, Lines, Printer, Series, Then, print_with_status};
+use mxf_clocks::{Clocks, Run};
 use mxf_klv::OutOfMemory;
 use mxf_references::{Resolved, Target as StorageTarget, resolved};
 use mxf_sets::{Descriptor, PictureFields, SoundFields};
 use mxf_tracks::{
     Component, Container, DescriptorAt, FoundDescriptor, FoundPackage, FoundSequence, FoundTrack,
-    PackageAt, Part, SequenceAt, SubdescriptorAt, Target, TrackAt, Tracks,
+    PackageAt, PackageKind, Part, SequenceAt, SubdescriptorAt, Target, TrackAt, Tracks,
 };
 use mxf_views::{CopyInfo, Views};
 use std::alloc::Global;
@@ -48,10 +51,12 @@ pub fn print_description<W: Write>(
 {
     let resolved = resolved(printer.alloc(), views)?;
     let tracks = tracks_of(printer.alloc(), views, &resolved)?;
+    let clocks = clocks_of(printer.alloc(), views, &tracks)?;
     let description = Description {
         copy: views.preferred(),
         resolved: &resolved,
         packages: packages_of(&tracks),
+        clocks: &clocks,
     };
     print_with_status(printer, writer, description, description.status())
 }
@@ -62,10 +67,24 @@ fn tracks_of<'a>(
     views: &'a Views,
     resolved: &Option<Resolved>,
 ) -> Result<Option<Tracks<'a>>, OutOfMemory>
-    ensures { IfOk result (λ t. unwrap_or t [] ≡ tracks_from_resolved views.now resolved.now) }
+    ensures { IfOk result (λ t. t ≡ option_map (tracks_in views.now) resolved.now) }
 {
     match resolved {
         Some(resolved) => Ok(Some(Tracks::of(alloc, views, resolved)?)),
+        None => Ok(None),
+    }
+}
+
+/// The clocks by these tracks, if there are any.
+fn clocks_of(
+    alloc: Global,
+    views: &Views,
+    tracks: &Option<Tracks<'_>>,
+) -> Result<Option<Clocks>, OutOfMemory>
+    ensures { IfOk result (λ c. c ≡ option_map (clocks_of views.now) tracks.now) }
+{
+    match tracks {
+        Some(tracks) => Ok(Some(Clocks::of(alloc, views, tracks)?)),
         None => Ok(None),
     }
 }
@@ -86,18 +105,21 @@ struct Description<'r, 'a> {
     copy: Option<CopyInfo>,
     resolved: &'r Option<Resolved>,
     packages: &'r [PackageAt<'a>],
+    clocks: &'r Option<Clocks>,
 }
 
 impl<'r, 'a> Lines for Description<'r, 'a> {
-    ghost lines = { λ d. description_of d.copy d.resolved.now d.packages.now };
+    ghost lines = { λ d. description_of d.copy d.resolved.now d.packages.now d.clocks.now };
 
     fn print_to<W: Write>(self, printer: &mut Printer, writer: &mut W) -> Result<(), AnswerFault> {
         let packages = self.packages;
         let found = PackagesLine {
             packages: found_packages(packages),
             tracks: found_tracks(packages),
+            clocks: runs_told(self.clocks),
         };
-        let packages = Then(Each(PackageLines(Lent(packages))), found);
+        let clocks = Then(ClockLines(self.clocks), found);
+        let packages = Then(Each(PackageLines(Lent(packages))), clocks);
         let lost = LostLines(self.resolved);
         Then(DescribedLine(self.copy), Then(lost, packages)).print_to(printer, writer)
     }
@@ -112,6 +134,54 @@ impl<'r, 'a> Description<'r, 'a> {
             && finds_storage(self.resolved)
             && all_right(self.packages);
         u8::from(!is_whole)
+    }
+}
+
+/// How many runs clocks have.
+fn runs_told(clocks: &Option<Clocks>) -> usize
+    ensures { result ≡ runs_told clocks.now }
+{
+    match clocks {
+        Some(clocks) => clocks.runs().len(),
+        None => 0,
+    }
+}
+
+/// The lines of clocks, none without a preferred copy.
+#[derive(Clone, Copy)]
+struct ClockLines<'r>(&'r Option<Clocks>);
+
+impl<'r> Lines for ClockLines<'r> {
+    ghost lines = { λ c. lines_where clock_lines c.0.now };
+
+    fn print_to<W: Write>(self, printer: &mut Printer, writer: &mut W) -> Result<(), AnswerFault> {
+        match self.0 {
+            Some(clocks) => {
+                let (by, left) = (clocks.by(), Lent(clocks.runs()));
+                Each(RunLines { by, left }).print_to(printer, writer)
+            }
+            None => Ok(()),
+        }
+    }
+}
+
+/// The lines of the runs that are left of clocks.
+#[derive(Drop)]
+struct RunLines<'r> {
+    by: PackageKind,
+    left: Lent<'r, Run>,
+}
+
+impl<'r> Series for RunLines<'r> {
+    type Item = ClockLine<'r>;
+
+    ghost lines_left = { λ s. flat_map (λ r. clock_line s.by r ∷ []) s.left.0.now };
+
+    ghost left = { λ s. length s.left.0.now };
+
+    fn next_item(&mut self) -> Option<ClockLine<'r>> {
+        let run = self.left.next()?;
+        Some(ClockLine { by: self.by, run })
     }
 }
 

@@ -1,4 +1,5 @@
 //! The printed lines.
+mod clock;
 mod copy;
 mod described;
 mod essence;
@@ -12,6 +13,7 @@ mod track;
 
 use super::AnswerFault;
 use super::lines::{Each, Line, Lines, Printer, Series, Then};
+pub use clock::ClockLine;
 pub use copy::PreferredLine;
 pub use described::{
     DescribedLine, PackageContainerLine, PackageLine, PackagesLine, TargetLine, Within,

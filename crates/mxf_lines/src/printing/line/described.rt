@@ -260,7 +260,7 @@ impl Line for PackageLine {
 }
 
 /// The word for a package.
-fn package_word(kind: PackageKind) -> &'static str
+pub fn package_word(kind: PackageKind) -> &'static str
     ensures { result.now ≡ package_kind_text kind }
 {
     match kind {
@@ -289,22 +289,23 @@ impl Line for PackageContainerLine {
     }
 }
 
-/// How many packages and tracks are found.
+/// How many packages and tracks are found, and how many runs the clocks have.
 #[derive(Clone, Copy)]
 pub struct PackagesLine {
     pub packages: usize,
     pub tracks: u128,
+    pub clocks: usize,
 }
 
 impl Line for PackagesLine {
-    ghost line = { λ l. packages_line l.packages l.tracks };
+    ghost line = { λ l. packages_line l.packages l.tracks l.clocks };
 
     #[tactic(auto, unfolding(crate::specs::DescriptionLines::packages_line))]
     fn write_fields(&self, fields: &mut FieldWriter) -> Result<(), AllocError> {
         fields.begin("packages", "packages")?;
         fields.number(" ", "packages", self.packages)?;
         fields.number(" tracks ", "tracks", self.tracks)?;
-        fields.number(" clocks ", "clocks", 0u8)?;
+        fields.number(" clocks ", "clocks", self.clocks)?;
         fields.end("")
     }
 }

@@ -7,3 +7,9 @@ returns-in_err-tracks-clause-lines g c =
     let some : 0 < length (description_lines c.args.views.now) = omega arith in
     let e = err_from_is_err_and c.from_residual-in_err-tracks.result c.from_residual-in_err-tracks.ensures.1 in
     rw (e.1, e.2) (0, some, search rules)
+
+pub returns-in_err-clocks-clause-lines : goal.returns-in_err-clocks-clause-lines
+returns-in_err-clocks-clause-lines g c =
+    let some : 0 < length (description_lines c.args.views.now) = omega arith in
+    let e = err_from_is_err_and c.from_residual-in_err-clocks.result c.from_residual-in_err-clocks.ensures.1 in
+    rw (e.1, e.2) (0, some, search rules)
