@@ -385,38 +385,43 @@ class Made:
 
 
 def some_clocks(rng):
-    """A few packages that tell the time or have an index, with rates, Origins, durations and bases of all kinds, and
-    segments of some of these rates."""
-    made, packages, files = Made(), [], [1 << 40 | number for number in range(rng.randint(1, 3))] + [0]
-    all_rates = (RATE, "0000003200000002", "00007530000003e9", "0000bb8000000001", "0000003c00000001", "0000000000000001", "ffffffe700000001")
-    rates = [*rng.sample(all_rates, 2), RATE]
+    """A few packages that tell the time or have an index, mostly so that they go together, with rates, Origins, durations
+    and bases of all kinds, and segments of some of these rates."""
+    made, packages, files = Made(), [], [1 << 40 | number for number in range(rng.randint(1, 3))]
+    other_rates = ("0000003200000002", "00007530000003e9", "0000bb8000000001", "0000003c00000001", "0000000000000001", "ffffffe700000001")
+    rates = [RATE] * 6 + rng.sample(other_rates, rng.choice((0, 0, 1, 2)))
+
+    def seldom(usual, *others):
+        """The usual one, or at times one of the others."""
+        return rng.choice(others) if rng.random() < 0.1 else usual
 
     def number(*more):
         """A number, at times one of the edge."""
-        return rng.choice((0, 1, 2, 7, 1000, 2**62, -1, -3, *more))
+        return seldom(rng.choice((0, 1, 2, 7, 1000)), 2**62, -1, -3, *more)
 
     def clips():
         """Clips of the file packages, and a filler at times."""
-        parts = [made.clip(rng.choice(files), rng.choice((1, 2, 3)), number(2**63 - 1, -(2**63)), number()) for _ in range(rng.randint(1, 4))]
+        name = seldom(rng.choice(files), 0, 1 << 41)
+        parts = [made.clip(name, rng.choice((1, 2)), number(2**63 - 1, -(2**63)), number()) for _ in range(rng.randint(1, 4))]
         return parts + ([made.a("09", _0202=signed(number()))] if rng.random() < 0.3 else [])
 
     def essence(track):
-        """A track of picture, or one of timecode without one."""
-        return made.track(track, rng.choice((PICTURE, PICTURE, TIMECODE)), clips(), rng.choice(rates), rng.choice((0, 0, 0, 2, -3)))
+        """A track of picture, seldom one of timecode without one."""
+        return made.track(track, seldom(PICTURE, TIMECODE), clips(), rng.choice(rates), seldom(0, 2, -3))
 
     def time():
-        """A track of timecode, of two parts at times."""
-        base, is_drop = rng.choice(((25, False), (30, False), (30, True), (60, True), (25, True), (120, False), (0, False)))
-        parts = [made.timecode(number(89999, 2589407, -(2**63)), number(2**63 - 1), base, is_drop) for _ in range(rng.choice((1, 1, 1, 2)))]
-        return made.track(1, TIMECODE, parts, rng.choice(rates), rng.choice((0, 0, 0, 1)))
+        """A track of timecode, seldom of two parts."""
+        base, is_drop = seldom(rng.choice(((25, False), (30, True), (60, True))), (30, False), (25, True), (120, False), (0, False))
+        parts = [made.timecode(number(89999, 2589407, -(2**63)), number(2**63 - 1), base, is_drop) for _ in range(seldom(1, 2))]
+        return made.track(1, TIMECODE, parts, rng.choice(rates), seldom(0, 1))
 
-    for file in rng.choices(files, k=len(files) + rng.choice((0, 0, 1))):
-        tracks = ([time()] if rng.random() < 0.7 else []) + [essence(rng.choice((1, 2, 2, 3))) for _ in range(rng.randint(1, 3))]
-        packages.append(made.package("37", file, rng.sample(tracks, len(tracks)), rng.choice((0, 1, 1, 2))))
+    for file in files + seldom([], [files[0]], [0]):
+        tracks = ([time()] if rng.random() < 0.7 else []) + [essence(track) for track in (1, 2, seldom(3, 2))]
+        packages.append(made.package("37", file, rng.sample(tracks, len(tracks)), seldom(rng.choice((1, 2)), 0)))
     for name in range(rng.choice((0, 1, 1, 2))):
-        tracks = ([time()] if rng.random() < 0.9 else []) + [essence(track) for track in range(rng.randint(1, 3))]
+        tracks = [seldom(time(), essence(4))] + [essence(track) for track in range(rng.randint(1, 3))]
         packages.append(made.package("36", 1 << 41 | name, tracks))
-    lines = [f"segment index-sid={rng.choice((1, 2))} rate={rng.choice(('25/1', '50/2', '48000/1', '0/1'))}" for _ in range(rng.choice((0, 0, 1, 2)))]
+    lines = [f"segment index-sid={rng.choice((1, 2))} rate={seldom('25/1', '50/2', '48000/1', '0/1')}" for _ in range(rng.choice((0, 1, 2)))]
     return made.laid(packages, lines)
 
 
