@@ -226,7 +226,7 @@ def package_of_items(rng, number, many):
 
 def named_by_turns(rng, many, numbers=(3, 4)):
     """References that name packages of many items by turns."""
-    refs = batch(many, 16, bytes.fromhex("".join(uid(numbers[n % len(numbers)]) for n in range(many))))
+    refs = references([numbers[n % len(numbers)] for n in range(many)])
     lines = [f"preface 3C0A={uid(1)} 3B03={uid(2)} 3B06={batch(0, 16)}", f"content-storage 3C0A={uid(2)} 1901={refs}"]
     lines += [package_of_items(rng, number, 60 * many) for number in numbers]
     size = len(laid(["primer"] + lines))
@@ -239,6 +239,12 @@ def named_by_all(rng, many=None):
 
 
 RATE, PICTURE = "0000001900000001", "060e2b34040101010103020201000000"
+TIMECODE = "060e2b34040101010103020101000000"
+
+
+def references(numbers):
+    """A batch of references to the sets of these numbers."""
+    return batch(len(numbers), 16, bytes.fromhex("".join(map(uid, numbers))))
 
 
 def listed(rng, count, make, is_one):
@@ -248,7 +254,7 @@ def listed(rng, count, make, is_one):
     if not is_one:
         for place in rng.sample(range(count), count // 50):
             refs[place] = rng.choice((0, 1, 2, rng.choice(refs)))
-    return batch(count, 16, bytes.fromhex("".join(map(uid, refs))))
+    return references(refs)
 
 
 def set_of(kind, number, **items):
@@ -257,47 +263,86 @@ def set_of(kind, number, **items):
     return bytes.fromhex(f"060e2b34025301010d0101010101{kind}00") + packets.length_field(4, len(value)) + value
 
 
+def signed(number):
+    """A number of eight bytes with a sign, as digits."""
+    return number.to_bytes(8, "big", signed=True).hex()
+
+
+class Made:
+    """Sets of header metadata, which are made one by one, with numbers from 3 on."""
+
+    def __init__(self):
+        self.numbers, self.sets = itertools.count(3), []
+
+    def a(self, kind, **items):
+        """The number of a set that is made."""
+        own = next(self.numbers)
+        self.sets.append(set_of(kind, own, **items))
+        return own
+
+    def track(self, track, definition, components, rate=RATE, origin=0):
+        """A track with this TrackID, whose sequence has these components."""
+        sequence = self.a("0f", _0201=definition, _0202="00" * 7 + "01", _1001=references(components))
+        return self.a("3b", _4801=f"{track:08x}", _4b01=rate, _4b02=signed(origin), _4803=uid(sequence))
+
+    def clip(self, package, track, position, duration=1):
+        """A clip of so many edit units of this track of the package, from a position on."""
+        items = {"_0202": signed(duration), "_1201": signed(position)}
+        return self.a("11", **items, _1101=uid(package) * 2, _1102=f"{track:08x}")
+
+    def timecode(self, number, duration=-1, base=25, is_drop=False):
+        """A timecode component that begins with this number."""
+        return self.a("14", _0202=signed(duration), _1501=signed(number), _1502=f"{base:04x}", _1503=f"{is_drop:02x}")
+
+    def clock(self, number):
+        """A track of timecode that begins with this number."""
+        return self.track(1, TIMECODE, [self.timecode(number)])
+
+    def package(self, kind, package, tracks, index=None):
+        """A package with these tracks, and a container with an index if it has one."""
+        if index is not None:
+            self.a("23", _2701=uid(package) * 2, _3f06=f"{index:08x}", _3f07="00000001")
+        return self.a(kind, _4401=uid(package) * 2, _4403=references(tracks))
+
+    def laid(self, packages, segments=()):
+        """A header partition of these sets, of which packages are named so, and index table segments behind it."""
+        first = [set_of("2f", 1, _3b03=uid(2), _3b06=batch(0, 16)), set_of("18", 2, _1901=packages)]
+        data = laid(["primer"]) + b"".join(first + self.sets)
+        return [(0, laid([f"header header-bytes={len(data)}"]) + data + laid(segments))]
+
+
 def described(rng, packages, tracks, components, descriptors, is_one=False):
     """Header metadata of so many packages with so many tracks each, of so many components each, and so many
     subdescriptors each, and two container sets for each package; or of one of each, which a list of so many names."""
-    numbers, sets = itertools.count(3), []
-
-    def made(kind, **items):
-        """The number of a set that is made."""
-        own = next(numbers)
-        sets.append(set_of(kind, own, **items))
-        return own
+    made = Made()
 
     def component():
         """A clip, a timecode or a filler, at times of unknown duration."""
         duration = rng.choice(("00" * 7 + "01", "00" * 7 + "01", "FF" * 8))
         items = {"11": {"_1201": "00" * 8, "_1101": "00" * 32, "_1102": "00" * 4}, "14": {"_1501": "00" * 8, "_1502": "0019"}, "09": {}}
         kind = rng.choice(list(items))
-        return made(kind, _0202=duration, **items[kind])
+        return made.a(kind, _0202=duration, **items[kind])
 
     def track():
         """A track with its sequence."""
         components_of = listed(rng, components, component, is_one)
-        sequence = made("0f", _0201=PICTURE, _0202="00" * 8, _1001=components_of)
-        return made("3b", _4801="00" * 4, _4b01=RATE, _4803=uid(sequence))
+        sequence = made.a("0f", _0201=PICTURE, _0202="00" * 8, _1001=components_of)
+        return made.a("3b", _4801="00" * 4, _4b01=RATE, _4803=uid(sequence))
 
     def descriptor():
         """A descriptor of a picture."""
-        return made("51", _3001=RATE, _3203="00000140", _3202="000000F0")
+        return made.a("51", _3001=RATE, _3203="00000140", _3202="000000F0")
 
     def package():
         """A package with its descriptor and its containers."""
-        several = made("44", _3001=RATE, _3f01=listed(rng, descriptors, descriptor, is_one))
+        several = made.a("44", _3001=RATE, _3f01=listed(rng, descriptors, descriptor, is_one))
         of_tracks, kind = listed(rng, tracks, track, is_one), rng.choice(("36", "37"))
-        own = made(kind, _4401=uid(several) * 2, _4403=of_tracks, _4701=uid(several))
+        own = made.a(kind, _4401=uid(several) * 2, _4403=of_tracks, _4701=uid(several))
         for _ in range(2):
-            made("23", _2701=uid(several) * 2, _3f06="00000001", _3f07="00000002")
+            made.a("23", _2701=uid(several) * 2, _3f06="00000001", _3f07="00000002")
         return own
 
-    of_packages = listed(rng, packages, package, is_one)
-    first = [set_of("2f", 1, _3b03=uid(2), _3b06=batch(0, 16)), set_of("18", 2, _1901=of_packages)]
-    data = laid(["primer"]) + b"".join(first + sets)
-    return [(0, laid([f"header header-bytes={len(data)}"]) + data)]
+    return made.laid(listed(rng, packages, package, is_one))
 
 
 def many_packages(rng, many=None):
@@ -327,61 +372,6 @@ def named_again(rng, many=None):
     """Lists of packages, tracks, components and subdescriptors that each name one set over and over."""
     many = many or rng.choice((2, 30, 4000))
     return described(rng, many, many, many, many, True)
-
-
-TIMECODE = "060e2b34040101010103020101000000"
-
-
-def signed(number):
-    """A number of eight bytes with a sign, as digits."""
-    return number.to_bytes(8, "big", signed=True).hex()
-
-
-class Made:
-    """Sets of header metadata, which are made one by one, with numbers from 3 on."""
-
-    def __init__(self):
-        self.numbers, self.sets = itertools.count(3), []
-
-    def a(self, kind, **items):
-        """The number of a set that is made."""
-        own = next(self.numbers)
-        self.sets.append(set_of(kind, own, **items))
-        return own
-
-    def refs(self, numbers):
-        """References to these sets."""
-        return batch(len(numbers), 16, bytes.fromhex("".join(map(uid, numbers))))
-
-    def track(self, track, definition, components, rate=RATE, origin=0):
-        """A track with this TrackID, whose sequence has these components."""
-        sequence = self.a("0f", _0201=definition, _0202="00" * 7 + "01", _1001=self.refs(components))
-        return self.a("3b", _4801=f"{track:08x}", _4b01=rate, _4b02=signed(origin), _4803=uid(sequence))
-
-    def clip(self, package, track, position, duration=1):
-        """A clip of so many edit units of this track of the package, from a position on."""
-        items = {"_0202": signed(duration), "_1201": signed(position)}
-        return self.a("11", **items, _1101=uid(package) * 2, _1102=f"{track:08x}")
-
-    def timecode(self, number, duration=-1, base=25, is_drop=False):
-        """A timecode component that begins with this number."""
-        return self.a("14", _0202=signed(duration), _1501=signed(number), _1502=f"{base:04x}", _1503=f"{is_drop:02x}")
-
-    def clock(self, number):
-        """A track of timecode that begins with this number."""
-        return self.track(1, TIMECODE, [self.timecode(number)])
-
-    def package(self, kind, package, tracks, index=None):
-        """A package with these tracks, and a container with an index if it has one."""
-        if index is not None:
-            self.a("23", _2701=uid(package) * 2, _3f06=f"{index:08x}", _3f07="00000001")
-        return self.a(kind, _4401=uid(package) * 2, _4403=self.refs(tracks))
-
-    def laid(self, packages, segments):
-        """A header partition of these sets, of which these are the packages, and index table segments behind it."""
-        first = [set_of("2f", 1, _3b03=uid(2), _3b06=batch(0, 16)), set_of("18", 2, _1901=self.refs(packages))]
-        data = laid(["primer"]) + b"".join(first + self.sets)
-        return [(0, laid([f"header header-bytes={len(data)}"]) + data + laid(segments))]
 
 
 def some_clocks(rng):
@@ -421,8 +411,10 @@ def some_clocks(rng):
     for name in range(rng.choice((0, 1, 1, 2))):
         tracks = [seldom(time(), essence(4))] + [essence(track) for track in range(rng.randint(1, 3))]
         packages.append(made.package("36", 1 << 41 | name, tracks))
-    lines = [f"segment index-sid={rng.choice((1, 2))} rate={seldom('25/1', '50/2', '48000/1', '0/1')}" for _ in range(rng.choice((0, 1, 2)))]
-    return made.laid(packages, lines)
+    lines = []
+    for _ in range(rng.choice((0, 1, 2))):
+        lines.append(f"segment index-sid={rng.choice((1, 2))} rate={seldom('25/1', '50/2', '48000/1', '0/1')}")
+    return made.laid(references(packages), lines)
 
 
 def many_clocks(rng, many=None):
@@ -436,7 +428,7 @@ def many_clocks(rng, many=None):
         tracks = [made.clock(rng.choice((0, number))), made.track(2, PICTURE, [made.clip(rng.choice(files), 2, number)])]
         packages.append(made.package("36", 1 << 41 | number, tracks))
     segments = [f"segment index-sid={rng.randint(1, many)} unit-bytes=1 start=0 duration=1" for _ in range(many)]
-    return made.laid(packages, segments)
+    return made.laid(references(packages), segments)
 
 
 def many_clips(rng, many=None):
@@ -448,7 +440,7 @@ def many_clips(rng, many=None):
     tracks = [made.track(number + 1, PICTURE, [made.clip(0, 0, 0)]) for number in range(many)]
     source = made.package("37", file, tracks, 1)
     segments = ["segment unit-bytes=1 start=0 duration=1"] * many
-    return made.laid([material, source], segments + ["segment rate=50/1 unit-bytes=1 start=0 duration=1"] * rng.randint(0, 1))
+    return made.laid(references([material, source]), segments + ["segment rate=50/1 unit-bytes=1 start=0 duration=1"] * rng.randint(0, 1))
 
 
 def disputes(rng, many=None):
