@@ -9,6 +9,7 @@ mod timecodes;
 
 use crate::clock_track::ClockTrack;
 use crate::fraction::Fraction;
+use mxf_tracks::labels_of_day;
 use mxf_views::GREATEST_UNIT;
 use std::marker::Model;
 
@@ -54,16 +55,6 @@ impl Model for Run {
       step = r.step;
       passed = r.passed;
     } };
-}
-
-/// How many labels a day has.
-fn labels_of_day(base: u16, is_drop: bool) -> u64
-    ensures labels { result ≡ labels_of_day base is_drop }
-    ensures few { result < 2 ^ 33 }
-{
-    let base = u64::from(base);
-    let all = 86400 * base;
-    if is_drop { all - base / 15 * 1296 } else { all }
 }
 
 /// The number within the day of a number that may be of another one.

@@ -5,7 +5,7 @@ use crate::units::{add_piece, units_of};
 use mxf_clocks::{Clocks, Run};
 use mxf_klv::OutOfMemory;
 use mxf_places::AtHand;
-use mxf_timed::{Coverage, Shown, timecode_of_unit};
+use mxf_timed::{ShownEnds, ShownTimecodes};
 use mxf_tracks::{PackageKind, Timecode, Tracks, preferred_tracks};
 use mxf_units::{UnitRange, Units};
 use mxf_views::Views;
@@ -56,54 +56,44 @@ fn preferred_clocks(alloc: Global, views: &Views) -> Result<Clocks, OutOfMemory>
     }
 }
 
-/// The runs, by where they begin, even if one growth is refused.
-fn coverage_of(alloc: Global, runs: &[Run]) -> Result<Coverage<'_>, OutOfMemory> {
-    match Coverage::of(alloc, runs) {
-        Ok(coverage) => Ok(coverage),
-        Err(OutOfMemory) => Coverage::of(alloc, runs),
+/// Which timecodes the units show, even if one growth is refused.
+fn timed_of<'a>(
+    alloc: Global,
+    units: &Units<'_>,
+    runs: &'a [Run],
+    range: UnitRange,
+) -> Result<ShownTimecodes<'a>, OutOfMemory> {
+    match ShownTimecodes::of(alloc, units, runs, range) {
+        Ok(timed) => Ok(timed),
+        Err(OutOfMemory) => ShownTimecodes::of(alloc, units, runs, range),
     }
 }
 
-/// Which positions the units show, even if one growth is refused.
-fn shown_of(alloc: Global, units: &Units<'_>, range: UnitRange) -> Result<Shown, OutOfMemory> {
-    match Shown::of(alloc, units, range) {
-        Ok(shown) => Ok(shown),
-        Err(OutOfMemory) => Shown::of(alloc, units, range),
-    }
+/// Whether unit 0 shows 01:00:00:00, and unit 1 a position without a timecode.
+fn are_shown(timed: &ShownTimecodes<'_>) -> bool {
+    let ends = ShownEnds {
+        first: Some(HOUR),
+        last: None,
+    };
+    timed.by(0) == Some(HOUR) && timed.by(1).is_none() && timed.within(0, 1) == ends
 }
 
-/// Whether unit 0 shows position 0 at 01:00:00:00, and unit 1 position 1 without a timecode.
-fn are_shown(shown: &Shown, coverage: &Coverage<'_>) -> bool {
-    let positions = (shown.by(0), shown.by(1), shown.by(2)) == (Some(0), Some(1), None);
-    let ends = (shown.least(), shown.greatest()) == (Some(0), Some(1));
-    let first = timecode_of_unit(shown, coverage, 0) == Some(HOUR);
-    positions && ends && first && timecode_of_unit(shown, coverage, 1).is_none()
-}
-
-/// Whether the units show what the coverage says.
-fn show_by(alloc: Global, units: &Units<'_>, coverage: &Coverage<'_>) -> bool {
+/// Whether the units show what the runs say.
+fn show_by(alloc: Global, units: &Units<'_>, runs: &[Run]) -> bool {
     let Some(range) = UnitRange::new(0, 1) else {
         return false;
     };
-    match shown_of(alloc, units, range) {
-        Ok(shown) => are_shown(&shown, coverage),
-        Err(OutOfMemory) => false,
-    }
-}
-
-/// Whether the units of the index show what the coverage says.
-fn units_show(alloc: Global, views: &Views, coverage: &Coverage<'_>) -> bool {
-    let at_hand = AtHand::nothing(alloc);
-    match units_of(alloc, views, &at_hand) {
-        Ok(units) => show_by(alloc, &units, coverage),
+    match timed_of(alloc, units, runs, range) {
+        Ok(timed) => are_shown(&timed),
         Err(OutOfMemory) => false,
     }
 }
 
 /// Whether the units of the index show what the clocks say.
 fn show_clocks(alloc: Global, views: &Views, clocks: &Clocks) -> bool {
-    match coverage_of(alloc, clocks.runs()) {
-        Ok(coverage) => units_show(alloc, views, &coverage),
+    let at_hand = AtHand::nothing(alloc);
+    match units_of(alloc, views, &at_hand) {
+        Ok(units) => show_by(alloc, &units, clocks.runs()),
         Err(OutOfMemory) => false,
     }
 }

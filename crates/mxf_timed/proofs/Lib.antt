@@ -10,3 +10,4 @@ pub mod PlaceLaws
 pub mod SpanLaws
 pub mod StoredPositions
 pub mod ShownLaws
+pub mod TimecodeLaws

@@ -1,7 +1,7 @@
 -- Which position a unit shows, by what it stores of the positions near it.
 use Rattle.std.proofs.Common.{◌≡◌, ◌∙◌, ◌+◌, ◌-◌, ◌<◌, ◌≤◌, ℕ, zero, suc, refl, sym, ap, subst, inl, inr, arith}
-use Rattle.std.proofs.Common.{Bool, cond, List, [], ◌∷◌, Option, Some, None, get_or, length, max, min}
-use Rattle.std.proofs.Common.{slice_get, MatchOption}
+use Rattle.std.proofs.Common.{Bool, cond, List, [], ◌∷◌, Option, Some, None, drop, get_or, length, max, min, take}
+use Rattle.std.proofs.Common.{slice_get, slice_range, MatchOption}
 use Rattle.std.specs.List.{filter_map, fold, reduce}
 use Rattle.std.specs.Option.{option_and_then}
 use Rattle.std.proofs.lemmas.Bool.{cases_lt, le-ltb, lt-ltb}
@@ -12,7 +12,8 @@ use Rattle.mxf_units.specs.Units.{UnitsParts}
 use Rattle.mxf_timed.specs.declared.shown.Stored.{Stored}
 use Rattle.mxf_timed.specs.declared.shown.Stored.TheVariants.{Nothing, One, Several}
 use Rattle.mxf_timed.specs.Shown.{AreShown, AreStored, IsShownBy, IsStoredIn, IsStoredWithin, ShownParts, Stores}
-use Rattle.mxf_timed.specs.Shown.{IsGreatestShown, IsLeastShown, IsNoneShown, only_one, shown_by}
+use Rattle.mxf_timed.specs.Shown.{IsGreatestShown, IsLeastShown, IsNoneShown, IsShownWithin, greatest_shown}
+use Rattle.mxf_timed.specs.Shown.{least_shown, only_one, shown_by, stored_within}
 use Rattle.mxf_timed.proofs.StoredLaws.{near}
 
 -- What is shown by a unit stands at its place.
@@ -98,28 +99,74 @@ module _ (u : UnitsParts) (first count last : ℕ) (last_is : last + 1 ≡ first
 
 -- ---- the least and the greatest
 
-get-In : {K : Type 0} (xs : List K) (k : ℕ) (x : K) → slice_get xs k ≡ Some x → In x xs
-get-In [] k x e = absurd cc
-get-In (y ∷ xs) zero x e = inl (sym (same_Some _ _ e))
-get-In (y ∷ xs) (suc k) x e = inr (get-In xs k x e)
+-- What stands in a list from one place up to another.
+In-take : {K : Type 0} (xs : List K) (n k : ℕ) (x : K) → k < n → slice_get xs k ≡ Some x → In x (take n xs)
+In-take [] n k x l e = absurd cc
+In-take (y ∷ xs) zero k x l e = absurd (omega (arith, l))
+In-take (y ∷ xs) (suc n) zero x l e = inl (sym (same_Some _ _ e))
+In-take (y ∷ xs) (suc n) (suc k) x l e = inr (In-take xs n k x (omega (arith, l)) e)
 
-In-get : {K : Type 0} (xs : List K) (x : K) → In x xs → (k : ℕ) × (slice_get xs k ≡ Some x)
-In-get [] x h = absurd h
-In-get (y ∷ xs) x (inl e) = (0, ap (λ z. Some z) (sym e))
-In-get (y ∷ xs) x (inr h) = let i = In-get xs x h in (suc i.0, i.1)
+take-get : {K : Type 0} (xs : List K) (n : ℕ) (x : K) → In x (take n xs)
+    → (k : ℕ) × (k < n) × (slice_get xs k ≡ Some x)
+take-get [] zero x h = absurd h
+take-get [] (suc n) x h = absurd h
+take-get (y ∷ xs) zero x h = absurd h
+take-get (y ∷ xs) (suc n) x (inl e) = (0, omega arith, ap (λ z. Some z) (sym e))
+take-get (y ∷ xs) (suc n) x (inr h) =
+    let i = take-get xs n x h in
+    let l = i.1 in (suc i.0, omega (arith, l), i.2)
 
-shown-In : (s : ShownParts) (unit p : ℕ) → shown_by s unit ≡ Some p → In p (filter_map only_one s.stored)
-shown-In s unit p e =
-    let a = stands-at s unit p e in
-    (In-filter_map only_one s.stored p).1 (One p, get-In s.stored (unit - s.first) (One p) a.stands, refl)
+drop-get : {K : Type 0} (xs : List K) (n k : ℕ) → slice_get (drop n xs) k ≡ slice_get xs (n + k)
+drop-get [] zero k = refl
+drop-get [] (suc n) k = refl
+drop-get (y ∷ xs) zero k = let same : k ≡ 0 + k = omega arith in ap (slice_get (y ∷ xs)) same
+drop-get (y ∷ xs) (suc n) k =
+    let same : suc (n + k) ≡ suc n + k = omega arith in drop-get xs n k ∙ ap (slice_get (y ∷ xs)) same
 
-In-shown : (s : ShownParts) (p : ℕ) → In p (filter_map only_one s.stored) → (unit : ℕ) × (shown_by s unit ≡ Some p)
-In-shown s p h =
-    let i = (In-filter_map only_one s.stored p).0 h in
-    let at = In-get s.stored i.0 i.1 in
+In-range : {K : Type 0} (xs : List K) (a b k : ℕ) (x : K) → a ≤ k → k < b → slice_get xs k ≡ Some x
+    → In x (slice_range xs a b)
+In-range xs a b k x l h e =
+    let there : a + (k - a) ≡ k = omega (arith, l) in
+    In-take (drop a xs) (b - a) (k - a) x (omega (arith, l, h)) (drop-get xs a (k - a) ∙ ap (slice_get xs) there ∙ e)
+
+range-get : {K : Type 0} (xs : List K) (a b : ℕ) (x : K) → In x (slice_range xs a b)
+    → (k : ℕ) × (a ≤ k) × (k < b) × (slice_get xs k ≡ Some x)
+range-get xs a b x h =
+    let i = take-get (drop a xs) (b - a) x h in
+    let l = i.1 in (a + i.0, omega arith, omega (arith, l), sym (drop-get xs a i.0) ∙ i.2)
+
+shown-In : (s : ShownParts) (first last p : ℕ) → IsShownWithin s first last p
+    → In p (filter_map only_one (stored_within s first last))
+shown-In s first last p w =
+    let a = stands-at s w.unit p w.shown in
+    let end = min (last + 1 - s.first) (length s.stored) in
+    let on = a.from_on in
+    let from = w.from in
+    let to = w.to in
+    let within = slice_get_within s.stored (w.unit - s.first) (One p) a.stands in
+    (In-filter_map only_one (stored_within s first last) p).1 (
+      One p,
+      In-range s.stored (min (first - s.first) end) end (w.unit - s.first) (One p) (omega (arith, on, from))
+          (omega (arith, on, to, within)) a.stands,
+      refl,
+    )
+
+In-shown : (s : ShownParts) (first last p : ℕ) → In p (filter_map only_one (stored_within s first last))
+    → IsShownWithin s first last p
+In-shown s first last p h =
+    let end = min (last + 1 - s.first) (length s.stored) in
+    let i = (In-filter_map only_one (stored_within s first last) p).0 h in
+    let at = range-get s.stored (min (first - s.first) end) end i.0 i.1 in
     let one = one-only (Some i.0) p i.2 in
     let place : s.first + at.0 - s.first ≡ at.0 = omega arith in
-    (s.first + at.0, shown-at s (s.first + at.0) p (omega arith) (ap (slice_get s.stored) place ∙ at.1 ∙ one))
+    let low = at.1 in
+    let high = at.2 in
+    record {
+      unit = s.first + at.0;
+      from = omega (arith, low, high);
+      to = omega (arith, high);
+      shown = shown-at s (s.first + at.0) p (omega arith) (ap (slice_get s.stored) place ∙ at.3 ∙ one);
+    }
 
 least-fold : (x : ℕ) (xs : List ℕ) → In (fold min x xs) (x ∷ xs) × (fold min x xs ≤ x)
     × ((y : ℕ) → In y xs → fold min x xs ≤ y)
@@ -145,43 +192,39 @@ greatest-fold x (z ∷ xs) = let ih = greatest-fold (max x z) xs in (
   λ y h. elim h [ inl e ↦ (let l = ih.1 in omega (arith, l, e)) | inr k ↦ ih.2 y k ],
 )
 
--- Some positions are all that are shown.
-record AreAllShown (s : ShownParts) (xs : List ℕ) : Type 0 where
-  held : (unit p : ℕ) → shown_by s unit ≡ Some p → In p xs
-  shown : (p : ℕ) → In p xs → (unit : ℕ) × (shown_by s unit ≡ Some p)
+-- Some positions are all that are shown by units from one up to another.
+record AreAllShown (s : ShownParts) (first last : ℕ) (xs : List ℕ) : Type 0 where
+  held : (p : ℕ) → IsShownWithin s first last p → In p xs
+  shown : (p : ℕ) → In p xs → IsShownWithin s first last p
 
-least-of : (s : ShownParts) (xs : List ℕ) → AreAllShown s xs
-    → MatchOption (reduce min xs) (IsNoneShown s) (IsLeastShown s)
-least-of s [] a = λ unit p e. a.held unit p e
-least-of s (x ∷ xs) a =
+least-of : (s : ShownParts) (first last : ℕ) (xs : List ℕ) → AreAllShown s first last xs
+    → MatchOption (reduce min xs) (IsNoneShown s first last) (IsLeastShown s first last)
+least-of s first last [] a = λ p w. a.held p w
+least-of s first last (x ∷ xs) a =
     let f = least-fold x xs in
-    let at = a.shown (fold min x xs) f.0 in
     record {
-      unit = at.0;
-      shown = at.1;
-      no_less = λ other p e. elim (a.held other p e) [ inl q ↦ (let l = f.1 in omega (arith, l, q)) | inr h ↦ f.2 p h ];
+      some = a.shown (fold min x xs) f.0;
+      no_less = λ p w. elim (a.held p w) [ inl q ↦ (let l = f.1 in omega (arith, l, q)) | inr h ↦ f.2 p h ];
     }
 
-greatest-of : (s : ShownParts) (xs : List ℕ) → AreAllShown s xs
-    → MatchOption (reduce max xs) (IsNoneShown s) (IsGreatestShown s)
-greatest-of s [] a = λ unit p e. a.held unit p e
-greatest-of s (x ∷ xs) a =
+greatest-of : (s : ShownParts) (first last : ℕ) (xs : List ℕ) → AreAllShown s first last xs
+    → MatchOption (reduce max xs) (IsNoneShown s first last) (IsGreatestShown s first last)
+greatest-of s first last [] a = λ p w. a.held p w
+greatest-of s first last (x ∷ xs) a =
     let f = greatest-fold x xs in
-    let at = a.shown (fold max x xs) f.0 in
     record {
-      unit = at.0;
-      shown = at.1;
-      no_greater = λ other p e.
-          elim (a.held other p e) [ inl q ↦ (let l = f.1 in omega (arith, l, q)) | inr h ↦ f.2 p h ];
+      some = a.shown (fold max x xs) f.0;
+      no_greater = λ p w. elim (a.held p w) [ inl q ↦ (let l = f.1 in omega (arith, l, q)) | inr h ↦ f.2 p h ];
     }
 
-all-shown : (s : ShownParts) → AreAllShown s (filter_map only_one s.stored)
-all-shown s = record { held = shown-In s; shown = In-shown s }
+all-shown : (s : ShownParts) (first last : ℕ) → AreAllShown s first last (filter_map only_one (stored_within s first last))
+all-shown s first last = record { held = shown-In s first last; shown = In-shown s first last }
 
-pub least-shown : (s : ShownParts) → MatchOption (reduce min (filter_map only_one s.stored)) (IsNoneShown s)
-    (IsLeastShown s)
-least-shown s = least-of s (filter_map only_one s.stored) (all-shown s)
+pub least-shown : (s : ShownParts) (first last : ℕ)
+    → MatchOption (least_shown s first last) (IsNoneShown s first last) (IsLeastShown s first last)
+least-shown s first last = least-of s first last (filter_map only_one (stored_within s first last)) (all-shown s first last)
 
-pub greatest-shown : (s : ShownParts) → MatchOption (reduce max (filter_map only_one s.stored)) (IsNoneShown s)
-    (IsGreatestShown s)
-greatest-shown s = greatest-of s (filter_map only_one s.stored) (all-shown s)
+pub greatest-shown : (s : ShownParts) (first last : ℕ)
+    → MatchOption (greatest_shown s first last) (IsNoneShown s first last) (IsGreatestShown s first last)
+greatest-shown s first last =
+    greatest-of s first last (filter_map only_one (stored_within s first last)) (all-shown s first last)

@@ -1,5 +1,6 @@
 -- The timecode of a position by the one run of a clock that has it (this project's profile).
-use Rattle.std.specs.Prelude.{◌≡◌, ℕ, List, [], ◌∷◌, Some, filter}
+use Rattle.std.specs.Prelude.{◌≡◌, ℕ, List, [], ◌∷◌, Option, None, Some, filter}
+use Rattle.std.specs.Option.{option_and_then}
 use Rattle.mxf_tracks.specs.declared.timecode.Timecode.{Timecode}
 use Rattle.mxf_clocks.specs.Runs.{RunParts, has_position}
 use Rattle.mxf_clocks.specs.RunTimecodes.{timecode_at}
@@ -17,3 +18,16 @@ pub record IsTimecodeAt (runs : List RunParts) (position : ℕ) (t : Timecode) :
 -- None has it, or more than one.
 abbrev pub HasNoOneRun : List RunParts → ℕ → Type 0
 HasNoOneRun runs position = (run : RunParts) → ¬ IsOneRunAt runs position run
+
+-- The same as functions. A law ties them to the relations.
+
+-- What is alone in its list.
+abbrev pub only : {X : Type 0} → List X → Option X
+only (x ∷ []) = Some x
+only _ = None
+
+abbrev pub one_run_at : List RunParts → ℕ → Option RunParts
+one_run_at runs position = only (filter (λ r. has_position r position) runs)
+
+abbrev pub one_timecode_at : List RunParts → ℕ → Option Timecode
+one_timecode_at runs position = option_and_then (λ r. timecode_at r position) (one_run_at runs position)

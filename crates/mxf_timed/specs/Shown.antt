@@ -1,15 +1,17 @@
 -- Which position a unit shows: the one that it stores, if that is one alone (this project's profile).
 use Rattle.std.specs.Prelude.{◌≡◌, ◌≢◌, ◌↔◌, ◌+◌, ◌-◌, ◌<◌, ◌≤◌, ℕ, nat_lt, if◌then◌else◌, List, Option, None, Some}
-use Rattle.std.specs.Prelude.{slice_get}
+use Rattle.std.specs.Prelude.{length, max, min, slice_get, slice_range}
+use Rattle.std.specs.List.{filter_map, reduce}
 use Rattle.std.specs.Option.{option_and_then}
 use Rattle.mxf_views.specs.Places.{greatest_unit}
 use Rattle.mxf_tracks.specs.declared.timecode.Timecode.{Timecode}
 use Rattle.mxf_clocks.specs.Runs.{RunParts}
 use Rattle.mxf_units.specs.Units.{UnitsParts}
-use Rattle.mxf_timed.specs.Coverage.{IsTimecodeAt}
+use Rattle.mxf_timed.specs.Coverage.{IsTimecodeAt, one_timecode_at}
 use Rattle.mxf_timed.specs.Stored.{stored_at}
 use Rattle.mxf_timed.specs.declared.shown.Stored.{Stored}
 use Rattle.mxf_timed.specs.declared.shown.Stored.TheVariants.{Nothing, One, Several}
+use Rattle.mxf_timed.specs.declared.timecodes.ShownEnds.{ShownEnds}
 
 -- The position, one that can be asked for, is stored in the unit.
 pub record IsStoredIn (u : UnitsParts) (unit position : ℕ) : Type 0 where
@@ -41,26 +43,69 @@ AreShown u first count s =
     (unit position : ℕ)
     → (shown_by s unit ≡ Some position) ↔ ((first ≤ unit) × (unit < first + count) × IsShownBy u unit position)
 
--- The least position that is shown; none if none is.
-pub record IsLeastShown (s : ShownParts) (least : ℕ) : Type 0 where
+-- The position is shown by a unit from one up to another.
+pub record IsShownWithin (s : ShownParts) (first last position : ℕ) : Type 0 where
   pub unit : ℕ
-  pub shown : shown_by s unit ≡ Some least
-  pub no_less : (other position : ℕ) → shown_by s other ≡ Some position → least ≤ position
+  pub from : first ≤ unit
+  pub to : unit ≤ last
+  pub shown : shown_by s unit ≡ Some position
+
+-- The least position that one of these shows; none if none does.
+pub record IsLeastShown (s : ShownParts) (first last least : ℕ) : Type 0 where
+  pub some : IsShownWithin s first last least
+  pub no_less : (position : ℕ) → IsShownWithin s first last position → least ≤ position
 
 -- The greatest one.
-pub record IsGreatestShown (s : ShownParts) (greatest : ℕ) : Type 0 where
-  pub unit : ℕ
-  pub shown : shown_by s unit ≡ Some greatest
-  pub no_greater : (other position : ℕ) → shown_by s other ≡ Some position → position ≤ greatest
+pub record IsGreatestShown (s : ShownParts) (first last greatest : ℕ) : Type 0 where
+  pub some : IsShownWithin s first last greatest
+  pub no_greater : (position : ℕ) → IsShownWithin s first last position → position ≤ greatest
 
-abbrev pub IsNoneShown : ShownParts → Type 0
-IsNoneShown s = (unit position : ℕ) → shown_by s unit ≢ Some position
+abbrev pub IsNoneShown : ShownParts → ℕ → ℕ → Type 0
+IsNoneShown s first last = (position : ℕ) → ¬ IsShownWithin s first last position
 
--- The unit shows a position that has this timecode by the one run that has it.
-pub record ShowsTimecode (s : ShownParts) (runs : List RunParts) (unit : ℕ) (t : Timecode) : Type 0 where
+-- The same as functions. A law ties them to the relations.
+
+abbrev pub stored_within : ShownParts → ℕ → ℕ → List Stored
+stored_within s first last =
+    let end = min (last + 1 - s.first) (length s.stored) in slice_range s.stored (min (first - s.first) end) end
+
+abbrev pub least_shown : ShownParts → ℕ → ℕ → Option ℕ
+least_shown s first last = reduce min (filter_map only_one (stored_within s first last))
+
+abbrev pub greatest_shown : ShownParts → ℕ → ℕ → Option ℕ
+greatest_shown s first last = reduce max (filter_map only_one (stored_within s first last))
+
+-- ---- which timecode is shown
+
+-- What is kept of units one after another, and the runs of a clock.
+pub record TimedParts : Type 0 where
+  pub shown : ShownParts
+  pub runs : List RunParts
+
+-- It tells of so many units from the first one on, by these runs.
+pub record AreTimed (u : UnitsParts) (runs : List RunParts) (first count : ℕ) (t : TimedParts) : Type 0 where
+  pub shown : AreShown u first count t.shown
+  pub runs_are : t.runs ≡ runs
+
+-- The unit is one of so many from a first one on, and shows a position that has this timecode by the one run that has
+-- it.
+pub record ShowsTimecode (u : UnitsParts) (runs : List RunParts) (first count unit : ℕ) (t : Timecode) : Type 0 where
+  pub from : first ≤ unit
+  pub within : unit < first + count
   pub position : ℕ
-  pub shown : shown_by s unit ≡ Some position
+  pub shown : IsShownBy u unit position
   pub timecode : IsTimecodeAt runs position t
+
+-- The timecode of the position that a unit shows.
+abbrev pub timecode_shown : TimedParts → ℕ → Option Timecode
+timecode_shown t unit = option_and_then (one_timecode_at t.runs) (shown_by t.shown unit)
+
+-- Those of the least and the greatest position that units from one up to another show.
+abbrev pub timecodes_shown : TimedParts → ℕ → ℕ → ShownEnds
+timecodes_shown t first last = record {
+  first = option_and_then (one_timecode_at t.runs) (least_shown t.shown first last);
+  last = option_and_then (one_timecode_at t.runs) (greatest_shown t.shown first last);
+}
 
 -- ---- what a unit stores of some positions
 

@@ -1,8 +1,8 @@
 //! The timecode of a position by the runs of a clock.
-ghost use Rattle.std.specs.Prelude.{◌≡◌, ◌↔◌, ◌∷◌, [], IfOk, List, MatchOption, Some};
+ghost use Rattle.std.specs.Prelude.{◌≡◌, ◌↔◌, ◌∷◌, [], ℕ, IfOk, List, MatchOption, Some};
 ghost use Rattle.mxf_tracks.specs.declared.timecode.Timecode.{Timecode};
 ghost use Rattle.mxf_clocks.specs.Runs.{RunParts};
-ghost use Rattle.mxf_timed.specs.Coverage.{HasNoOneRun, IsOneRunAt, IsTimecodeAt};
+ghost use Rattle.mxf_timed.specs.Coverage.{HasNoOneRun, IsOneRunAt, IsTimecodeAt, one_timecode_at};
 ghost use Rattle.mxf_timed.specs.Spans.{is_alone_at, latest_from, no_latest, span_of, spans_from, with_span};
 
 use mxf_clocks::Run;
@@ -158,8 +158,15 @@ impl<'a> Coverage<'a> {
     /// The timecode of a position, counted from 0 as it is shown, by the one run that has it. None if no run has it, or
     /// more than one, as runs are listed. It takes no memory, and a binary search.
     pub fn timecode_at(&self, position: u64) -> Option<Timecode>
-        ensures { (t : Timecode) → (result ≡ Some t) ↔ IsTimecodeAt self.now position t }
+        ensures { result ≡ one_timecode_at self.now position }
     {
         self.run_at(position)?.timecode_at(position)
     }
 }
+
+/// A law of [`Coverage::timecode_at`]: a position has a timecode exactly if one run alone has the position, and gives it
+/// this one.
+pub fn timecodes_of_positions_by_definition()
+    ensures { (runs : List RunParts) (position : ℕ) (t : Timecode)
+        → (one_timecode_at runs position ≡ Some t) ↔ IsTimecodeAt runs position t }
+{}

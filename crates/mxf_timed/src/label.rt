@@ -1,19 +1,9 @@
 //! The labels that words ask for.
-ghost use Rattle.std.specs.Prelude.{◌≡◌, ◌<◌, ◌^◌, MatchBool};
-ghost use Rattle.mxf_tracks.specs.Timecodes.{labels_of_day, number_of};
+ghost use Rattle.std.specs.Prelude.{◌≡◌, MatchBool};
+ghost use Rattle.mxf_tracks.specs.Timecodes.{number_of};
 ghost use Rattle.mxf_timed.specs.Positions.{Fits, label_of};
 
 use crate::timecode_word::TimecodeWord;
-
-/// How many labels a day has.
-pub(crate) fn labels_of_day(base: u16, is_drop: bool) -> u64
-    ensures labels { result ≡ labels_of_day base is_drop }
-    ensures few { result < 2 ^ 33 }
-{
-    let base = u64::from(base);
-    let all = 86400 * base;
-    if is_drop { all - base / 15 * 1296 } else { all }
-}
 
 /// Whether a word asks for a label of a day, at a base of frames a second.
 pub(crate) fn fits(word: TimecodeWord, base: u16, is_drop: bool) -> bool

@@ -10,8 +10,8 @@
 //! that there is one answer, where a position is stored, and that the units that are answered hold all that is shown
 //! between two timecodes.
 //!
-//! The other way round [`Shown`] says which position a unit shows, [`Coverage`] which timecode a position has, and
-//! [`timecode_of_unit`] which one a unit shows.
+//! The other way round [`ShownTimecodes`] says which timecode a unit shows: that of the one position that it stores, by
+//! the one run that has this position.
 #![tactic(auto)]
 
 mod asked;
@@ -25,9 +25,7 @@ mod timecode_word;
 mod timecodes;
 
 pub use asked::{Bound, StoredBounds, TimecodeFault, UnitBound, stored_bounds};
-pub use coverage::Coverage;
 pub use positions::{ShownAt, shown_at};
-pub use shown::Shown;
 pub use stored::{Positions, greatest_stored, least_stored, stored_at};
 pub use timecode_word::TimecodeWord;
-pub use timecodes::timecode_of_unit;
+pub use timecodes::{ShownEnds, ShownTimecodes};

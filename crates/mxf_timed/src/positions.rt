@@ -8,9 +8,10 @@ ghost use Rattle.mxf_tracks.specs.Timecodes.{labels_of_day, number_of};
 ghost use Rattle.mxf_timed.specs.Positions.{Fits, IsAnswer, IsRange, IsRangeAt, IsRangeOf, label_of};
 ghost use Rattle.mxf_timed.specs.Gone.{AreNone, AreUpTo, IsLastGone, gone_after, is_several, joined};
 
-use crate::label::{fits, labels_of_day, number_of};
+use crate::label::{fits, number_of};
 use crate::timecode_word::TimecodeWord;
 use mxf_clocks::Run;
+use mxf_tracks::labels_of_day;
 use mxf_views::GREATEST_UNIT;
 
 /// Where a timecode is shown, by the runs of a clock: the positions that have it, up to the greatest edit unit. They

@@ -1,8 +1,9 @@
 //! Which position each unit shows.
-ghost use Rattle.std.specs.Prelude.{◌≡◌, ◌↔◌, ◌≤◌, ◌+◌, ◌-◌, max, min, IfOk, MatchOption, vec_len};
+ghost use Rattle.std.specs.Prelude.{◌≡◌, ◌↔◌, ◌≤◌, ◌+◌, ◌-◌, ℕ, max, min, IfOk, MatchOption, vec_len};
 ghost use Rattle.std.specs.List.{filter_map, reduce};
 ghost use Rattle.mxf_timed.specs.Shown.{AreShown, AreStored, IsGreatestShown, IsLeastShown, IsNoneShown};
-ghost use Rattle.mxf_timed.specs.Shown.{IsWithPosition, only_one, shown_by, with_position};
+ghost use Rattle.mxf_timed.specs.Shown.{IsWithPosition, ShownParts, greatest_shown, least_shown, only_one, shown_by};
+ghost use Rattle.mxf_timed.specs.Shown.{stored_within, with_position};
 
 use crate::stored::stored_at;
 use mxf_klv::OutOfMemory;
@@ -151,17 +152,38 @@ impl Shown {
         self.stored.get(place as usize)?.only_one()
     }
 
-    /// The least position that a unit of the range shows. None if none shows any. It looks at each unit.
-    pub fn least(&self) -> Option<u64>
-        ensures { MatchOption result (IsNoneShown self.now) (IsLeastShown self.now) }
+    /// What the units from one up to another store, as far as they are of the range.
+    fn stored_within(&self, first: u64, last: u64) -> &[Stored]
+        ensures { result.now ≡ stored_within self.now first last }
     {
-        least_of(&self.stored)
+        let begin = u128::from(self.first);
+        let count = self.stored.len() as u128;
+        let end = (u128::from(last) + 1).saturating_sub(begin).min(count);
+        let start = u128::from(first).saturating_sub(begin).min(end);
+        &self.stored[start as usize..end as usize]
+    }
+
+    /// The least position that a unit of the range shows, from one unit up to another. None if none of these shows
+    /// any. It looks at each of them.
+    pub fn least(&self, first: u64, last: u64) -> Option<u64>
+        ensures { result ≡ least_shown self.now first last }
+    {
+        least_of(self.stored_within(first, last))
     }
 
     /// The greatest one.
-    pub fn greatest(&self) -> Option<u64>
-        ensures { MatchOption result (IsNoneShown self.now) (IsGreatestShown self.now) }
+    pub fn greatest(&self, first: u64, last: u64) -> Option<u64>
+        ensures { result ≡ greatest_shown self.now first last }
     {
-        greatest_of(&self.stored)
+        greatest_of(self.stored_within(first, last))
     }
 }
+
+/// A law of [`Shown::least`] and [`Shown::greatest`]: the positions that they answer are shown by one of the units, and
+/// none of these shows a lesser or a greater one.
+pub fn ends_of_positions_by_definition()
+    ensures least { (s : ShownParts) (first last : ℕ)
+        → MatchOption (least_shown s first last) (IsNoneShown s first last) (IsLeastShown s first last) }
+    ensures greatest { (s : ShownParts) (first last : ℕ)
+        → MatchOption (greatest_shown s first last) (IsNoneShown s first last) (IsGreatestShown s first last) }
+{}

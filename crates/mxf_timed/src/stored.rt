@@ -46,22 +46,20 @@ impl Positions {
     }
 }
 
-/// The unit that stores a position, which is at most the greatest edit unit: it lies at the TemporalOffset of the
-/// position, as [`Units::unit`] says it. Where that is not known, or no unit lies there that can be asked for, it is
-/// the one with the number of the position.
+/// The unit that stores a position: it lies at the TemporalOffset of the position, as [`Units::temporal`] says it.
+/// Where that is not known, or no unit lies there that can be asked for, it is the one with the number of the position.
 pub fn stored_at(units: &Units<'_>, position: u64) -> u64
-    requires { position ≤ greatest_unit }
     ensures stored { result ≡ stored_at units.now position }
-    ensures greatest { result ≤ greatest_unit }
+    ensures greatest { position ≤ greatest_unit → result ≤ greatest_unit }
+    ensures near { IsNear position result }
 {
-    moved(position, units.unit(position).temporal)
+    moved(position, units.temporal(position))
 }
 
 /// The unit at a distance from a position, if it can be asked for; the one with its number otherwise.
 fn moved(position: u64, offset: Option<i8>) -> u64
-    requires { position ≤ greatest_unit }
     ensures moved { result ≡ moved position offset }
-    ensures greatest { result ≤ greatest_unit }
+    ensures greatest { position ≤ greatest_unit → result ≤ greatest_unit }
 {
     let Some(offset) = offset else {
         return position;

@@ -28,5 +28,5 @@ pub use length::Length;
 pub use package::{FoundPackage, PackageAt, PackageKind, Tracks, preferred_tracks};
 pub use sequence::{FoundSequence, SequenceAt, SequenceKind};
 pub use target::Target;
-pub use timecode::Timecode;
+pub use timecode::{Timecode, labels_of_day};
 pub use track::{FoundTrack, TrackAt, TracksOf};

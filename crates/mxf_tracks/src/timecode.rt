@@ -1,5 +1,5 @@
 //! Timecodes (SMPTE ST 12-1): the labels of the frames of a day.
-ghost use Rattle.std.specs.Prelude.{◌≡◌, ◌⊎◌, ◌<◌, ◌^◌, ℕ, ℤ, pos, Bool, Some, true};
+ghost use Rattle.std.specs.Prelude.{◌≡◌, ◌⊎◌, ◌<◌, ◌^◌, ℕ, ℤ, Bool, Some, true};
 ghost use Rattle.mxf_tracks.specs.Digits.{timecode_text};
 ghost use Rattle.mxf_tracks.specs.Timecodes.{IsLabel, IsTimecodeOf, drops, label_at, label_with, labels_of_day};
 ghost use Rattle.mxf_tracks.specs.Timecodes.{left_out_up_to, number_of, timecode_of};
@@ -50,7 +50,7 @@ impl Timecode {
             return None;
         }
         let is_drop = drops(base, is_drop);
-        let number = number.rem_euclid(labels_of_day(base, is_drop));
+        let number = number.rem_euclid(labels_of_day(base, is_drop) as i64);
         Some(label_with(base, is_drop, number.unsigned_abs()))
     }
 }
@@ -62,13 +62,14 @@ fn drops(base: u16, is_drop: bool) -> bool
     is_drop && (base == 30 || base == 60)
 }
 
-/// How many labels a day has.
-fn labels_of_day(base: u16, is_drop: bool) -> i64
-    ensures { result ≡ pos (labels_of_day base is_drop) }
+/// How many labels a day has, at a base of frames a second, if labels are left out or not.
+pub fn labels_of_day(base: u16, is_drop: bool) -> u64
+    ensures labels { result ≡ labels_of_day base is_drop }
+    ensures few { result < 2 ^ 33 }
 {
-    let base = i64::from(base);
-    let left_out = if is_drop { base / 15 * 1296 } else { 0 };
-    86400 * base - left_out
+    let base = u64::from(base);
+    let all = 86400 * base;
+    if is_drop { all - base / 15 * 1296 } else { all }
 }
 
 /// The label of a frame that is so many frames after midnight, as all are counted.

@@ -215,6 +215,15 @@ impl<'a> Units<'a> {
         }
     }
 
+    /// The TemporalOffset of the entry of a unit, as [`Units::unit`] says it: in edit units, -128 to 127. It takes no
+    /// memory, and looks at no packet.
+    #[tactic(auto, unfolding(crate::specs::Units::unit_of))]
+    pub fn temporal(&self, unit: u64) -> Option<i8>
+        ensures { result ≡ (unit_of self.now.known self.now.index_sid unit).temporal }
+    {
+        entry_of(self.segments_near(unit), unit).map(|entry| entry.temporal_offset)
+    }
+
     /// The unit with a number. Units are counted from 0 as they are stored. It takes no memory, and some binary
     /// searches, with a look at each segment of the index that overlaps there.
     #[tactic(auto, unfolding(crate::specs::Units::unit_of, crate::specs::Units::location_of))]
