@@ -12,3 +12,4 @@ pub mod NearLaws
 pub mod StreamOne
 pub mod NearPlaces
 pub mod WayLaws
+pub mod MetadataPlanLaws

@@ -14,3 +14,4 @@ pub mod Asks
 pub mod Helping
 pub mod Fronts
 pub mod Orders
+pub mod MetadataPlans

@@ -17,9 +17,12 @@ ghost use Rattle.mxf_partial.specs.Orders.{IsFindingOrder, IsOrdered, IsUnitPlan
 ghost use Rattle.mxf_partial.specs.Orders.{known_end, unit_order};
 ghost use Rattle.mxf_partial.specs.Wanted.{IsWantedByte, WantedParts, are_indexed, is_indexed};
 
+mod metadata;
+
 use crate::asks::asked_places;
 use crate::leads::{add_fronts, helping_orders};
 use crate::wanted::{add_extent, wanted_bytes};
+pub use metadata::metadata_plan_by_definition;
 use mxf_catalogue::{Cover, Semilattice};
 use mxf_klv::{MAX, OutOfMemory, sort_once};
 use mxf_places::{AtHand, Claim, OffsetRange, Reason, claims, ranges_lacking};
