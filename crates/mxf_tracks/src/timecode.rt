@@ -62,7 +62,8 @@ fn drops(base: u16, is_drop: bool) -> bool
     is_drop && (base == 30 || base == 60)
 }
 
-/// How many labels a day has, at a base of frames a second, if labels are left out or not.
+/// How many labels a day has (ST 12-1), at a base of frames a second, 0 to 65535, and with labels left out or not: 0 at
+/// the base 0.
 pub fn labels_of_day(base: u16, is_drop: bool) -> u64
     ensures labels { result ≡ labels_of_day base is_drop }
     ensures few { result < 2 ^ 33 }

@@ -44,7 +44,7 @@ fn retain_metadata(orders: &mut Vec<Order>)
     orders.retain(|order| is_of_metadata(order));
 }
 
-/// Whether an order is one of header metadata, or of a partition that ends or begins the file and has some.
+/// Whether an order is of the header, of a footer, or of header metadata.
 fn is_of_metadata(order: &Order) -> bool
     ensures { result ≡ is_of_metadata order.now }
 {
