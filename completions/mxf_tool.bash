@@ -55,8 +55,9 @@ _mxf_tool() {
     describe | show | check | sources) options='at: range: cat: --json --hints --sources --help' ;;
     map) options='at: range: cat: --columns --rows --extents --json --hints --sources --help' ;;
     locate) options='at: range: cat: --index --unit --json --hints --sources --help' ;;
-    units | plan) options='at: range: cat: --index --from --to --json --hints --sources --help' ;;
-    verify) options='at: range: cat: --against --whole --index --from --to --json --hints --sources --help' ;;
+    units) options='at: range: cat: --index --from --to --timecode --json --hints --sources --help' ;;
+    plan) options='at: range: cat: --index --from --to --json --hints --sources --help' ;;
+    verify) options='at: range: cat: --against --whole --index --from --to --timecode --json --hints --sources --help' ;;
     find) options='at: range: cat: --in --recordings --json --hints --sources --help' ;;
     join) options='at: range: cat: --out --strict --dry-run --json --hints --sources --help' ;;
     renew) options='at: range: cat: --out --old --strict --drop --dry-run --json --hints --sources --help' ;;

@@ -1,6 +1,4 @@
 //! What a run is asked for of what sources hold together.
-use mxf_units::UnitRange;
-
 /// What a run is asked for.
 #[derive(Clone, Copy, Debug, PartialEq, Eq)]
 pub enum Ask {
@@ -16,6 +14,4 @@ pub enum Ask {
     Join,
     /// What to restore next.
     Plan,
-    /// Where the edit units of a range lie in the file, by the index of this IndexSID.
-    Units { index: u32, range: UnitRange },
 }

@@ -16,4 +16,4 @@ pub use ask::Ask;
 pub use grid::Grid;
 pub use hints::Hints;
 pub use request::{NamedSources, Renewing, Request, Saving, Task, Told, Verifying};
-pub use units::{AskedUnits, BadLastUnit, IndexedUnits};
+pub use units::{AskedUnits, IndexedUnits, NamedUnit};

@@ -1,7 +1,7 @@
 //! What is to be done, of which sources, and in which form.
 use crate::ask::Ask;
 use crate::grid::Grid;
-use crate::units::{AskedUnits, IndexedUnits};
+use crate::units::IndexedUnits;
 use mxf_forms::Form;
 
 /// What the command line asks for, and in which form, of the sources that words name and a list after them.
@@ -26,11 +26,11 @@ pub struct NamedSources<'m, 'a> {
 #[derive(Clone, Copy)]
 pub enum Task<'a> {
     /// To print what the sources hold together.
-    Tell(Told),
+    Tell(Told<'a>),
     /// To print which source holds which note.
     Sources,
     /// To print how sources stand to a reference.
-    Verify(Verifying),
+    Verify(Verifying<'a>),
     /// To print in which recordings the sources lie.
     Find,
     /// To save what the sources hold together.
@@ -41,28 +41,22 @@ pub enum Task<'a> {
 
 /// What is printed of what the sources hold together.
 #[derive(Clone, Copy)]
-pub enum Told {
+pub enum Told<'a> {
     /// An answer.
     Answer(Ask),
     /// A map, with the ranges of its bytes if they are asked for.
-    Map {
-        grid: Grid,
-        with_extents: bool,
-    },
-    /// Where edit units lie, by the index of an IndexSID, or by the only one that is held.
-    Units {
-        index: Option<u32>,
-        units: AskedUnits,
-    },
+    Map { grid: Grid, with_extents: bool },
+    /// Where edit units lie.
+    Units(IndexedUnits<'a>),
     /// What to restore for edit units.
-    UnitPlan(IndexedUnits),
+    UnitPlan(IndexedUnits<'a>),
 }
 
 /// What is asked of a verification: whether all of the reference is to be verified, and which edit units are told.
 #[derive(Clone, Copy)]
-pub struct Verifying {
+pub struct Verifying<'a> {
     pub is_whole: bool,
-    pub units: Option<IndexedUnits>,
+    pub units: Option<IndexedUnits<'a>>,
 }
 
 /// Where a catalogue is saved.

@@ -16,4 +16,4 @@ mod request;
 pub use arguments::unreadable_argument;
 pub use command_line::command;
 pub use listed::{BadLine, all_words, text_of};
-pub use request::{hints_of, request_of, signed_number, units_of};
+pub use request::{UnitRefusal, hints_of, request_of, signed_number, units_of};

@@ -1,10 +1,11 @@
 //! What the matches of the command line ask for.
 use clap::ArgMatches;
 use mxf_asked::{
-    Ask, AskedUnits, BadLastUnit, Grid, Hints, IndexedUnits, NamedSources, Renewing, Request,
-    Saving, Task, Told, Verifying,
+    Ask, AskedUnits, Grid, Hints, IndexedUnits, NamedSources, NamedUnit, Renewing, Request, Saving,
+    Task, Told, Verifying,
 };
 use mxf_forms::Form;
+use mxf_timed::{TimecodeWord, UnitBound};
 use mxf_units::UnitRange;
 
 /// What the matches of the command with this name ask for, with these edit units if it has any, or `None` if there is
@@ -12,7 +13,7 @@ use mxf_units::UnitRange;
 pub fn request_of<'m, 'a>(
     name: &str,
     inner: &'m ArgMatches<'a>,
-    units: AskedUnits,
+    units: AskedUnits<'a>,
 ) -> Option<Request<'m, 'a>> {
     Some(Request {
         task: task_of(name, inner, units)?,
@@ -49,7 +50,7 @@ fn form_of(inner: &ArgMatches<'_>) -> Form {
 }
 
 /// What the matches of the command with this name are to do, with these edit units if it has any.
-fn task_of<'a>(name: &str, inner: &ArgMatches<'a>, units: AskedUnits) -> Option<Task<'a>> {
+fn task_of<'a>(name: &str, inner: &ArgMatches<'a>, units: AskedUnits<'a>) -> Option<Task<'a>> {
     match name {
         "sources" => Some(Task::Sources),
         "find" => Some(Task::Find),
@@ -67,7 +68,7 @@ fn task_of<'a>(name: &str, inner: &ArgMatches<'a>, units: AskedUnits) -> Option<
 }
 
 /// What the matches of the command with this name are to answer, with these edit units if it has any.
-fn told_of(name: &str, inner: &ArgMatches<'_>, units: AskedUnits) -> Option<Told> {
+fn told_of<'a>(name: &str, inner: &ArgMatches<'a>, units: AskedUnits<'a>) -> Option<Told<'a>> {
     match name {
         "describe" => Some(Told::Answer(Ask::Describe)),
         "show" => Some(Told::Answer(Ask::Show)),
@@ -76,10 +77,7 @@ fn told_of(name: &str, inner: &ArgMatches<'_>, units: AskedUnits) -> Option<Told
             index: inner.get_one("index")?,
             unit: inner.get_one("unit")?,
         })),
-        "units" => Some(Told::Units {
-            index: inner.get_one("index"),
-            units,
-        }),
+        "units" => Some(Told::Units(by_index(inner, units))),
         "plan" => Some(planned_of(inner, units)),
         "map" => Some(Told::Map {
             grid: grid_of(inner)?,
@@ -95,8 +93,8 @@ fn grid_of(inner: &ArgMatches<'_>) -> Option<Grid> {
     Grid::new(columns, inner.get_one("rows").unwrap_or(16))
 }
 
-/// What the matches of a command plan: these edit units if they name an index, otherwise all.
-fn planned_of(inner: &ArgMatches<'_>, units: AskedUnits) -> Told {
+/// What the matches of a command plan: edit units if they name some or an index, otherwise all.
+fn planned_of<'a>(inner: &ArgMatches<'a>, units: AskedUnits<'a>) -> Told<'a> {
     match indexed(inner, units) {
         Some(units) => Told::UnitPlan(units),
         None => Told::Answer(Ask::Plan),
@@ -112,21 +110,80 @@ fn saving_of<'a>(inner: &ArgMatches<'a>) -> Option<Saving<'a>> {
     })
 }
 
-/// The units by the index that matches name, if they name one.
-fn indexed(inner: &ArgMatches<'_>, units: AskedUnits) -> Option<IndexedUnits> {
-    let index = inner.get_one("index")?;
-    Some(IndexedUnits { index, units })
+/// The edit units that matches ask for, if they name some or an index.
+fn indexed<'a>(inner: &ArgMatches<'a>, units: AskedUnits<'a>) -> Option<IndexedUnits<'a>> {
+    let asked = by_index(inner, units);
+    (asked.index.is_some() || units.are_named()).then_some(asked)
 }
 
-/// The edit units that the matches of a command ask for, from unit 0 up to the last of the index if they name none.
-pub fn units_of<'a>(inner: &ArgMatches<'a>) -> Result<AskedUnits, BadLastUnit<'a>> {
-    let first = inner.get_one("from").unwrap_or(0);
-    let (Some(last), Some(text)) = (inner.get_one("to"), inner.get_str("to")) else {
-        return Ok(AskedUnits::From(first));
+/// These units, by the index that matches name, if they name one. Timecodes are told if a word is one.
+fn by_index<'a>(inner: &ArgMatches<'a>, units: AskedUnits<'a>) -> IndexedUnits<'a> {
+    IndexedUnits {
+        index: inner.get_one("index"),
+        units,
+        with_timecodes: inner.get_flag("timecode") || units.timecode().is_some(),
+    }
+}
+
+/// Why the edit units are refused that words name.
+#[derive(Clone, Copy)]
+pub enum UnitRefusal<'a> {
+    /// The word of this option is no number that can be asked for, and no timecode.
+    Word { option: &'a str, text: &'a str },
+    /// The last unit, as it is written, is below the first or too far after it.
+    Last(&'a str),
+}
+
+/// The edit units that the matches of a command ask for.
+pub fn units_of<'a>(inner: &ArgMatches<'a>) -> Result<AskedUnits<'a>, UnitRefusal<'a>> {
+    let asked = AskedUnits {
+        from: unit_named(inner, "from")?,
+        to: unit_named(inner, "to")?,
     };
-    match UnitRange::new(first, last) {
-        Some(range) => Ok(AskedUnits::Range(range)),
-        None => Err(BadLastUnit(text)),
+    if let Some(text) = bad_last_unit(asked) {
+        return Err(UnitRefusal::Last(text));
+    }
+    Ok(asked)
+}
+
+/// The edit unit that the word of this option names, if there is one.
+fn unit_named<'a>(
+    inner: &ArgMatches<'a>,
+    option: &'static str,
+) -> Result<Option<NamedUnit<'a>>, UnitRefusal<'a>> {
+    let Some(word) = inner.get_str(option) else {
+        return Ok(None);
+    };
+    match bound_of(word) {
+        Some(bound) => Ok(Some(NamedUnit { bound, word })),
+        None => Err(UnitRefusal::Word { option, text: word }),
+    }
+}
+
+/// What a word asks for: a timecode, or the number of a unit, of digits alone.
+fn bound_of(word: &str) -> Option<UnitBound> {
+    if let Some(timecode) = TimecodeWord::read(word) {
+        return Some(UnitBound::Timecode(timecode));
+    }
+    match word.parse::<u64>() {
+        Ok(number) if UnitRange::new(number, number).is_some() => Some(UnitBound::Number(number)),
+        _ => None,
+    }
+}
+
+/// The last unit as it is written, if two numbers are no range: it is below the first, or 1,000,000 or more after it.
+fn bad_last_unit<'a>(asked: AskedUnits<'a>) -> Option<&'a str> {
+    let to = asked.to?;
+    let first = match asked.from {
+        Some(from) => from.bound,
+        None => UnitBound::Number(0),
+    };
+    match (first, to.bound) {
+        (UnitBound::Number(first), UnitBound::Number(last)) => match UnitRange::new(first, last) {
+            Some(_) => None,
+            None => Some(to.word),
+        },
+        _ => None,
     }
 }
 

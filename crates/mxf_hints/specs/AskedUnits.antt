@@ -1,12 +1,45 @@
 -- The edit units that are asked for (this project's profile).
-use Rattle.std.specs.Prelude.{◌≡◌, ℕ, ◌+◌, ◌<◌, ◌≤◌, List, Result, Ok, Err}
+use Rattle.std.specs.Prelude.{⊤, ◌≡◌, ◌⊎◌, ℕ, ◌+◌, ◌<◌, ◌≤◌, [], List, Option, None, Some, Result, Ok, Err, unwrap_or}
+use Rattle.std.specs.Option.{option_map}
 use Rattle.mxf_klv.specs.Parts.{NoteParts}
+use Rattle.mxf_clocks.specs.Runs.{RunParts}
+use Rattle.mxf_views.specs.Places.{greatest_unit}
 use Rattle.mxf_units.specs.LastUnits.{IsLastUnit}
+use Rattle.mxf_units.specs.Units.{UnitsParts}
 use Rattle.mxf_units.specs.declared.range.UnitRange.{UnitRange}
+use Rattle.mxf_timed.specs.Bounds.{AreStoredBounds}
+use Rattle.mxf_timed.specs.declared.asked.Bound.{Bound}
+use Rattle.mxf_timed.specs.declared.asked.Bound.TheVariants.{From, To}
+use Rattle.mxf_timed.specs.declared.asked.StoredBounds.{StoredBounds}
+use Rattle.mxf_timed.specs.declared.asked.TimecodeFault.{TimecodeFault}
+use Rattle.mxf_timed.specs.declared.asked.TimecodeFault.TheVariants as faults
+use Rattle.mxf_timed.specs.declared.asked.UnitBound.{UnitBound}
 use Rattle.mxf_asked.specs.declared.units.AskedUnits.{AskedUnits}
-use Rattle.mxf_asked.specs.declared.units.AskedUnits.TheVariants as asked
+use Rattle.mxf_asked.specs.declared.units.NamedUnit.{NamedUnit}
 use Rattle.mxf_hints.specs.declared.fault.RunFault.{RunFault}
 use Rattle.mxf_hints.specs.declared.fault.RunFault.TheVariants as runs
+
+-- What a word asks for, if there is one.
+abbrev pub bound_of : Option NamedUnit → Option UnitBound
+bound_of named = option_map (λ n. n.bound) named
+
+-- The text of a word; none if there is no word.
+abbrev pub text_of : Option NamedUnit → List ℕ
+text_of None = []
+text_of (Some named) = named.word.now
+
+-- The word of a bound.
+abbrev pub word_at : AskedUnits → Bound → List ℕ
+word_at asked From = text_of asked.from
+word_at asked To = text_of asked.to
+
+-- The units from a first one up to a last one. If that is below the first, it is before it; if it lies 1,000,000 or
+-- more above it, or above the greatest unit, there are too many.
+abbrev pub AreUpTo : ℕ → ℕ → Result UnitRange RunFault → Type 0
+AreUpTo first last (Ok range) = (range.first ≡ first) × (range.first + range.count ≡ last + 1)
+AreUpTo first last (Err runs.LastBeforeFirst) = last < first
+AreUpTo first last (Err runs.TooManyUnits) = (greatest_unit < last) ⊎ (first + 1000000 ≤ last)
+AreUpTo first last (Err _) = ⊥
 
 -- The units from a first one up to the last one of the index. If that is below the first, or the index has none,
 -- there is no last unit; if it lies 1,000,000 or more above the first, there are too many.
@@ -18,7 +51,27 @@ AreUpToLast notes index_sid first (Err runs.TooManyUnits) =
     (last : ℕ) × IsLastUnit notes index_sid last × (first + 1000000 ≤ last)
 AreUpToLast notes index_sid first (Err _) = ⊥
 
--- The units that words ask for: those of a range, or from one up to the last.
-abbrev pub AreAsked : List NoteParts → ℕ → AskedUnits → Result UnitRange RunFault → Type 0
-AreAsked notes index_sid (asked.Range range) result = result ≡ Ok range
-AreAsked notes index_sid (asked.From first) result = AreUpToLast notes index_sid first result
+-- From the first one that is known, or from 0, up to the last one that is known, or the last one of the index.
+abbrev pub AreFrom : UnitsParts → ℕ → Option ℕ → Result UnitRange RunFault → Type 0
+AreFrom u first (Some last) result = AreUpTo first last result
+AreFrom u first None result = AreUpToLast u.known.notes u.index_sid first result
+
+abbrev pub AreBounded : UnitsParts → StoredBounds → Result UnitRange RunFault → Type 0
+AreBounded u b result = AreFrom u (unwrap_or b.from 0) b.to result
+
+-- The fault of timecodes, with the word that it is of.
+abbrev pub IsFault : AskedUnits → TimecodeFault → RunFault → Type 0
+IsFault asked (faults.Nowhere at) (runs.NoUnitAt word clock) = word.now ≡ word_at asked at
+IsFault asked (faults.Several at) (runs.SeveralUnitsAt word) = word.now ≡ word_at asked at
+IsFault asked faults.LastBeforeFirst runs.LastBeforeFirst = ⊤
+IsFault asked _ _ = ⊥
+
+-- The units that words ask for: those from a first one up to a last one that timecodes and numbers say by the runs of a
+-- clock, or the fault of a timecode, or that of the first and the last one.
+pub data AreAsked (u : UnitsParts) (clock : List RunParts) (asked : AskedUnits) (result : Result UnitRange RunFault)
+    : Type 0 where
+  ByBounds : (b : StoredBounds) → AreStoredBounds u clock (bound_of asked.from) (bound_of asked.to) (Ok b)
+      → AreBounded u b result → AreAsked u clock asked result
+  ByFault : (fault : TimecodeFault) (ends : RunFault)
+      → AreStoredBounds u clock (bound_of asked.from) (bound_of asked.to) (Err fault) → IsFault asked fault ends
+      → result ≡ Err ends → AreAsked u clock asked result

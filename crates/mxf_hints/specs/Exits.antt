@@ -36,11 +36,15 @@ exit_of_fault parts.OutOfMemory = NoMemory
 abbrev pub exit_of_run : RunFault → Exit
 exit_of_run runs.OutOfMemory = NoMemory
 exit_of_run (runs.Signed option text) = Usage
+exit_of_run (runs.BadUnitWord option text) = Usage
 exit_of_run (runs.BadLastUnit text) = Usage
+exit_of_run (runs.NoUnitAt word clock) = Usage
+exit_of_run (runs.SeveralUnitsAt word) = Usage
+exit_of_run runs.LastBeforeFirst = Usage
 exit_of_run runs.NoLastUnit = Usage
 exit_of_run runs.TooManyUnits = Usage
 exit_of_run runs.NoIndex = Usage
-exit_of_run (runs.SeveralIndexes held) = Usage
+exit_of_run (runs.SeveralIndexes meant) = Usage
 exit_of_run (runs.BadSource word) = Usage
 exit_of_run runs.NoSource = Usage
 exit_of_run (runs.BadLine number path) = Usage

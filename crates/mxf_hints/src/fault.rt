@@ -1,11 +1,15 @@
 //! Why a run ends without its answer.
 ghost use Rattle.std.specs.Prelude.{◌≡◌};
 ghost use Rattle.mxf_hints.specs.Exits.{exit_of_fault, exit_of_run};
+ghost use Rattle.mxf_hints.specs.declared.fault.RunFault.TheVariants as runs;
 
 use crate::exit::Exit;
 use crate::shift::Shift;
+use mxf_clocks::Run;
+use mxf_klv::OutOfMemory;
 use mxf_read::PartFault;
 use mxf_saving::{OutputRefusal, SaveFault, Source, SystemFault};
+use mxf_tracks::Timecode;
 use std::fmt;
 use thiserror::Error;
 
@@ -18,6 +22,12 @@ pub enum RunFault<'a> {
     /// A number has a sign.
     #[error("error: invalid value '{text}' for '--{option} <N>': a number has digits alone")]
     Signed {
+        option: &'a str,
+        text: &'a str,
+    },
+    /// A word for an edit unit is no number that can be asked for, and no timecode.
+    #[error("error: invalid value '{text}' for '--{option} <N>': not 0 to 9223372036854775807, nor a timecode HH:MM:SS:FF")]
+    BadUnitWord {
         option: &'a str,
         text: &'a str,
     },
@@ -63,19 +73,34 @@ pub enum RunFault<'a> {
     /// The edit unit is above the greatest.
     #[error("bad unit")]
     BadUnit,
+    /// No position is shown at a timecode.
+    #[error("no unit at {word}")]
+    NoUnitAt {
+        word: &'a str,
+        clock: ToldClock,
+    },
+    /// More than one range of positions is shown at a timecode.
+    #[error("several units at {word}")]
+    SeveralUnitsAt {
+        word: &'a str,
+    },
+    /// What is shown up to the last timecode ends before what is shown from the first on, or the last edit unit is
+    /// below the first.
+    #[error("last unit before first")]
+    LastBeforeFirst,
     /// No last edit unit is named, and the index has none, or it is below the first.
     #[error("no last unit")]
     NoLastUnit,
-    /// No last edit unit is named, and that of the index is 1,000,000 or more after the first.
+    /// The last edit unit is 1,000,000 or more after the first.
     #[error("too many units")]
     TooManyUnits,
     /// No index is named, and none is held.
     #[error("no index is held")]
     NoIndex,
-    /// No index is named, and several are held.
-    #[error("several indexes are held: {held}")]
+    /// No index is named, and several are meant: those that are held, or that have a clock if a timecode is asked for.
+    #[error("which index: {meant}")]
     SeveralIndexes {
-        held: IndexSids,
+        meant: IndexSids,
     },
     /// A source or a list couldn't be opened or read, as the system says.
     #[error("read fault: {path}")]
@@ -102,6 +127,35 @@ pub enum RunFault<'a> {
     },
 }
 
+/// What is told of the clock of an index: the timecodes of its first run, and how many frames these have in a second.
+#[derive(Clone, Copy, Debug)]
+pub enum ToldClock {
+    /// It has no run.
+    None,
+    /// It has a first run, and perhaps others.
+    Runs {
+        first: Timecode,
+        last: Option<Timecode>,
+        base: u16,
+        is_one: bool,
+    },
+}
+
+impl ToldClock {
+    /// What is told of the runs of a clock.
+    pub fn of(runs: &[Run]) -> ToldClock {
+        match runs.first() {
+            None => ToldClock::None,
+            Some(run) => ToldClock::Runs {
+                first: run.first(),
+                last: run.last(),
+                base: run.base(),
+                is_one: runs.len() == 1,
+            },
+        }
+    }
+}
+
 /// IndexSIDs. They print with a space between them.
 #[derive(Debug, Drop)]
 pub struct IndexSids(pub Vec<u32>);
@@ -125,6 +179,14 @@ pub fn write_index_sids<W: fmt::Write>(
     Ok(())
 }
 
+impl<'a> From<OutOfMemory> for RunFault<'a> {
+    ghost from_gives = { λ _ e. e ≡ runs.OutOfMemory };
+
+    fn from(_fault: OutOfMemory) -> RunFault<'a> {
+        RunFault::OutOfMemory
+    }
+}
+
 impl RunFault<'_> {
     /// How the run ends.
     pub fn exit(&self) -> Exit
@@ -133,7 +195,11 @@ impl RunFault<'_> {
         match self {
             RunFault::OutOfMemory => Exit::NoMemory,
             RunFault::Signed { .. }
+            | RunFault::BadUnitWord { .. }
             | RunFault::BadLastUnit { .. }
+            | RunFault::NoUnitAt { .. }
+            | RunFault::SeveralUnitsAt { .. }
+            | RunFault::LastBeforeFirst
             | RunFault::NoLastUnit
             | RunFault::TooManyUnits
             | RunFault::NoIndex

@@ -1,11 +1,13 @@
 //! What to do about a fault, told in a second line if standard error is a terminal.
-use crate::fault::RunFault;
+use crate::fault::{RunFault, ToldClock};
+use crate::refusal::is_timecode;
 use crate::shift::Shift;
 use crate::sized::SizedWord;
 use mxf_saving::{
     Beginning, NOT_FOUND, OutputRefusal, SaveFault, Source, SystemFault, TOO_MANY_FILES,
     begins_with_scheme,
 };
+use mxf_timed::TimecodeWord;
 use std::fmt;
 
 /// What to do about a fault. Of a file that is refused as a catalogue or a list, or of a word that names no source and
@@ -24,11 +26,19 @@ impl fmt::Display for Hint<'_, '_> {
                 "join fewer sources at once, and then the catalogues of these joins",
             ),
             RunFault::Signed { .. } => f.write_str("write the number without a sign"),
+            RunFault::BadUnitWord { text, .. } => f.write_str(advice_on_unit(*text)),
             RunFault::BadLastUnit { .. } => {
                 f.write_str(
                     "name by --from a first unit that isn't above --to, and ask for 1000000 units at most",
                 )
             }
+            RunFault::NoUnitAt { word, clock } => write_clock(f, *word, *clock),
+            RunFault::SeveralUnitsAt { .. } => f.write_str(
+                "it is shown more than once: describe prints the clocks; name edit units by their numbers",
+            ),
+            RunFault::LastBeforeFirst => f.write_str(
+                "name by --to a unit that isn't below that of --from, or a timecode that isn't shown before it",
+            ),
             RunFault::NoLastUnit => f.write_str(
                 "no segment that is held gives this index a last unit from the first on: name the last by --to, or another index by --index",
             ),
@@ -56,6 +66,52 @@ impl fmt::Display for Hint<'_, '_> {
             RunFault::Unsaved { path, fault } => write_unsaved(f, *path, fault),
         }
     }
+}
+
+/// What a word was meant for that is no edit unit.
+fn advice_on_unit(word: &str) -> &'static str {
+    if word.contains(".") && word.contains(":") {
+        "write ':' before the frames of a timecode, or ';' in quotes where it is one of drop frame"
+    } else if is_timecode(word) {
+        "a timecode has four numbers of two digits each, HH:MM:SS:FF"
+    } else {
+        "an edit unit is a number, counted from 0 as they are stored, or a timecode HH:MM:SS:FF"
+    }
+}
+
+/// Writes which timecodes a clock has that hasn't this one.
+fn write_clock<W: fmt::Write>(
+    f: &mut fmt::Formatter<W>,
+    word: &str,
+    clock: ToldClock,
+) -> fmt::Result {
+    let ToldClock::Runs {
+        first,
+        last,
+        base,
+        is_one,
+    } = clock
+    else {
+        return f.write_str(
+            "the header metadata that are held give no edit unit a timecode: describe prints them; name edit units by their numbers",
+        );
+    };
+    match TimecodeWord::read(word) {
+        Some(word) if word.frames >= u32::from(base) => {
+            return write!(f, "the clock has {base} frames a second, counted from 00");
+        }
+        _ => {}
+    }
+    write!(f, "the clock has {first}")?;
+    match last {
+        Some(last) => write!(f, " to {last}")?,
+        None => f.write_str(" and all behind it")?,
+    }
+    f.write_str(if is_one {
+        ""
+    } else {
+        ", and others, which describe prints"
+    })
 }
 
 /// Writes why no catalogue is saved at a path.

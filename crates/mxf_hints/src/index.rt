@@ -1,6 +1,12 @@
 //! The indexes that are asked for, and those that are held.
-use crate::fault::{IndexSids, RunFault, write_index_sids};
-use mxf_klv::OutOfMemory;
+ghost use Rattle.std.specs.Prelude.{◌≡◌, Err, IfOk, OnErr, map};
+ghost use Rattle.mxf_hints.specs.AskedIndexes.{IsIndexOf, IsOnly, clocked};
+ghost use Rattle.mxf_hints.specs.declared.fault.RunFault.TheVariants as runs;
+
+use crate::fault::{IndexSids, RunFault, ToldClock, write_index_sids};
+use mxf_asked::IndexedUnits;
+use mxf_clocks::Run;
+use mxf_klv::{OutOfMemory, sort_once};
 use mxf_units::{index_sids, named_index_sids};
 use mxf_views::Views;
 use std::alloc::Global;
@@ -40,19 +46,17 @@ fn first_of(index_sids: &[u32]) -> &[u32] {
 }
 
 /// Reports it on standard error if no segment of an index is held.
-pub fn tell_index<'a, R: Eprint + AllocGlobal>(
+fn tell_index<'a, R: Eprint + AllocGlobal>(
     rt: &R,
     views: &Views,
     index: u32,
-) -> Result<(), RunFault<'a>> {
-    match missing_index(rt.alloc(), views, index) {
-        Ok(Some(missing)) => {
-            let _ = rt.eprintln(&missing);
-            Ok(())
-        }
-        Ok(None) => Ok(()),
-        Err(_) => Err(RunFault::OutOfMemory),
+) -> Result<(), RunFault<'a>>
+    ensures { OnErr result (result ≡ Err runs.OutOfMemory) }
+{
+    if let Some(missing) = missing_index(rt.alloc(), views, index)? {
+        let _ = rt.eprintln(&missing);
     }
+    Ok(())
 }
 
 /// That no segment of an index is held, if none is.
@@ -69,16 +73,63 @@ fn missing_index(
     Ok(Some(MissingIndex { index, held, named }))
 }
 
-/// The IndexSID of the only index that is held.
-pub fn only_index<'a>(alloc: Global, views: &Views) -> Result<u32, RunFault<'a>> {
-    let Ok(held) = index_sids(alloc, views) else {
-        return Err(RunFault::OutOfMemory);
-    };
-    match held.as_slice() {
-        [] => Err(RunFault::NoIndex),
-        [index] => Ok(*index),
+/// The IndexSID of the index whose edit units are asked for: the one that is named; else the only one with a clock if a
+/// timecode is among the words, and otherwise the only one that is held. It reports on standard error if no segment of
+/// the one that is named is held.
+pub fn index_of<'a, R: Eprint + AllocGlobal>(
+    rt: &R,
+    views: &Views,
+    clocks: &[Run],
+    asked: IndexedUnits<'a>,
+) -> Result<u32, RunFault<'a>>
+    ensures { IsIndexOf views.now clocks.now asked.entry result }
+{
+    let alloc = rt.alloc();
+    match (asked.index, asked.units.timecode()) {
+        (Some(index), _) => {
+            tell_index(rt, views, index)?;
+            Ok(index)
+        }
+        (None, Some(word)) => match only_of(clocked(alloc, clocks)?)? {
+            Some(index) => Ok(index),
+            None => {
+                let clock = ToldClock::None;
+                Err(RunFault::NoUnitAt { word, clock })
+            }
+        },
+        (None, None) => match only_of(index_sids(alloc, views)?)? {
+            Some(index) => Ok(index),
+            None => Err(RunFault::NoIndex),
+        },
+    }
+}
+
+/// The IndexSIDs of the indexes that have a clock, each once, rising.
+fn clocked(alloc: Global, clocks: &[Run]) -> Result<Vec<u32>, OutOfMemory>
+    ensures { IfOk result (λ v. v.items ≡ clocked clocks.now) }
+{
+    let mut indexes = indexes_in(alloc, clocks)?;
+    sort_once(&mut indexes);
+    Ok(indexes)
+}
+
+/// The IndexSIDs of all runs, in the order of these.
+fn indexes_in(alloc: Global, clocks: &[Run]) -> Result<Vec<u32>, OutOfMemory>
+    ensures { IfOk result (λ v. v.items ≡ map (λ r. r.index_sid) clocks.now) }
+{
+    let indexes = clocks.iter().map(|run| run.index_sid());
+    Ok(indexes.collect(alloc)?)
+}
+
+/// The only one of the IndexSIDs that are meant, if one is.
+fn only_of<'a>(meant: Vec<u32>) -> Result<Option<u32>, RunFault<'a>>
+    ensures { IsOnly meant.items result }
+{
+    match meant.as_slice() {
+        [] => Ok(None),
+        [index] => Ok(Some(*index)),
         _ => Err(RunFault::SeveralIndexes {
-            held: IndexSids(held),
+            meant: IndexSids(meant),
         }),
     }
 }

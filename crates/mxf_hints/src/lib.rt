@@ -8,7 +8,7 @@
 //! | which sources end before their bytes do, or have no packet | [`tell_stops`], [`tell_foreign`] |
 //! | which begin elsewhere by their partition packs | [`tell_offsets`], if something [`is_contradicted`] |
 //! | what of the sources doesn't go together | [`tell_together`], [`tell_unsettled`] |
-//! | that an index isn't held | [`tell_index`] |
+//! | which index is meant, and that it isn't held | [`found_units`] |
 //!
 //! What is proved: the exit status of each end of a run ([`Exit`]), the end for each fault, and whether hints are told
 //! ([`Telling::of`]). What each part holds by itself is its run alone ([`gather_each`]), and the [`Shift`] of a content
@@ -21,6 +21,7 @@ mod contents;
 mod disputing;
 mod exit;
 mod fault;
+mod found;
 mod front;
 mod hint;
 mod index;
@@ -38,12 +39,11 @@ pub use apart::tell_unsettled;
 pub use contents::{Contents, gather_each, gather_one};
 pub use disputing::tell_together;
 pub use exit::Exit;
-pub use fault::{IndexSids, RunFault};
-pub use index::{only_index, tell_index};
+pub use fault::{IndexSids, RunFault, ToldClock};
+pub use found::{FoundUnits, found_units};
 pub use offsets::{is_contradicted, tell_offsets};
 pub use part::part_of;
 pub use refusal::RefusalHint;
 pub use shift::{Shift, shift_of};
 pub use stops::{tell_foreign, tell_stops};
 pub use telling::{Telling, line_on_screen, tell, tell_on_screen};
-pub use unit_range::range_of;

@@ -41,7 +41,7 @@ impl<'a> RefusalHint<'a> {
                 return Some(RefusalHint::Short(argument));
             }
             let (option, value) = argument.split_once('=').unwrap_or((before, argument));
-            if is_of_unit(option) && is_timecode(value) {
+            if option == "--unit" && is_timecode(value) {
                 return Some(RefusalHint::Timecode(value));
             }
             if option == "--unit" && !is_locating {
@@ -73,11 +73,6 @@ fn is_short(word: &str) -> bool {
     word.starts_with("-") && !word.starts_with("--") && word.len() > 1
 }
 
-/// Whether the value of the option is an edit unit.
-fn is_of_unit(option: &str) -> bool {
-    option == "--from" || option == "--to" || option == "--unit"
-}
-
 impl fmt::Display for RefusalHint<'_> {
     fn fmt<W: fmt::Write>(&self, f: &mut fmt::Formatter<W>) -> fmt::Result {
         match self {
@@ -106,14 +101,14 @@ impl fmt::Display for RefusalHint<'_> {
             }
             RefusalHint::Timecode(text) => write!(
                 f,
-                "hint: edit units are counted from 0: {text} is as many as there are frames from the recording's first timecode up to it"
+                "hint: an edit unit is counted from 0: which one shows {text} says: mxf_tool units --from {text} --to {text}, with SRC"
             ),
         }
     }
 }
 
 /// Whether the text is a timecode, as `10:00:00:00` or `10:00:00;00`, or one that was shortened, as `10:00`.
-fn is_timecode(text: &str) -> bool {
+pub fn is_timecode(text: &str) -> bool {
     let is_of_one = text.bytes().all(|byte| byte.is_ascii_digit() || byte == b':' || byte == b';');
     is_of_one && (1..=3).contains(&text.bytes().filter(|byte| !byte.is_ascii_digit()).count())
 }

@@ -3,6 +3,7 @@ pub mod PrintLaws
 pub mod MapLineLaws
 pub mod UnitLineLaws
 pub mod VerifiedStatusLaws
+pub mod ShownLineLaws
 pub mod OneRun
 pub mod RecordLaws
 pub mod DisputesLineLaws

@@ -1,5 +1,5 @@
 -- Runs that were handed the same hold one content, and print the same of it.
-use Rattle.mxf_views.proofs.Common.{◌≡◌, ℕ, Bool, List, [], ◌∷◌, ◌++◌, Option, None, Some, sym, ap, subst, ◌∙◌}
+use Rattle.mxf_views.proofs.Common.{◌≡◌, ◌+◌, ◌-◌, ℕ, Bool, List, [], ◌∷◌, ◌++◌, Option, None, Some, sym, ap, subst, ◌∙◌}
 use Rattle.mxf_views.proofs.Common.{NoteParts, In, SameMembers, file_bytes, IsLocated, Read, IsTheRun}
 use Rattle.std.specs.Prelude.{codes, filter, flat_map}
 use Rattle.mxf_catalogue.specs.History.{HandsSame}
@@ -21,12 +21,14 @@ use Rattle.mxf_read.specs.declared.gathering.report.PieceReport.{PieceReport}
 use Rattle.mxf_lines.specs.Answering.{stop_lines}
 use Rattle.mxf_forms.specs.Forms.{line, lines_in, number}
 use Rattle.mxf_lines.specs.Lines.{note_fields}
-use Rattle.mxf_lines.specs.OneRun.{Answer, AreTold, AskedUnits, IsPrinted, Map, PrintSame, Printed, Question, Renewal}
-use Rattle.mxf_lines.specs.OneRun.{Sources, UnitPlan, Verification}
+use Rattle.mxf_lines.specs.OneRun.{Answer, AreTimes, AreTold, AskedUnits, IsPrinted, Map, PrintSame, Printed, Question}
+use Rattle.mxf_lines.specs.OneRun.{Renewal, Sources, UnitPlan, Units, Verification, clocks_told, units_told}
 use Rattle.mxf_lines.specs.MapLines.{AreToldExtents, map_lines}
 use Rattle.mxf_lines.proofs.MapLineLaws.{one_told}
-use Rattle.mxf_lines.specs.UnitPlanLines.{asked_of, unit_plan_lines, unit_plan_status}
-use Rattle.mxf_lines.specs.VerificationLines.{cut_lines, differs_line, other_fields, range_lines, span_fields}
+use Rattle.mxf_timed.specs.Shown.{TimedParts}
+use Rattle.mxf_lines.specs.UnitPlanLines.{asked_of, told_units, unit_plan_lines, unit_plan_status}
+use Rattle.mxf_lines.proofs.ShownLineLaws.{same_lines, same_runs}
+use Rattle.mxf_lines.specs.VerificationLines.{cut_lines, differs_line, other_fields, range_lines, runs_of, span_fields}
 use Rattle.mxf_lines.specs.VerificationLines.{unit_run_line, verification_lines, verification_status, verified_fields}
 use Rattle.mxf_lines.specs.VerificationLines.{verified_line}
 
@@ -71,25 +73,39 @@ counted_same c a b runs = ap (λ (r : List UnitRun). line "verified" (verified_f
     ++ (number " units " "units" (units_in (filter (λ u. is_verified u.fixity) r))
     ∷ number " of " "all-units" (units_in r) ∷ [])))) runs
 
-verified_same : (reports : List PieceReport) (v : VerificationParts) (a b : VerifiedUnitsParts) → a.runs ≡ b.runs
-    → SameMembers a.places b.places → verification_lines reports v (Some a) ≡ verification_lines reports v (Some b)
-verified_same reports v a b runs places = λ i. flat_map stop_lines reports
+verified_same : (reports : List PieceReport) (v : VerificationParts) (a b : VerifiedUnitsParts)
+    (shown : Option TimedParts) → a.runs ≡ b.runs → SameMembers a.places b.places
+    → verification_lines reports v (Some a) shown ≡ verification_lines reports v (Some b) shown
+verified_same reports v a b shown runs places = λ i. flat_map stop_lines reports
     ++ (flat_map (λ d. differs_same a b places d i ∷ []) v.differing ++ (cut_lines v.cut
     ++ (range_lines (codes "unknown") v.unknown ++ (range_lines (codes "unverified") v.unverified
-    ++ (flat_map (λ r. unit_run_line r ∷ []) (runs i) ++ counted_same (counts_of v) a b runs i ∷ [])))))
+    ++ (flat_map (λ r. unit_run_line shown r ∷ []) (runs i) ++ counted_same (counts_of v) a b runs i ∷ [])))))
 
 -- what is told of a verification with units, or without them
 told_lines : (asked : Option AskedUnits) (content : List NoteParts) (v : VerificationParts)
     (a b : Option VerifiedUnitsParts) → AreTold asked content v a → AreTold asked content v b
-    → (reports : List PieceReport) → verification_lines reports v a ≡ verification_lines reports v b
-told_lines None content v a b e f reports = ap (verification_lines reports v) (e ∙ sym f)
-told_lines (Some asked) content v None b e f reports = absurd e
-told_lines (Some asked) content v (Some a) None e f reports = absurd f
-told_lines (Some asked) content v (Some a) (Some b) e f reports =
-    verified_same reports v a b (one_list_of_runs _ _ _ _ _ a b e f) (λ p. (
+    → (reports : List PieceReport) (shown : Option TimedParts)
+    → verification_lines reports v a shown ≡ verification_lines reports v b shown
+told_lines None content v a b e f reports shown =
+    ap (λ (told : Option VerifiedUnitsParts). verification_lines reports v told shown) (e ∙ sym f)
+told_lines (Some asked) content v None b e f reports shown = absurd e
+told_lines (Some asked) content v (Some a) None e f reports shown = absurd f
+told_lines (Some asked) content v (Some a) (Some b) e f reports shown =
+    verified_same reports v a b shown (one_list_of_runs _ _ _ _ _ a b e f) (λ p. (
       λ i. (f.places p).1 ((e.places p).0 i),
       λ i. (e.places p).1 ((f.places p).0 i),
     ))
+
+-- and of the timecodes that they show
+shown_lines : (asked : Option AskedUnits) (content : List NoteParts) (v : VerificationParts)
+    (told : Option VerifiedUnitsParts) (a b : Option TimedParts) → AreTimes asked content a → AreTimes asked content b
+    → (reports : List PieceReport) → verification_lines reports v told a ≡ verification_lines reports v told b
+shown_lines None content v told a b p q reports = ap (verification_lines reports v told) (p ∙ sym q)
+shown_lines (Some asked) content v told a b p q reports = λ i. flat_map stop_lines reports
+    ++ (flat_map (λ d. differs_line told d.source d.note ∷ []) v.differing ++ (cut_lines v.cut
+    ++ (range_lines (codes "unknown") v.unknown ++ (range_lines (codes "unverified") v.unverified
+    ++ (same_runs (units_told asked content) asked.from (asked.to + 1 - asked.from) (clocks_told asked.timed content) a b
+    p q (runs_of told) i ++ verified_line (counts_of v) told ∷ [])))))
 
 told_status : (asked : Option AskedUnits) (content : List NoteParts) (v : VerificationParts)
     (a b : Option VerifiedUnitsParts) → AreTold asked content v a → AreTold asked content v b
@@ -113,16 +129,22 @@ printed_once (Map columns rows with_extents at) m a b (x, d, is, told, l, s) (y,
     let all : d ≡ e = one_told known y.end with_extents d e
     (subst (λ (z : MapParts). AreToldExtents known z.end with_extents d) same told) tell in
     (l ∙ (λ i. map_lines columns (same i) (all i)) ∙ sym k, s ∙ sym t)
+printed_once (Units index range timed at) m a b (x, is, l, s) (y, also, k, t) =
+    let w = asked_of index range at m in (
+      l ∙ same_lines w.units range.first range.count (clocks_told timed m) x y is also range.first (told_units w) ∙ sym k,
+      s ∙ sym t,
+    )
 printed_once (UnitPlan index range at) m a b (x, is, l, s) (y, also, k, t) =
     let same : x ≡ y = one_plan _ x y is also in (
       l ∙ ap (unit_plan_lines (asked_of index range at m)) same ∙ sym k,
       s ∙ ap (λ (p : UnitPlanParts). Some (unit_plan_status (asked_of index range at m) p)) same ∙ sym t,
     )
-printed_once (Verification sources reports asked is_whole) m a b (v, x, is, told, l, s) (w, y, also, tell, k, t) =
+printed_once (Verification sources reports asked is_whole) m a b (v, x, c, is, told, times, l, s)
+    (w, y, d, also, tell, clock, k, t) =
     let same : v ≡ w = one_verification m sources v w is also in
     let here : AreTold asked m w x = subst (λ (z : VerificationParts). AreTold asked m z x) same told in (
-      l ∙ ap (λ (z : VerificationParts). verification_lines reports z x) same
-          ∙ told_lines asked m w x y here tell reports ∙ sym k,
+      l ∙ ap (λ (z : VerificationParts). verification_lines reports z x c) same
+          ∙ told_lines asked m w x y here tell reports c ∙ shown_lines asked m w y c d times clock reports ∙ sym k,
       s ∙ ap (λ (z : VerificationParts). Some (verification_status reports z x is_whole)) same
           ∙ ap (λ (n : ℕ). Some n) (told_status asked m w x y here tell reports is_whole) ∙ sym t,
     )

@@ -2,6 +2,7 @@
 use Rattle.mxf_views.proofs.Common.{◌≡◌, ◌∙◌, ◌==◌, ◌+◌, ◌++◌, ◌≤◌, ℕ, List, [], ◌∷◌, Option, None, Some, Result, Err}
 use Rattle.mxf_views.proofs.Common.{ap, arith, filter_map, flat_map, if◌then◌else◌, length, refl, subst, sym}
 use Rattle.mxf_views.proofs.Common.{length-map-range_with_len, cons_option, count_by-cons, tally}
+use Rattle.mxf_timed.specs.Shown.{TimedParts}
 use Rattle.mxf_units.specs.Units.{UnitsParts, unit_of}
 use Rattle.mxf_units.specs.declared.standing.UnitStanding.{UnitStanding}
 use Rattle.mxf_units.specs.declared.unit.EditUnit.{EditUnit}
@@ -70,14 +71,15 @@ module _ (first : ℕ) (all left : List EditUnit) (units held hand from : ℕ) (
   line_is i = units_line (as_many i) (all_held i) (all_hand i) ((sym (ap (needed_from from) none) ∙ needed) i)
 
   -- What is answered of the last line is answered of all.
-  pub answered : {f g : Form} {a b : Option (List ℕ)} {before mid : ℕ} → Leads f a before (unit_lines first all) g b mid
-      (flat_map (λ u. unit_line u ∷ []) left ++ last_line first all ∷ [])
+  pub answered : {f g : Form} {a b : Option (List ℕ)} {before mid : ℕ} (shown : Option TimedParts)
+      → Leads f a before (unit_lines shown first all) g b mid
+      (flat_map (λ u. unit_line shown u ∷ []) left ++ last_line first all ∷ [])
       → (c : Option (List ℕ)) (after : ℕ) (r : Result (Unit {0}) AnswerFault)
       → PrintsPart g b c mid after r (units_line units held hand from ∷ [])
-      → PrintsPart f a c before after r (unit_lines first all)
-  answered {f} {g} {a} {b} {before} {mid} led c after r printed =
+      → PrintsPart f a c before after r (unit_lines shown first all)
+  answered {f} {g} {a} {b} {before} {mid} shown led c after r printed =
       led.leads c after r (subst (PrintsPart g b c mid after r) (sym (ap (λ (us : List EditUnit).
-      flat_map (λ u. unit_line u ∷ []) us ++ last_line first all ∷ []) none
+      flat_map (λ u. unit_line shown u ∷ []) us ++ last_line first all ∷ []) none
       ∙ ap (λ (l : PrintedLine). l ∷ []) (sym line_is))) printed)
 
 -- A fault of one call is that of another.

@@ -16,11 +16,9 @@ use Rattle.mxf_places.specs.AtHand.{AtHandParts}
 use Rattle.mxf_restore.specs.Disputes.{disputes_of}
 use Rattle.mxf_restore.specs.Plan.{PlanParts, plan_of}
 use Rattle.mxf_restore.specs.declared.disputes.Disputes.{Disputes}
-use Rattle.mxf_units.specs.declared.unit.EditUnit.{EditUnit}
 use Rattle.mxf_read.specs.declared.gathering.report.PieceReport.{PieceReport}
-use Rattle.mxf_units.specs.Ranges.{units_from}
 use Rattle.mxf_asked.specs.declared.ask.Ask.{Ask}
-use Rattle.mxf_asked.specs.declared.ask.Ask.TheVariants.{Show, Check, Describe, Locate, Join, Plan, Units}
+use Rattle.mxf_asked.specs.declared.ask.Ask.TheVariants.{Show, Check, Describe, Locate, Join, Plan}
 use Rattle.mxf_lines.specs.declared.printing.AnswerFault.{AnswerFault}
 use Rattle.mxf_lines.specs.declared.printing.AnswerFault.TheVariants.{BadUnit}
 use Rattle.mxf_lines.specs.DescriptionLines.{description_lines, description_status}
@@ -31,8 +29,6 @@ use Rattle.mxf_forms.specs.Forms.{PrintedLine}
 use Rattle.mxf_lines.specs.Lines.{join_line, piece_line}
 use Rattle.mxf_lines.specs.PlanLines.{plan_lines}
 use Rattle.mxf_lines.specs.Printing.{Prints, content_lines}
-use Rattle.mxf_lines.specs.UnitLines.{unit_lines, units_status}
-use Rattle.mxf_units.specs.declared.range.UnitRange.{UnitRange}
 
 -- A line for each report of a piece.
 abbrev pub report_lines : List PieceReport → List PrintedLine
@@ -59,11 +55,6 @@ check_lines reports content = flat_map stop_lines reports ++ finding_lines (find
 abbrev pub join_lines : List NoteParts → List PrintedLine
 join_lines content = join_line (length content) (length (disputed_notes content)) ∷ []
 
--- The units of a range, by the index of an IndexSID.
-abbrev pub asked_units : ℕ → UnitRange → AtHandParts → List NoteParts → List EditUnit
-asked_units index range at content =
-    units_from (record { known = record { notes = content; at = at }; index_sid = index }) range.first range.count
-
 -- The lines that are asked for, of pieces with these reports, of what is at hand, and of a content.
 abbrev pub answer_lines : Ask → List PieceReport → AtHandParts → List NoteParts → List PrintedLine
 answer_lines Show reports at content = report_lines reports ++ content_lines content
@@ -72,7 +63,6 @@ answer_lines Describe reports at content = description_lines content
 answer_lines (Locate index unit) reports at content = place_line (place_of (segments_of content) index unit) ∷ []
 answer_lines Join reports at content = join_lines content
 answer_lines Plan reports at content = plan_lines (disputes_of content) (plan_of at content)
-answer_lines (Units index range) reports at content = unit_lines range.first (asked_units index range at content)
 
 -- 0 if all pieces end with a packet and nothing is found, otherwise 1.
 abbrev pub check_status : List PieceReport → List Finding → ℕ
@@ -95,7 +85,6 @@ answer_status Describe reports at content = description_status content
 answer_status (Locate index unit) reports at content = place_status (place_of (segments_of content) index unit)
 answer_status Join reports at content = 0
 answer_status Plan reports at content = plan_status (disputes_of content) (plan_of at content)
-answer_status (Units index range) reports at content = units_status (asked_units index range at content)
 
 -- An edit unit above the greatest is asked for.
 abbrev pub IsBadAsk : Ask → Type 0
@@ -105,7 +94,6 @@ IsBadAsk Describe = ⊥
 IsBadAsk (Locate index unit) = greatest_unit < unit
 IsBadAsk Join = ⊥
 IsBadAsk Plan = ⊥
-IsBadAsk (Units index range) = ⊥
 
 -- What is answered, if `Wrote` says what a writer took: the edit unit is a bad one, and nothing was written; or what
 -- a call answers that prints the lines in the form.

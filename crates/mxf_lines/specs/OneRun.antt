@@ -1,12 +1,17 @@
 -- What a content answers to each question for which lines are printed, and contents that print the same (this project's
 -- profile).
-use Rattle.std.specs.Prelude.{ℕ, ◌≡◌, ◌*◌, Bool, List, ◌∷◌, ◌++◌, Option, None, Some}
+use Rattle.std.specs.Prelude.{ℕ, ◌≡◌, ◌*◌, ◌+◌, ◌-◌, if◌then◌else◌, Bool, List, ◌∷◌, ◌++◌, Option, None, Some}
 use Rattle.mxf_klv.specs.Parts.{NoteParts}
+use Rattle.mxf_references.specs.Resolved.{resolved_of}
+use Rattle.mxf_tracks.specs.Walk.{tracks_from_resolved}
+use Rattle.mxf_clocks.specs.Clocks.{ClocksParts, clocks_of}
 use Rattle.mxf_places.specs.AtHand.{AtHandParts}
 use Rattle.mxf_read.specs.declared.gathering.report.PieceReport.{PieceReport}
 use Rattle.mxf_map.specs.Map.{IsMap, MapParts}
 use Rattle.mxf_map.specs.declared.extent.MapExtent.{MapExtent}
+use Rattle.mxf_units.specs.Units.{UnitsParts}
 use Rattle.mxf_units.specs.declared.range.UnitRange.{UnitRange}
+use Rattle.mxf_timed.specs.Shown.{TimedParts}
 use Rattle.mxf_partial.specs.Orders.{IsUnitPlan, UnitPlanParts}
 use Rattle.mxf_verify.specs.Fixities.{AreVerifiedUnits, VerifiedUnitsParts}
 use Rattle.mxf_verify.specs.Renewing.{dropped_of, renewed_of}
@@ -19,15 +24,18 @@ use Rattle.mxf_forms.specs.Forms.{PrintedLine, lines_in}
 use Rattle.mxf_lines.specs.MapLines.{AreToldExtents, map_lines}
 use Rattle.mxf_lines.specs.RenewalLines.{renewal_lines}
 use Rattle.mxf_lines.specs.SourceLines.{sources_lines, sources_status}
-use Rattle.mxf_lines.specs.UnitPlanLines.{asked_of, unit_plan_lines, unit_plan_status}
+use Rattle.mxf_lines.specs.UnitLines.{AreToldTimes, unit_lines, units_status}
+use Rattle.mxf_lines.specs.UnitPlanLines.{asked_of, told_units, unit_plan_lines, unit_plan_status}
 use Rattle.mxf_lines.specs.VerificationLines.{verification_lines, verification_status}
 
--- Edit units of a reference: those from one up to another of an index, by what is at hand beside the reference.
+-- Edit units of a reference: those from one up to another of an index, by what is at hand beside the reference, and
+-- whether it is told which timecodes they show.
 pub record AskedUnits : Type 0 where
   pub index_sid : ℕ
   pub from : ℕ
   pub to : ℕ
   pub at : AtHandParts
+  pub timed : Bool
 
 -- A question that is asked of a content, with all else that it is asked of.
 pub data Question : Type 0 where
@@ -35,6 +43,8 @@ pub data Question : Type 0 where
   Answer : Ask → List PieceReport → AtHandParts → Question
   -- A map in a number of columns and rows, and whether the ranges that stand alike are told.
   Map : ℕ → ℕ → Bool → AtHandParts → Question
+  -- Where the units of a range lie, by the index of an IndexSID, and whether it is told which timecodes they show.
+  Units : ℕ → UnitRange → Bool → AtHandParts → Question
   -- What is to be restored for the units of a range, by the index of an IndexSID.
   UnitPlan : ℕ → UnitRange → AtHandParts → Question
   -- What sources verify of the content: all of it or some of its units, and whether all is to be verified.
@@ -49,14 +59,30 @@ pub record Printed : Type 0 where
   pub lines : List PrintedLine
   pub status : Option ℕ
 
+-- The clocks of a content, if timecodes are told.
+abbrev pub clocks_told : Bool → List NoteParts → Option ClocksParts
+clocks_told timed content =
+    if timed then Some (clocks_of content (tracks_from_resolved content (resolved_of content))) else None
+
+-- The units of a content that are asked for.
+abbrev pub units_told : AskedUnits → List NoteParts → UnitsParts
+units_told asked content = record {
+  known = record { notes = content; at = asked.at };
+  index_sid = asked.index_sid;
+}
+
+-- The timecodes that are told of them.
+abbrev pub AreTimes : Option AskedUnits → List NoteParts → Option TimedParts → Type 0
+AreTimes None content shown = shown ≡ None
+AreTimes (Some asked) content shown =
+    AreToldTimes (units_told asked content) asked.from (asked.to + 1 - asked.from) (clocks_told asked.timed content) shown
+
 -- What is told of the units that are asked for, by the verification of a reference with this content.
 abbrev pub AreTold : Option AskedUnits → List NoteParts → VerificationParts → Option VerifiedUnitsParts → Type 0
 AreTold None content v told = told ≡ None
 AreTold (Some asked) content v None = ⊥
 AreTold (Some asked) content v (Some units) =
-    AreVerifiedUnits v.verified v.altered
-    (record { known = record { notes = content; at = asked.at }; index_sid = asked.index_sid }) asked.from asked.to
-    units
+    AreVerifiedUnits v.verified v.altered (units_told asked content) asked.from asked.to units
 
 -- This is printed of the content for the question.
 abbrev pub IsPrinted : Question → List NoteParts → Printed → Type 0
@@ -67,13 +93,19 @@ IsPrinted (Map columns rows with_extents at) content printed =
     (m : MapParts) × (extents : List MapExtent) × IsMap (record { notes = content; at = at }) (columns * rows) m
     × AreToldExtents (record { notes = content; at = at }) m.end with_extents extents
     × (printed.lines ≡ map_lines columns m extents) × (printed.status ≡ None)
+IsPrinted (Units index range timed at) content printed =
+    (shown : Option TimedParts)
+    × AreToldTimes (asked_of index range at content).units range.first range.count (clocks_told timed content) shown
+    × (printed.lines ≡ unit_lines shown range.first (told_units (asked_of index range at content)))
+    × (printed.status ≡ Some (units_status (told_units (asked_of index range at content))))
 IsPrinted (UnitPlan index range at) content printed =
     (p : UnitPlanParts) × IsUnitPlan (asked_of index range at content) p
     × (printed.lines ≡ unit_plan_lines (asked_of index range at content) p)
     × (printed.status ≡ Some (unit_plan_status (asked_of index range at content) p))
 IsPrinted (Verification sources reports asked is_whole) content printed =
-    (v : VerificationParts) × (told : Option VerifiedUnitsParts) × IsVerification content sources v
-    × AreTold asked content v told × (printed.lines ≡ verification_lines reports v told)
+    (v : VerificationParts) × (told : Option VerifiedUnitsParts) × (shown : Option TimedParts)
+    × IsVerification content sources v × AreTold asked content v told × AreTimes asked content shown
+    × (printed.lines ≡ verification_lines reports v told shown)
     × (printed.status ≡ Some (verification_status reports v told is_whole))
 IsPrinted (Sources before after names) content printed =
     (printed.lines ≡ sources_lines (before ++ content ∷ after) names)

@@ -1,9 +1,13 @@
 -- The lines of edit units (this project's profile; the fields of an entry are those of ST 377-1, Index Table Segment).
-use Rattle.std.specs.Prelude.{ℕ, ℤ, ◌+◌, ◌-◌, ◌==◌, if◌then◌else◌, Bool, true, false, List, [], ◌∷◌, ◌++◌, Option, None}
-use Rattle.std.specs.Prelude.{Some, codes, count_by, flat_map, length}
+use Rattle.std.specs.Prelude.{◌≡◌, ℕ, ℤ, ◌+◌, ◌-◌, ◌==◌, if◌then◌else◌, Bool, true, false, List, [], ◌∷◌, ◌++◌, Option}
+use Rattle.std.specs.Prelude.{None, Some, codes, count_by, filter, flat_map, length}
 use Rattle.std.specs.Fmt.{signed_decimal}
 use Rattle.std.specs.Option.{option_and_then, option_map}
+use Rattle.mxf_clocks.specs.Clocks.{ClocksParts}
+use Rattle.mxf_tracks.specs.Digits.{timecode_text}
+use Rattle.mxf_timed.specs.Shown.{AreTimed, TimedParts, timecode_shown}
 use Rattle.mxf_units.specs.Ranges.{needed_from}
+use Rattle.mxf_units.specs.Units.{UnitsParts}
 use Rattle.mxf_units.specs.Words.{unit_standing_name}
 use Rattle.mxf_units.specs.declared.standing.UnitStanding.{UnitStanding}
 use Rattle.mxf_units.specs.declared.standing.UnitStanding.TheVariants as standings
@@ -11,6 +15,7 @@ use Rattle.mxf_units.specs.declared.unit.EditUnit.{EditUnit}
 use Rattle.mxf_units.specs.declared.unit.Extent.{Extent}
 use Rattle.mxf_forms.specs.Forms.{Absent, Characters, Field, PrintedLine, Value, digits_or, field, known, known_member}
 use Rattle.mxf_forms.specs.Forms.{line, number, word}
+use Rattle.mxf_lines.specs.DescriptionLines.{word_if}
 use Rattle.mxf_forms.specs.Hexadecimal.{hex_of}
 
 -- How far away the unit is stored that is shown in the place of this one, or a dash.
@@ -38,12 +43,18 @@ entry_fields u =
 abbrev pub extent_length : Option Extent → Option ℕ
 extent_length extent = option_and_then (λ e. option_map (λ end. end - e.start) e.end) extent
 
--- The line of a unit: its number, how its bytes stand, from where up to where they lie, what its entry says, and in
--- JSON how many bytes it has.
-unfoldable pub unit_line : EditUnit → PrintedLine
-unit_line u =
+-- The timecode that a unit shows, if timecodes are told; a dash where it shows none.
+abbrev pub shown_fields : Option TimedParts → ℕ → List Field
+shown_fields None unit = []
+shown_fields (Some t) unit = word_if " at " "at" timecode_text (timecode_shown t unit) ∷ []
+
+-- The line of a unit: its number, how its bytes stand, from where up to where they lie, what its entry says, which
+-- timecode it shows, and in JSON how many bytes it has.
+unfoldable pub unit_line : Option TimedParts → EditUnit → PrintedLine
+unit_line shown u =
     line "unit" (number " " "unit" u.number ∷ word " " "standing" (unit_standing_name u.standing)
-    ∷ (extent_fields u.extent ++ (entry_fields u ++ known_member "length" (extent_length u.extent) ∷ [])))
+    ∷ (extent_fields u.extent
+    ++ (entry_fields u ++ (shown_fields shown u.number ++ known_member "length" (extent_length u.extent) ∷ []))))
 
 -- All bytes of the unit are held.
 abbrev pub is_held : UnitStanding → Bool
@@ -74,8 +85,16 @@ abbrev pub last_line : ℕ → List EditUnit → PrintedLine
 last_line first units = units_line (length units) (held_count units) (hand_count units) (needed_from first units)
 
 -- The lines of units, the first of which has this number.
-abbrev pub unit_lines : ℕ → List EditUnit → List PrintedLine
-unit_lines first units = flat_map (λ u. unit_line u ∷ []) units ++ last_line first units ∷ []
+abbrev pub unit_lines : Option TimedParts → ℕ → List EditUnit → List PrintedLine
+unit_lines shown first units = flat_map (λ u. unit_line shown u ∷ []) units ++ last_line first units ∷ []
+
+-- Timecodes are told exactly if there are clocks: those that so many units from a first one on show, by the clock of
+-- their index.
+abbrev pub AreToldTimes : UnitsParts → ℕ → ℕ → Option ClocksParts → Option TimedParts → Type 0
+AreToldTimes u first count None shown = shown ≡ None
+AreToldTimes u first count (Some clocks) None = ⊥
+AreToldTimes u first count (Some clocks) (Some t) =
+    AreTimed u (filter (λ r. r.index_sid == u.index_sid) clocks.runs) first count t
 
 -- 0 if each unit is held or at hand, otherwise 1.
 abbrev pub units_status : List EditUnit → ℕ

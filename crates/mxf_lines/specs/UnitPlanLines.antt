@@ -60,6 +60,12 @@ unit_plan_lines w p =
     ++ (planned_line (length p.orders) (sum_by ordered_bytes p.orders) (count_by (λ o. is_none o.end) p.orders) p.end
     ∷ last_line w.first (told_units w) ∷ []))
 
+-- The lines of a plan that orders header metadata alone: of each order, and of all.
+abbrev pub order_lines : UnitPlanParts → List PrintedLine
+order_lines p =
+    flat_map (λ o. restore_line o ∷ []) p.orders
+    ++ planned_line (length p.orders) (sum_by ordered_bytes p.orders) (count_by (λ o. is_none o.end) p.orders) p.end ∷ []
+
 -- 0 if there is nothing to restore, no disputes are told, and each unit that is asked for is held or at hand, otherwise
 -- 1.
 abbrev pub unit_plan_status : WantedParts → UnitPlanParts → ℕ

@@ -9,6 +9,8 @@ use Rattle.mxf_klv.specs.declared.piece.Stop.{Stop}
 use Rattle.mxf_klv.specs.declared.piece.Stop.TheVariants.{End, Truncated}
 use Rattle.mxf_catalogue.specs.declared.run.Run.{Run}
 use Rattle.mxf_read.specs.declared.gathering.report.PieceReport.{PieceReport}
+use Rattle.mxf_tracks.specs.Digits.{timecode_text}
+use Rattle.mxf_timed.specs.Shown.{TimedParts, timecodes_shown}
 use Rattle.mxf_verify.specs.Fixities.{VerifiedUnitsParts, fixity_name, is_verified, units_in}
 use Rattle.mxf_verify.specs.TouchedUnits.{units_touched}
 use Rattle.mxf_verify.specs.Verifications.{DifferingParts, VerificationParts, counts_of}
@@ -16,6 +18,7 @@ use Rattle.mxf_verify.specs.declared.verification.VerifiedCounts.{VerifiedCounts
 use Rattle.mxf_verify.specs.declared.verified_units.UnitRun.{UnitRun}
 use Rattle.mxf_verify.specs.declared.unit_places.UnitSpan.{UnitSpan}
 use Rattle.mxf_lines.specs.Answering.{stop_lines}
+use Rattle.mxf_lines.specs.DescriptionLines.{word_if}
 use Rattle.mxf_forms.specs.Forms.{Field, PrintedLine, known, line, line_of, number, word}
 use Rattle.mxf_lines.specs.Lines.{note_fields}
 
@@ -47,11 +50,19 @@ cut_line n = line "cut" (note_fields n)
 unfoldable pub range_line : List ℕ → Run → PrintedLine
 range_line name r = line_of name name (number " " "start" r.start ∷ number " " "end" r.end ∷ []) []
 
--- The line of units that stand alike: the first, the last, and how they stand.
-unfoldable pub unit_run_line : UnitRun → PrintedLine
-unit_run_line r =
+-- The timecodes of the least and the greatest position that units from one up to another show, if timecodes are told.
+abbrev pub ends_fields : Option TimedParts → ℕ → ℕ → List Field
+ends_fields None first last = []
+ends_fields (Some t) first last =
+    word_if " at " "first-at" timecode_text (timecodes_shown t first last).first
+    ∷ word_if " " "last-at" timecode_text (timecodes_shown t first last).last ∷ []
+
+-- The line of units that stand alike: the first, the last, how they stand, and between which timecodes lies what they
+-- show.
+unfoldable pub unit_run_line : Option TimedParts → UnitRun → PrintedLine
+unit_run_line shown r =
     line "units" (number " " "first" r.first ∷ number " " "last" r.last
-    ∷ word " " "standing" (fixity_name r.fixity) ∷ [])
+    ∷ word " " "standing" (fixity_name r.fixity) ∷ ends_fields shown r.first r.last)
 
 -- How many of the units are verified.
 abbrev pub verified_in : VerifiedUnitsParts → ℕ
@@ -98,14 +109,15 @@ runs_of (Some units) = units.runs
 -- The lines of a verification by a reference whose pieces have these reports, and of the units that are asked for: of
 -- each piece that doesn't end with a packet, each note that differs, each that wasn't compared, each range that the
 -- reference says nothing of, each of its ranges that wasn't verified, units that stand alike, and the last.
-abbrev pub verification_lines : List PieceReport → VerificationParts → Option VerifiedUnitsParts → List PrintedLine
-verification_lines reports v units =
+abbrev pub verification_lines : List PieceReport → VerificationParts → Option VerifiedUnitsParts → Option TimedParts
+    → List PrintedLine
+verification_lines reports v units shown =
     flat_map stop_lines reports
     ++ (differing_lines units v.differing
     ++ (cut_lines v.cut
     ++ (range_lines (codes "unknown") v.unknown
     ++ (range_lines (codes "unverified") v.unverified
-    ++ (flat_map (λ r. unit_run_line r ∷ []) (runs_of units)
+    ++ (flat_map (λ r. unit_run_line shown r ∷ []) (runs_of units)
     ++ verified_line (counts_of v) units ∷ [])))))
 
 -- A piece that stops so was noted up to its end: it ends with a packet, or with one that is cut.

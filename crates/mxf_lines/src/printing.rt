@@ -3,10 +3,9 @@ ghost use Rattle.std.specs.Prelude.{◌≡◌, ◌↔◌, IfOk, Err};
 ghost use Rattle.mxf_klv.specs.Written.{Puts, Writes};
 ghost use Rattle.mxf_restore.specs.Disputes.{disputes_of};
 ghost use Rattle.mxf_restore.specs.Plan.{plan_of};
-ghost use Rattle.mxf_lines.specs.Answering.{Answers, IsBadAsk, answer_lines, answer_status, asked_units, plan_status};
+ghost use Rattle.mxf_lines.specs.Answering.{Answers, IsBadAsk, answer_lines, answer_status, plan_status};
 ghost use Rattle.mxf_lines.specs.PlanLines.{plan_lines};
 ghost use Rattle.mxf_lines.specs.Printing.{Prints};
-ghost use Rattle.mxf_lines.specs.UnitLines.{unit_lines, units_status};
 ghost use Rattle.mxf_lines.specs.declared.printing.AnswerFault.TheVariants as faults;
 
 mod check;
@@ -37,7 +36,6 @@ use mxf_klv::{OutOfMemory, WriteFault};
 use mxf_places::AtHand;
 use mxf_read::Gathered;
 use mxf_restore::{Disputes, Plan};
-use mxf_units::{UnitRange, Units};
 use mxf_views::{Place, Views};
 use plan::PlanWithDisputes;
 pub use renewal::print_renewed;
@@ -45,8 +43,8 @@ pub use sources::print_sources;
 use std::alloc::Global;
 use std::io::Write;
 use thiserror::Error;
-pub use unit_plan::{print_unit_plan, told_disputes_by_definition};
-use units::print_units;
+pub use unit_plan::{print_metadata_plan, print_unit_plan, told_disputes_by_definition};
+pub use units::{print_edit_units, timecodes_shown};
 pub use verification::{
     Verified, print_verification, verified_status_by_definition, whole_status_by_packets,
 };
@@ -75,8 +73,7 @@ impl From<OutOfMemory> for AnswerFault {
 
 /// Prints the lines that are asked for, in a form. The answer is 1 if a check finds something, or a piece doesn't end
 /// with a packet, if an edit unit has no place or more than one, if a plan finds something to restore or a packet is
-/// disputed, if not all bytes of the units are held or at hand, or if a description isn't of a finished copy or lacks
-/// something; otherwise it is 0. Only a plan and units depend on
+/// disputed, or if a description isn't of a finished copy or lacks something; otherwise it is 0. Only a plan depends on
 /// what is at hand.
 ///
 /// The unit is tested first: above 9,223,372,036,854,775,807 it is a `BadUnit`. Out of memory, some whole lines
@@ -130,9 +127,6 @@ fn print_asked<W: Write>(
             print_with_status(printer, writer, line, 0)
         }
         Ask::Plan => print_plan(printer, writer, &gathered.views, at_hand),
-        Ask::Units { index, range } => {
-            print_range(printer, writer, &gathered.views, at_hand, index, range)
-        }
     }
 }
 
@@ -157,22 +151,4 @@ fn print_plan<W: Write>(
         disputes,
     };
     print_with_status(printer, writer, lines, status)
-}
-
-/// Prints the units of a range, by the index of an IndexSID.
-fn print_range<W: Write>(
-    printer: &mut Printer,
-    writer: &mut W,
-    views: &Views,
-    at_hand: &AtHand,
-    index: u32,
-    range: UnitRange,
-) -> Result<u8, AnswerFault>
-    ensures lines { Prints printer.old.fields.form
-        (Puts W.contents writer.old writer.new printer.old.progress printer.new.progress)
-        result (unit_lines range.first (asked_units index range at_hand.now views.now)) }
-    ensures status { IfOk result (λ status. status ≡ units_status (asked_units index range at_hand.now views.now)) }
-{
-    let units = Units::of(printer.alloc(), views, at_hand, index)?;
-    print_units(printer, writer, &units, range)
 }

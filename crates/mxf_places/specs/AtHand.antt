@@ -31,10 +31,6 @@ pub record KnownParts : Type 0 where
 abbrev pub nothing_at_hand : AtHandParts
 nothing_at_hand = record { given = []; hand = [] }
 
--- The same if nothing is at hand.
-abbrev pub without_hand : List NoteParts → KnownParts
-without_hand notes = record { notes = notes; at = nothing_at_hand }
-
 -- The offset lies between a start and an end, or is no less than the start if there is no end.
 abbrev pub LiesBetween : ℕ → Option ℕ → ℕ → Type 0
 LiesBetween start end x = (start ≤ x) × ((end ≡ None) ⊎ ((e : ℕ) × (end ≡ Some e) × (x < e)))

@@ -1,5 +1,6 @@
 //! The run of the program: its arguments, its files, its lines, and its exit status.
 mod beside;
+mod edit_units;
 mod finding;
 mod renewing;
 mod verifying;
@@ -8,27 +9,30 @@ use crate::answered::exit_of_answer;
 use beside::print_beside;
 use clap::ArgMatches;
 use clap::error::ErrorKind;
+use edit_units::{print_unit_plan, print_units};
 use finding::print_found_in;
-use mxf_asked::{Ask, AskedUnits, BadLastUnit, Grid, Hints, Request, Saving, Task, Told};
-use mxf_commands::{command, hints_of, request_of, signed_number, units_of, unreadable_argument};
+use mxf_asked::{Ask, Grid, Hints, Request, Saving, Task, Told};
+use mxf_clocks::Clocks;
+use mxf_commands::{
+    UnitRefusal, command, hints_of, request_of, signed_number, units_of, unreadable_argument,
+};
 use mxf_forms::Form;
 use mxf_hints::{
-    Exit, RefusalHint, RunFault, Telling, only_index, range_of, tell, tell_index, tell_on_screen,
-    tell_stops, tell_together, tell_unsettled,
+    Exit, RefusalHint, RunFault, Telling, tell, tell_on_screen, tell_stops, tell_together,
 };
 use mxf_lines::{
-    AnswerFault, Searched, Verified, answer, print_found, print_map, print_renewed, print_sources,
-    print_unit_plan, print_verification,
+    AnswerFault, Searched, Verified, answer, print_edit_units, print_found, print_map,
+    print_metadata_plan, print_renewed, print_sources, print_verification,
 };
+use mxf_partial::UnitPlan;
 use mxf_read::{Gathered, PieceReport};
 use mxf_readings::Readings;
 use mxf_saving::{
     BUFFER_BYTES, LastFault, Reservation, SaveFault, Source, SystemFault, WatchedWriter, refusal_of,
 };
 use mxf_sources::{HeldBySources, Lists, System, hold_sources, read_lists, settled, sources_of};
-use mxf_units::UnitRange;
+use mxf_units::{UnitRange, Units};
 use mxf_verify::Renewed;
-use mxf_views::Views;
 use mxf_watching::Screen;
 use renewing::print_renewal;
 use std::alloc::Global;
@@ -84,7 +88,10 @@ fn matched<R: System>(rt: &R, screen: Screen, matches: &ArgMatches<'_>) -> Exit 
     }
     let units = match units_of(inner) {
         Ok(units) => units,
-        Err(BadLastUnit(text)) => return tell(rt, telling, &RunFault::BadLastUnit { text }),
+        Err(UnitRefusal::Word { option, text }) => {
+            return tell(rt, telling, &RunFault::BadUnitWord { option, text });
+        }
+        Err(UnitRefusal::Last(text)) => return tell(rt, telling, &RunFault::BadLastUnit { text }),
     };
     match request_of(name, inner, units) {
         Some(request) => perform(rt, telling, &request),
@@ -198,7 +205,7 @@ fn perform_on<'a, R: System>(
 fn print_told<'a, R: System>(
     rt: &R,
     inputs: Inputs<'_, 'a>,
-    asked: Told,
+    asked: Told<'a>,
 ) -> Result<Exit, RunFault<'a>> {
     let held = hold_sources(rt, inputs.telling.screen, inputs.sources)?;
     let held = match asked {
@@ -212,63 +219,23 @@ fn print_told<'a, R: System>(
 fn print_held<'a, R: System>(
     rt: &R,
     inputs: Inputs<'_, 'a>,
-    asked: Told,
+    asked: Told<'a>,
     held: &HeldBySources,
 ) -> Result<Exit, RunFault<'a>> {
-    let printed = match asked {
-        Told::Answer(ask) => Printed::Answer(ask, held),
-        Told::Map { grid, with_extents } => Printed::Map {
-            grid,
-            with_extents,
-            held,
-        },
-        Told::Units { index, units } => {
-            let ask = ask_of_units(rt, &held.gathered.views, index, units)?;
-            Printed::Answer(ask, held)
+    let exit = match asked {
+        Told::Answer(ask) => print_answer(rt, Printed::Answer(ask, held), inputs.form)?,
+        Told::Map { grid, with_extents } => {
+            let map = Printed::Map {
+                grid,
+                with_extents,
+                held,
+            };
+            print_answer(rt, map, inputs.form)?
         }
-        Told::UnitPlan(asked) => {
-            let index = asked.index;
-            tell_index(rt, &held.gathered.views, index)?;
-            let range = range_of(&held.gathered.views, index, asked.units)?;
-            Printed::UnitPlan { index, range, held }
-        }
+        Told::Units(asked) => print_units(rt, inputs, asked, held)?,
+        Told::UnitPlan(asked) => print_unit_plan(rt, inputs, asked, held)?,
     };
-    let exit = print_answer(rt, printed, inputs.form)?;
-    if let (Told::UnitPlan(_), Exit::Found) = (asked, exit) {
-        told_unsettled(rt, inputs, &held.gathered.views)?;
-    }
     told_held(rt, inputs, held, false, exit)
-}
-
-/// If hints are told, it tells that units aren't there while packets of the only source are disputed.
-fn told_unsettled<'a, R: System>(
-    rt: &R,
-    inputs: Inputs<'_, 'a>,
-    views: &Views,
-) -> Result<(), RunFault<'a>> {
-    let is_one = inputs.sources.len() == 1;
-    if inputs.telling.has_hints && is_one && tell_unsettled(rt, views).is_err() {
-        return Err(RunFault::OutOfMemory);
-    }
-    Ok(())
-}
-
-/// What asks where edit units lie, by the index of an IndexSID, or by the only one that is held.
-fn ask_of_units<'a, R: Eprint + AllocGlobal>(
-    rt: &R,
-    views: &Views,
-    index: Option<u32>,
-    units: AskedUnits,
-) -> Result<Ask, RunFault<'a>> {
-    let index = match index {
-        Some(index) => {
-            tell_index(rt, views, index)?;
-            index
-        }
-        None => only_index(rt.alloc(), views)?,
-    };
-    let range = range_of(views, index, units)?;
-    Ok(Ask::Units { index, range })
 }
 
 /// Writes the catalogue of what the sources hold together, and prints how many notes it has.
@@ -381,7 +348,7 @@ fn told<'a, R: System>(
 
 /// What is printed on standard output.
 #[derive(Clone, Copy)]
-enum Printed<'g, 'n> {
+enum Printed<'g, 'n, 'c> {
     Answer(Ask, &'g HeldBySources),
     /// A map, and the ranges of its bytes if they are asked for.
     Map {
@@ -389,18 +356,25 @@ enum Printed<'g, 'n> {
         with_extents: bool,
         held: &'g HeldBySources,
     },
-    /// What to restore for edit units, by the index of an IndexSID.
-    UnitPlan {
-        index: u32,
+    /// Where edit units lie, and which timecodes they show if there are clocks.
+    Units {
+        units: &'g Units<'n>,
         range: UnitRange,
-        held: &'g HeldBySources,
+        clocks: &'g Option<Clocks>,
     },
+    /// What to restore for edit units.
+    UnitPlan {
+        units: &'g Units<'n>,
+        range: UnitRange,
+    },
+    /// What to restore of header metadata.
+    MetadataPlan(&'g UnitPlan),
     /// A renewal, and whether it was saved.
     Renewed(&'g Renewed<'n>, bool),
     /// What sources hold, each by itself, and the words that name them.
     Beside(&'g Readings<'n>, &'g [String]),
     /// How sources stand to a reference.
-    Verified(&'g Verified<'g, 'n>),
+    Verified(&'g Verified<'g, 'n, 'c>),
     /// In which recordings fragments lie, and the words that name the recordings.
     Found(&'g [Searched], &'g [String]),
 }
@@ -408,7 +382,7 @@ enum Printed<'g, 'n> {
 /// Prints lines in a form, and answers their status.
 fn print_lines<W: Write>(
     alloc: Global,
-    printed: Printed<'_, '_>,
+    printed: Printed<'_, '_, '_>,
     form: Form,
     writer: &mut W,
 ) -> Result<u8, AnswerFault> {
@@ -430,14 +404,15 @@ fn print_lines<W: Write>(
             print_map(alloc, views, at_hand, grid, with_extents, form, writer)?;
             Ok(0)
         }
-        Printed::UnitPlan { index, range, held } => {
-            let HeldBySources {
-                gathered,
-                at_hand,
-                ..
-            } = held;
-            print_unit_plan(alloc, &gathered.views, at_hand, index, range, form, writer)
+        Printed::Units {
+            units,
+            range,
+            clocks,
+        } => print_edit_units(alloc, units, range, clocks, form, writer),
+        Printed::UnitPlan { units, range } => {
+            mxf_lines::print_unit_plan(alloc, units, range, form, writer)
         }
+        Printed::MetadataPlan(plan) => print_metadata_plan(alloc, plan, form, writer),
         Printed::Renewed(renewed, is_saved) => {
             print_renewed(alloc, renewed, is_saved, form, writer)?;
             Ok(u8::from(!is_saved))
@@ -451,7 +426,7 @@ fn print_lines<W: Write>(
 /// Prints lines on standard output.
 fn print_answer<'a, R: System>(
     rt: &R,
-    printed: Printed<'_, '_>,
+    printed: Printed<'_, '_, '_>,
     form: Form,
 ) -> Result<Exit, RunFault<'a>> {
     let last = LastFault::new();

@@ -1,6 +1,8 @@
 //! The subcommands that look at sources beside others: `sources`, `verify` and `find`.
-use super::options::{besides, flag, named, number, option, with_args, with_sources, with_units};
-use clap::{Arg, Command, value_parser};
+use super::options::{
+    besides, flag, index_of_units, named, option, timecode, with_args, with_sources, with_units,
+};
+use clap::{Arg, ArgGroup, Command};
 use std::alloc::{AllocError, Global};
 
 /// What the help of `sources` ends with.
@@ -20,15 +22,17 @@ and those of a catalogue among them are set beside them.
 
 Lines:
   stop OFFSET STOP  a piece of --against doesn't end with a packet
-  differs I OFFSET KIND WIDTH LENGTH KEY  source I has another packet there; with --index then the edit units, or - -
+  differs I OFFSET KIND WIDTH LENGTH KEY  source I has another packet there; then the edit units that are asked for, or - -
   cut OFFSET KIND WIDTH LENGTH KEY  no source has all bytes of this packet, so it wasn't compared
   unknown START END     the reference says nothing of these bytes
   unverified START END  these bytes of the reference weren't compared
   units FIRST LAST WORD  verified, differs, part, unverified, or as units says why it isn't known where they lie
-  verified N of M packets B of T bytes differs D cut C unknown U  the sum, with --index then the units
+  verified N of M packets B of T bytes differs D cut C unknown U  the sum, then the units that are asked for
 
 Status 0 says that a packet is the same, none differs, and each piece of --against ends with a packet or with one that is
-cut; with --whole also that all of the reference is there and no other byte, or with --index all of these units.";
+cut; with --whole also that all of the reference is there and no other byte, or all of the units that are asked for.
+
+Units are asked for by --index, --from and --to, as of units; with timecodes, at TIMECODE TIMECODE ends the lines units.";
     "SRC or SOURCE", "of --against it", "join or renew",
     "Example: mxf_tool verify --against cat:clip.cat --whole at:0:clip.mxf"
 );
@@ -59,8 +63,9 @@ pub fn beside<'a>(alloc: Global) -> Result<Command<'a>, AllocError> {
 pub fn verify<'a>(alloc: Global) -> Result<Command<'a>, AllocError> {
     let about = "Prints whether the sources are as a reference says, packet by packet";
     let verify = named(alloc, "verify", about, VERIFY_HELP).arg(whole(alloc))?;
-    let verify = with_args(verify, against(alloc), units_index(alloc))?;
-    with_sources(alloc, with_units(alloc, verify)?)
+    let verify = with_args(verify, against(alloc), index_of_units(alloc))?;
+    let verify = with_units(alloc, verify)?.arg(timecode(alloc).requires_arg("units")?)?;
+    with_sources(alloc, verify.group(units_asked(alloc)?)?)
 }
 
 /// The subcommand that looks for fragments in recordings.
@@ -81,9 +86,9 @@ fn against<'a>(alloc: Global) -> Arg<'a> {
     besides(alloc, "against", help).required(true)
 }
 
-fn units_index<'a>(alloc: Global) -> Arg<'a> {
-    let help = "The IndexSID of the index table whose edit units are asked for";
-    number(alloc, "index", value_parser!(u32), help)
+fn units_asked<'a>(alloc: Global) -> Result<ArgGroup<'a>, AllocError> {
+    let asking = ArgGroup::new(alloc, "units").multiple(true);
+    asking.arg("index")?.arg("from")?.arg("to")
 }
 
 fn within<'a>(alloc: Global) -> Result<Arg<'a>, AllocError> {

@@ -1,5 +1,7 @@
 //! The subcommands that print where edit units lie: `locate` and `units`.
-use super::options::{edit_unit, from, named, number, to, with_args, with_sources};
+use super::options::{
+    index_of_units, named, number, timecode, with_args, with_sources, with_units,
+};
 use clap::{Arg, Command, value_parser};
 use std::alloc::{AllocError, Global};
 
@@ -21,7 +23,12 @@ const UNITS_HELP: &str = source_help!(
     "Without --from the first is unit 0, without --to the last is that of the index: the last to which a segment that is held
 gives a place. An index of units of one size has none if a segment states the duration 0.
 
-Example: mxf_tool units --from 250 --to 274 cat:clip.cat"
+A timecode is HH:MM:SS:FF as describe prints it in lines clock; with ';' before FF, in quotes, it is one of drop frame
+alone. All that is shown from the one of --from up to the one of --to lies in the units that are printed, and at TIMECODE
+ends the line of each: that of the picture stored in it.
+
+Examples: mxf_tool units --from 250 --to 274 cat:clip.cat
+          mxf_tool units --from 10:00:10:00 --to 10:00:10:24 cat:clip.cat"
 );
 
 /// The subcommand that prints where an edit unit begins in its stream.
@@ -34,8 +41,9 @@ pub fn locate<'a>(alloc: Global) -> Result<Command<'a>, AllocError> {
 /// The subcommand that prints where edit units lie in the file.
 pub fn units<'a>(alloc: Global) -> Result<Command<'a>, AllocError> {
     let about = "Prints where edit units lie in the file, and which of them are held";
-    let units = named(alloc, "units", about, UNITS_HELP).arg(only_index(alloc))?;
-    with_sources(alloc, with_args(units, from(alloc), to(alloc))?)
+    let units = named(alloc, "units", about, UNITS_HELP);
+    let units = with_args(units, index_of_units(alloc), timecode(alloc))?;
+    with_sources(alloc, with_units(alloc, units)?)
 }
 
 fn index<'a>(alloc: Global) -> Arg<'a> {
@@ -43,11 +51,7 @@ fn index<'a>(alloc: Global) -> Arg<'a> {
     number(alloc, "index", value_parser!(u32), help).required(true)
 }
 
-fn only_index<'a>(alloc: Global) -> Arg<'a> {
-    let help = "The IndexSID of the index table; may be left out if only one is held";
-    number(alloc, "index", value_parser!(u32), help)
-}
-
 fn unit<'a>(alloc: Global) -> Arg<'a> {
-    edit_unit(alloc, "unit", "The edit unit, counted from 0").required(true)
+    let parser = value_parser!(u64).range(0..=i64::MAX);
+    number(alloc, "unit", parser, "The edit unit, counted from 0").required(true)
 }

@@ -14,12 +14,6 @@ pub fn with_sources<'a>(alloc: Global, command: Command<'a>) -> Result<Command<'
     with_args(command?, json(alloc), when_hinted(alloc))
 }
 
-/// The command with the first and the last edit unit of the index that it names.
-pub fn with_units<'a>(alloc: Global, command: Command<'a>) -> Result<Command<'a>, AllocError> {
-    let from = from(alloc).requires_arg("index")?;
-    with_args(command, from, to(alloc).requires_arg("index")?)
-}
-
 /// The command with two arguments more.
 pub fn with_args<'a>(
     command: Command<'a>,
@@ -54,28 +48,37 @@ fn when_hinted<'a>(alloc: Global) -> Arg<'a> {
     option(alloc, "hints", "WHEN", help).value_parser(WHEN)
 }
 
-/// The option that names the first edit unit.
-pub fn from<'a>(alloc: Global) -> Arg<'a> {
-    edit_unit(
-        alloc,
-        "from",
-        "The first edit unit, counted from 0 as they are stored; 0 if it isn't given",
-    )
+/// The command with the first and the last edit unit that are asked for.
+pub fn with_units<'a>(alloc: Global, command: Command<'a>) -> Result<Command<'a>, AllocError> {
+    with_args(command, from(alloc), to(alloc))
 }
 
-/// The option that names the last edit unit.
-pub fn to<'a>(alloc: Global) -> Arg<'a> {
-    edit_unit(
-        alloc,
-        "to",
-        "The last edit unit, at most 999999 after the first; the last of the index if it isn't given",
-    )
+fn from<'a>(alloc: Global) -> Arg<'a> {
+    let help =
+        "The first edit unit, a number counted from 0 as they are stored, or a timecode; 0 if it isn't given";
+    option(alloc, "from", "N", help)
 }
 
-/// The option of that name that names an edit unit.
-pub fn edit_unit<'a>(alloc: Global, name: &'a str, help: &'a str) -> Arg<'a> {
-    let parser = value_parser!(u64).range(0..=i64::MAX);
-    number(alloc, name, parser, help)
+fn to<'a>(alloc: Global) -> Arg<'a> {
+    let help =
+        "The last edit unit, at most 999999 after the first, or a timecode; the last of the index if it isn't given";
+    option(alloc, "to", "N", help)
+}
+
+/// The option that names the index table whose edit units are asked for.
+pub fn index_of_units<'a>(alloc: Global) -> Arg<'a> {
+    let help =
+        "The IndexSID of the index table of the edit units; may be left out if only one is meant";
+    number(alloc, "index", value_parser!(u32), help)
+}
+
+/// The option that tells the timecodes of edit units.
+pub fn timecode<'a>(alloc: Global) -> Arg<'a> {
+    flag(
+        alloc,
+        "timecode",
+        "Prints the timecodes that the edit units show; meant if --from or --to is one",
+    )
 }
 
 /// The option of that name that names a source beside SRC, which may be given more than once.

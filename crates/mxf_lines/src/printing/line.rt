@@ -17,6 +17,7 @@ pub use clock::ClockLine;
 pub use copy::PreferredLine;
 pub use described::{
     DescribedLine, PackageContainerLine, PackageLine, PackagesLine, TargetLine, Within,
+    write_word_or,
 };
 pub use essence::{EssenceLine, PictureLine, SoundLine};
 pub use item::ItemLine;

@@ -7,7 +7,7 @@ ghost use Rattle.mxf_units.specs.Ranges.{units_with_keys};
 ghost use Rattle.mxf_partial.specs.Orders.{IsUnitPlan, UnitPlanParts};
 ghost use Rattle.mxf_partial.specs.Wanted.{WantedParts};
 ghost use Rattle.mxf_lines.specs.Printing.{Prints};
-ghost use Rattle.mxf_lines.specs.UnitPlanLines.{AreToldDisputes, asked_of, is_open, told_disputes, unit_plan_lines};
+ghost use Rattle.mxf_lines.specs.UnitPlanLines.{AreToldDisputes, is_open, order_lines, told_disputes, unit_plan_lines};
 ghost use Rattle.mxf_lines.specs.UnitPlanLines.{unit_plan_status, wanted_of};
 
 use super::AnswerFault;
@@ -16,37 +16,63 @@ use super::plan::PlannedLine;
 use super::units::UnitsLine;
 use mxf_forms::Form;
 use mxf_partial::UnitPlan;
-use mxf_places::AtHand;
 use mxf_restore::{Disputes, Order};
 use mxf_units::{EditUnit, UnitRange, UnitStanding, Units, UnitsLeft};
-use mxf_views::Views;
 use std::alloc::Global;
 use std::io::Write;
 
-/// Prints what to restore so that the edit units of a range can be cut out of the file and decoded, by the index of an
-/// IndexSID, in a form. The answer is 0 if nothing is to be restored and all bytes of each of these units are held or
+/// Prints what to restore so that the edit units of a range can be cut out of the file and decoded, in a form. The
+/// answer is 0 if nothing is to be restored and all bytes of each of these units are held or
 /// at hand, and of each before them that they need if a packet is disputed; otherwise 1.
 ///
 /// Out of memory, some whole lines have been written; after a write fault the first bytes, which it counts.
 pub fn print_unit_plan<W: Write>(
     alloc: Global,
-    views: &Views,
-    at_hand: &AtHand,
-    index: u32,
+    units: &Units<'_>,
     range: UnitRange,
     form: Form,
     writer: &mut W,
 ) -> Result<u8, AnswerFault>
-    ensures lines { (p : UnitPlanParts) → IsUnitPlan (asked_of index range at_hand.now views.now) p
+    ensures lines { (p : UnitPlanParts) → IsUnitPlan (wanted_of units.now range) p
         → Prints form (Writes (W.contents writer.old) (W.contents writer.new)) result
-        (unit_plan_lines (asked_of index range at_hand.now views.now) p) }
-    ensures some { IfOk result (λ _. (p : UnitPlanParts) × IsUnitPlan (asked_of index range at_hand.now views.now) p) }
-    ensures status { (p : UnitPlanParts) → IsUnitPlan (asked_of index range at_hand.now views.now) p
-        → IfOk result (λ status. status ≡ unit_plan_status (asked_of index range at_hand.now views.now) p) }
+        (unit_plan_lines (wanted_of units.now range) p) }
+    ensures some { IfOk result (λ _. (p : UnitPlanParts) × IsUnitPlan (wanted_of units.now range) p) }
+    ensures status { (p : UnitPlanParts) → IsUnitPlan (wanted_of units.now range) p
+        → IfOk result (λ status. status ≡ unit_plan_status (wanted_of units.now range) p) }
 {
-    let units = Units::of(alloc, views, at_hand, index)?;
-    let plan = UnitPlan::of(alloc, &units, range)?;
-    print_planned(alloc, &units, range, &plan, form, writer)
+    let plan = UnitPlan::of(alloc, units, range)?;
+    print_planned(alloc, units, range, &plan, form, writer)
+}
+
+/// Prints a plan that orders header metadata alone, in a form, and answers 1.
+pub fn print_metadata_plan<W: Write>(
+    alloc: Global,
+    plan: &UnitPlan,
+    form: Form,
+    writer: &mut W,
+) -> Result<u8, AnswerFault>
+    ensures lines { Prints form (Writes (W.contents writer.old) (W.contents writer.new)) result (order_lines plan.now) }
+    ensures status { IfOk result (λ status. status ≡ 1) }
+{
+    let mut printer = Printer::new(alloc, form);
+    print_orders(&mut printer, writer, plan)
+}
+
+/// Prints the orders of a plan, and how many there are, and answers 1.
+fn print_orders<W: Write>(
+    printer: &mut Printer,
+    writer: &mut W,
+    plan: &UnitPlan,
+) -> Result<u8, AnswerFault>
+    ensures lines { Prints printer.old.fields.form
+        (Puts W.contents writer.old writer.new printer.old.progress printer.new.progress)
+        result (order_lines plan.now) }
+    ensures status { IfOk result (λ status. status ≡ 1) }
+{
+    let orders = plan.orders();
+    let end = plan.end();
+    let lines = Then(Each(orders), PlannedLine { orders, end });
+    print_with_status(printer, writer, lines, 1)
 }
 
 /// Prints a plan for the units of a range, in a form.

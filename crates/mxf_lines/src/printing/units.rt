@@ -1,57 +1,146 @@
 //! Edit units of an index, and their lines.
 ghost use Rattle.std.specs.Prelude.{◌≡◌, ◌==◌, ◌+◌, ◌-◌, ◌<◌, ◌≤◌, ◌⊎◌, ◌∷◌, [], if◌then◌else◌, IfNone, IfOk, IfSome};
-ghost use Rattle.std.specs.Prelude.{codes};
+ghost use Rattle.std.specs.Prelude.{Option, codes};
 ghost use Rattle.std.specs.Option.{option_and_then, option_map};
-ghost use Rattle.mxf_klv.specs.Written.{Puts};
+ghost use Rattle.mxf_klv.specs.Written.{Puts, Writes};
 ghost use Rattle.mxf_units.specs.Ranges.{needed_from, units_from};
 ghost use Rattle.mxf_lines.specs.Printing.{Prints};
-ghost use Rattle.mxf_lines.specs.UnitLines.{entry_fields, extent_fields, extent_length, flags_value, hand_count};
-ghost use Rattle.mxf_lines.specs.UnitLines.{held_count, unit_line, unit_lines, units_line, units_status};
+ghost use Rattle.mxf_timed.specs.Shown.{TimedParts};
+ghost use Rattle.mxf_lines.specs.UnitLines.{AreToldTimes, entry_fields, extent_fields, extent_length, flags_value};
+ghost use Rattle.mxf_lines.specs.UnitLines.{hand_count, held_count, shown_fields, unit_line, unit_lines, units_line};
+ghost use Rattle.mxf_lines.specs.UnitLines.{units_status};
 ghost use Rattle.mxf_forms.specs.Forms.{field};
 ghost use Rattle.mxf_forms.specs.Writing.{with_field, with_fields};
 
 use super::AnswerFault;
+use super::line::write_word_or;
 use super::lines::{Line, Lines, Printer};
-use mxf_forms::{FieldWriter, HexDigits};
+use mxf_clocks::Clocks;
+use mxf_forms::{FieldWriter, Form, HexDigits};
+use mxf_klv::OutOfMemory;
+use mxf_timed::ShownTimecodes;
 use mxf_units::{EditUnit, Extent, UnitRange, UnitStanding, Units, UnitsLeft};
-use std::alloc::AllocError;
+use std::alloc::{AllocError, Global};
 use std::io::Write;
 
+/// Prints the edit units of a range in a form, with the timecode that each shows if there are clocks, and how many there
+/// are and how they stand. The answer is 0 if all bytes of each are held or at hand, otherwise 1.
+///
+/// Out of memory, some whole lines have been written; after a write fault the first bytes, which it counts.
+pub fn print_edit_units<W: Write>(
+    alloc: Global,
+    units: &Units<'_>,
+    range: UnitRange,
+    clocks: &Option<Clocks>,
+    form: Form,
+    writer: &mut W,
+) -> Result<u8, AnswerFault>
+    ensures lines { (shown : Option TimedParts)
+        → AreToldTimes units.now range.first range.count clocks.now shown
+        → Prints form (Writes (W.contents writer.old) (W.contents writer.new)) result
+        (unit_lines shown range.first (units_from units.now range.first range.count)) }
+    ensures some { IfOk result (λ _. (shown : Option TimedParts)
+        × AreToldTimes units.now range.first range.count clocks.now shown) }
+    ensures status { IfOk result (λ status. status ≡ units_status (units_from units.now range.first range.count)) }
+{
+    let shown = timecodes_shown(alloc, units, range, clocks)?;
+    print_shown(alloc, units, range, &shown, form, writer)
+}
+
+/// Prints the units of a range in a form, with the timecode that each shows, if that is told.
+fn print_shown<W: Write>(
+    alloc: Global,
+    units: &Units<'_>,
+    range: UnitRange,
+    shown: &Option<ShownTimecodes<'_>>,
+    form: Form,
+    writer: &mut W,
+) -> Result<u8, AnswerFault>
+    ensures lines { Prints form (Writes (W.contents writer.old) (W.contents writer.new)) result
+        (unit_lines shown.now range.first (units_from units.now range.first range.count)) }
+    ensures status { IfOk result (λ status. status ≡ units_status (units_from units.now range.first range.count)) }
+{
+    let mut printer = Printer::new(alloc, form);
+    print_units(&mut printer, writer, units, range, shown)
+}
+
+/// Which timecode each unit of a range shows, if there are clocks.
+pub fn timecodes_shown<'c>(
+    alloc: Global,
+    units: &Units<'_>,
+    range: UnitRange,
+    clocks: &'c Option<Clocks>,
+) -> Result<Option<ShownTimecodes<'c>>, OutOfMemory>
+    ensures { IfOk result (AreToldTimes units.now range.first range.count clocks.now) }
+{
+    match clocks {
+        Some(clocks) => {
+            let runs = clocks.of_index(units.index_sid());
+            Ok(Some(ShownTimecodes::of(alloc, units, runs, range)?))
+        }
+        None => Ok(None),
+    }
+}
+
 /// Prints the units of a range, and the last line; answers 0 if all bytes of each are held or at hand, otherwise 1.
-pub fn print_units<W: Write>(
+fn print_units<W: Write>(
     printer: &mut Printer,
     writer: &mut W,
     units: &Units<'_>,
     range: UnitRange,
+    shown: &Option<ShownTimecodes<'_>>,
 ) -> Result<u8, AnswerFault>
     ensures lines { Prints printer.old.fields.form
         (Puts W.contents writer.old writer.new printer.old.progress printer.new.progress)
-        result (unit_lines range.first (units_from units.now range.first range.count)) }
+        result (unit_lines shown.now range.first (units_from units.now range.first range.count)) }
     ensures status { IfOk result (λ status. status ≡ units_status (units_from units.now range.first range.count)) }
 {
     let mut last = UnitsLine::of_none(range);
     for unit in UnitsLeft::of(units, range) {
-        unit.print_to(printer, writer)?;
+        UnitLine { unit, shown }.print_to(printer, writer)?;
         last.add(&unit);
     }
     last.print_to(printer, writer)?;
     Ok(last.status())
 }
 
-/// A unit: its number, how its bytes stand, from where up to where they lie, in bytes, what its entry says, and how
-/// many bytes it has.
-impl Line for EditUnit {
-    ghost line = { unit_line };
+/// An edit unit, and which timecode each shows, if that is told.
+#[derive(Clone, Copy)]
+struct UnitLine<'s, 'c> {
+    unit: EditUnit,
+    shown: &'s Option<ShownTimecodes<'c>>,
+}
+
+/// A unit: its number, how its bytes stand, from where up to where they lie, in bytes, what its entry says, which
+/// timecode it shows, and how many bytes it has.
+impl<'s, 'c> Line for UnitLine<'s, 'c> {
+    ghost line = { λ l. unit_line l.shown.now l.unit };
 
     #[tactic(auto, unfolding(crate::specs::UnitLines::unit_line))]
     fn write_fields(&self, fields: &mut FieldWriter) -> Result<(), AllocError> {
+        let unit = self.unit;
         fields.begin("unit", "unit")?;
-        fields.number(" ", "unit", self.number)?;
-        fields.word(" ", "standing", self.standing)?;
-        write_extent(fields, self.extent)?;
-        write_entry(fields, self)?;
-        fields.known_member("length", length_of(self.extent))?;
+        fields.number(" ", "unit", unit.number)?;
+        fields.word(" ", "standing", unit.standing)?;
+        write_extent(fields, unit.extent)?;
+        write_entry(fields, &unit)?;
+        write_shown(fields, self.shown, unit.number)?;
+        fields.known_member("length", length_of(unit.extent))?;
         fields.end("")
+    }
+}
+
+/// Writes the timecode that a unit shows, if timecodes are told.
+fn write_shown(
+    fields: &mut FieldWriter,
+    shown: &Option<ShownTimecodes<'_>>,
+    unit: u64,
+) -> Result<(), AllocError>
+    ensures { IfOk result (λ _. fields.new ≡ with_fields (shown_fields shown.now unit) fields.old) }
+{
+    match shown {
+        Some(shown) => write_word_or(fields, " at ", "at", shown.by(unit)),
+        None => Ok(()),
     }
 }
 

@@ -14,7 +14,8 @@ ghost use Rattle.mxf_verify.specs.VerificationLaws.{IsWholeReference};
 ghost use Rattle.mxf_verify.specs.Verifications.{IsVerification, VerificationParts, differing_in};
 ghost use Rattle.mxf_verify.specs.Verifying.{Bytes, Source};
 ghost use Rattle.mxf_lines.specs.Printing.{Prints};
-ghost use Rattle.mxf_lines.specs.VerificationLines.{cut_line, cut_lines, differing_lines, differs_line, has_none};
+ghost use Rattle.mxf_lines.specs.VerificationLines.{cut_line, cut_lines, differing_lines, differs_line, ends_fields};
+ghost use Rattle.mxf_lines.specs.VerificationLines.{has_none};
 ghost use Rattle.mxf_lines.specs.VerificationLines.{is_all_verified, is_noted, lent_units, other_fields, range_line};
 ghost use Rattle.mxf_lines.specs.VerificationLines.{range_lines, runs_of, span_fields, touched_fields};
 ghost use Rattle.mxf_lines.specs.VerificationLines.{unit_count_fields, unit_run_line, verification_lines};
@@ -24,12 +25,13 @@ ghost use Rattle.mxf_forms.specs.Writing.{with_fields};
 
 use super::AnswerFault;
 use super::check::StopLines;
-use super::line::write_note_fields;
+use super::line::{write_note_fields, write_word_or};
 use super::lines::{Each, Line, Lines, Printer, Series, Then, print_with_status, take_first};
 use mxf_catalogue::{Cover, CoverRuns, Run};
 use mxf_forms::{FieldWriter, Form};
 use mxf_klv::{Note, Stop};
 use mxf_read::PieceReport;
+use mxf_timed::ShownTimecodes;
 use mxf_verify::{
     CutNote, Differing, UnitRun, UnitSpan, Verification, VerifiedCounts, VerifiedUnits,
 };
@@ -38,12 +40,14 @@ use std::io::Write;
 
 /// What is printed of a reference beside sources.
 #[derive(Clone, Copy)]
-pub struct Verified<'v, 'a> {
+pub struct Verified<'v, 'a, 'c> {
     /// What was noted of each piece of the reference.
     pub reports: &'v [PieceReport],
     pub verification: &'v Verification<'a>,
     /// The edit units of the reference that are asked for, if some are.
     pub units: Option<&'v VerifiedUnits>,
+    /// Which timecodes these show, if that is told.
+    pub shown: &'v Option<ShownTimecodes<'c>>,
     /// Whether all is to be verified: these units; or without units all bytes of the reference, and the sources are to
     /// have no other.
     pub is_whole: bool,
@@ -59,12 +63,13 @@ pub struct Verified<'v, 'a> {
 /// Out of memory, some whole lines have been written; after a write fault the first bytes, which it counts.
 pub fn print_verification<W: Write>(
     alloc: Global,
-    verified: &Verified<'_, '_>,
+    verified: &Verified<'_, '_, '_>,
     form: Form,
     writer: &mut W,
 ) -> Result<u8, AnswerFault>
     ensures lines { Prints form (Writes (W.contents writer.old) (W.contents writer.new)) result
-        (verification_lines verified.now.reports.now verified.now.verification.now (lent_units verified.now.units)) }
+        (verification_lines verified.now.reports.now verified.now.verification.now (lent_units verified.now.units)
+        verified.now.shown.now) }
     ensures status { IfOk result (λ status. status
         ≡ verification_status verified.now.reports.now verified.now.verification.now (lent_units verified.now.units)
         verified.now.is_whole) }
@@ -101,8 +106,8 @@ pub fn whole_status_by_packets()
 {}
 
 /// The lines of a verification, in their order.
-impl<'v, 'a> Lines for Verified<'v, 'a> {
-    ghost lines = { λ v. verification_lines v.reports.now v.verification.now (lent_units v.units) };
+impl<'v, 'a, 'c> Lines for Verified<'v, 'a, 'c> {
+    ghost lines = { λ v. verification_lines v.reports.now v.verification.now (lent_units v.units) v.shown.now };
 
     fn print_to<W: Write>(self, printer: &mut Printer, writer: &mut W) -> Result<(), AnswerFault> {
         let verification = self.verification;
@@ -110,7 +115,11 @@ impl<'v, 'a> Lines for Verified<'v, 'a> {
             counts: verification.counts(),
             units: self.units,
         };
-        let units = Then(Each(runs_of(self.units)), last);
+        let runs = RunsLeft {
+            left: runs_of(self.units),
+            shown: self.shown,
+        };
+        let units = Then(Each(runs), last);
         let unverified = Then(
             Each(Ranges::of("unverified", verification.unverified())),
             units,
@@ -128,7 +137,7 @@ impl<'v, 'a> Lines for Verified<'v, 'a> {
     }
 }
 
-impl<'v, 'a> Verified<'v, 'a> {
+impl<'v, 'a, 'c> Verified<'v, 'a, 'c> {
     /// 0 if all is well, otherwise 1.
     fn status(&self) -> u8
         ensures { result
@@ -339,17 +348,72 @@ impl<'a> Series for Ranges<'a> {
     }
 }
 
-/// Units that stand alike: the first, the last, and how they stand.
-impl Line for UnitRun {
-    ghost line = { unit_run_line };
+/// The lines of the runs of units that are left.
+#[derive(Drop)]
+struct RunsLeft<'v, 'c> {
+    left: &'v [UnitRun],
+    shown: &'v Option<ShownTimecodes<'c>>,
+}
+
+impl<'v, 'c> Series for RunsLeft<'v, 'c> {
+    type Item = UnitRunLine<'v, 'c>;
+
+    ghost lines_left = { λ s. flat_map (λ r. unit_run_line s.shown.now r ∷ []) s.left.now };
+
+    ghost left = { λ s. length s.left.now };
+
+    fn next_item(&mut self) -> Option<UnitRunLine<'v, 'c>> {
+        let run = take_first(&mut self.left)?;
+        Some(UnitRunLine {
+            run,
+            shown: self.shown,
+        })
+    }
+}
+
+/// Units that stand alike: the first, the last, how they stand, and between which timecodes lies what they show, if
+/// that is told.
+#[derive(Clone, Copy)]
+struct UnitRunLine<'v, 'c> {
+    run: UnitRun,
+    shown: &'v Option<ShownTimecodes<'c>>,
+}
+
+impl<'v, 'c> Line for UnitRunLine<'v, 'c> {
+    ghost line = { λ l. unit_run_line l.shown.now l.run };
 
     #[tactic(auto, unfolding(crate::specs::VerificationLines::unit_run_line))]
     fn write_fields(&self, fields: &mut FieldWriter) -> Result<(), AllocError> {
+        let UnitRun {
+            first,
+            last,
+            fixity,
+        } = self.run;
         fields.begin("units", "units")?;
-        fields.number(" ", "first", self.first)?;
-        fields.number(" ", "last", self.last)?;
-        fields.word(" ", "standing", self.fixity)?;
+        fields.number(" ", "first", first)?;
+        fields.number(" ", "last", last)?;
+        fields.word(" ", "standing", fixity)?;
+        write_ends(fields, self.shown, first, last)?;
         fields.end("")
+    }
+}
+
+/// Writes the timecodes of the least and the greatest position that units show, if timecodes are told.
+fn write_ends(
+    fields: &mut FieldWriter,
+    shown: &Option<ShownTimecodes<'_>>,
+    first: u64,
+    last: u64,
+) -> Result<(), AllocError>
+    ensures { IfOk result (λ _. fields.new ≡ with_fields (ends_fields shown.now first last) fields.old) }
+{
+    match shown {
+        Some(shown) => {
+            let ends = shown.within(first, last);
+            write_word_or(fields, " at ", "first-at", ends.first)?;
+            write_word_or(fields, " ", "last-at", ends.last)
+        }
+        None => Ok(()),
     }
 }
 

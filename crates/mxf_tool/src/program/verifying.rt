@@ -1,17 +1,21 @@
 //! Sources beside a reference: whether they are as it says.
 ghost use Rattle.std.specs.Prelude.{◌≡◌, IfOk};
-ghost use Rattle.mxf_tool.specs.Verifying.{AreAskedBy, AreToldOf, open_of};
+ghost use Rattle.mxf_tool.specs.Verifying.{AreToldOf, open_of};
 
+use super::edit_units::clocks_told;
 use super::{Inputs, Printed, print_answer, told};
-use mxf_asked::{IndexedUnits, Verifying};
-use mxf_forms::Form;
-use mxf_hints::{Exit, RunFault, range_of, tell_foreign, tell_index, tell_offsets, tell_on_screen};
+use mxf_asked::Verifying;
+use mxf_clocks::Clocks;
+use mxf_hints::{
+    Exit, FoundUnits, RunFault, found_units, tell_foreign, tell_offsets, tell_on_screen,
+};
 use mxf_klv::OutOfMemory;
-use mxf_lines::Verified;
+use mxf_lines::{Verified, timecodes_shown};
 use mxf_places::AtHand;
 use mxf_read::{Gathered, Part};
 use mxf_saving::LastFault;
 use mxf_sources::{HeldBySources, System, hold_opened, open_sources, ungathered};
+use mxf_timed::ShownTimecodes;
 use mxf_units::{UnitRange, Units};
 use mxf_verify::{Verification, VerifiedUnits, VerifyFault, verify};
 use mxf_views::Views;
@@ -19,19 +23,12 @@ use std::alloc::{AllocError, Global};
 use std::fmt;
 use std::io::Read;
 
-/// The edit units of a range, by the index of an IndexSID.
-#[derive(Clone, Copy)]
-struct IndexedRange {
-    index: u32,
-    range: UnitRange,
-}
-
 /// Prints how the sources stand to what those of the reference hold together. All are opened before the first is read,
 /// those of the reference first, and are read in that order.
 pub fn print_verified<'a, R: System>(
     rt: &R,
     inputs: Inputs<'_, 'a>,
-    asked: Verifying,
+    asked: Verifying<'a>,
 ) -> Result<Exit, RunFault<'a>> {
     let last = LastFault::new();
     let reference = open_sources(rt, inputs.telling.screen, inputs.beside, &last)?;
@@ -45,112 +42,102 @@ pub fn print_verified<'a, R: System>(
 fn verify_by<'a, R: System, F: Read + Drop>(
     rt: &R,
     inputs: Inputs<'_, 'a>,
-    asked: Verifying,
+    asked: Verifying<'a>,
     gathered: &Gathered,
     parts: Vec<Part<F>>,
     last: &LastFault,
 ) -> Result<Exit, RunFault<'a>> {
-    if let Some(units) = asked.units {
-        tell_index(rt, &gathered.views, units.index)?;
-    }
-    let range = asked_range(&gathered.views, asked.units)?;
-    match verify(rt.alloc(), gathered.views.catalogue(), parts) {
-        Ok(verification) => print_by(rt, inputs, asked.is_whole, range, gathered, &verification),
+    let views = &gathered.views;
+    let at_hand = AtHand::nothing(rt.alloc());
+    let Some(units) = asked.units else {
+        let verification = verified(rt.alloc(), inputs, views, parts, last)?;
+        let told = ToldUnits {
+            units: None,
+            shown: None,
+        };
+        return print_by(rt, inputs, asked.is_whole, gathered, &verification, &told);
+    };
+    let clocks = clocks_told(rt.alloc(), views, units.with_timecodes)?;
+    let found = found_units(rt, views, &at_hand, &clocks, units)?;
+    let verification = verified(rt.alloc(), inputs, views, parts, last)?;
+    let told = told_units(rt.alloc(), &verification, &found, &clocks)?;
+    print_by(rt, inputs, asked.is_whole, gathered, &verification, &told)
+}
+
+/// What the parts verify, which were opened of the sources, of what is held of the reference.
+fn verified<'a, 'v, F: Read + Drop>(
+    alloc: Global,
+    inputs: Inputs<'_, 'a>,
+    views: &'v Views,
+    parts: Vec<Part<F>>,
+    last: &LastFault,
+) -> Result<Verification<'v>, RunFault<'a>> {
+    match verify(alloc, views.catalogue(), parts) {
+        Ok(verification) => Ok(verification),
         Err(VerifyFault::OutOfMemory) => Err(RunFault::OutOfMemory),
         Err(VerifyFault::Part(fault)) => Err(ungathered(&fault, inputs.sources, last)),
     }
 }
 
-/// The edit units that are asked for, if some are.
-fn asked_range<'a>(
-    views: &Views,
-    units: Option<IndexedUnits>,
-) -> Result<Option<IndexedRange>, RunFault<'a>>
-    ensures { AreAskedBy views.now units result }
-{
-    match units {
-        Some(asked) => {
-            let index = asked.index;
-            let range = range_of(views, index, asked.units)?;
-            Ok(Some(IndexedRange { index, range }))
-        }
-        None => Ok(None),
-    }
+/// What is told of edit units of the reference, if some are asked for: how they stand, and which timecodes they show.
+#[derive(Drop)]
+struct ToldUnits<'c> {
+    units: Option<VerifiedUnits>,
+    shown: Option<ShownTimecodes<'c>>,
 }
 
-/// Prints what was verified of the reference, and if hints are told, what that leaves open.
-fn print_by<'a, R: System>(
-    rt: &R,
-    inputs: Inputs<'_, 'a>,
-    is_whole: bool,
-    range: Option<IndexedRange>,
-    gathered: &Gathered,
+/// What is told of the edit units that were found, beside what was verified of the reference.
+fn told_units<'c>(
+    alloc: Global,
     verification: &Verification<'_>,
-) -> Result<Exit, RunFault<'a>> {
-    let exit = match range {
-        Some(range) => print_with_units(rt, inputs.form, is_whole, range, gathered, verification)?,
-        None => print_verification(rt, inputs.form, is_whole, &*gathered, &*verification, None)?,
-    };
-    if inputs.telling.has_hints && tell_open(rt, inputs, is_whole, verification).is_err() {
-        return Err(RunFault::OutOfMemory);
-    }
-    let reports = gathered.reports.as_slice();
-    told(
-        rt,
-        inputs.telling.has_hints,
-        inputs.beside,
-        reports,
-        false,
-        exit,
-    )
-}
-
-/// Prints what was verified of the reference, with the edit units of a range.
-fn print_with_units<'a, R: System>(
-    rt: &R,
-    form: Form,
-    is_whole: bool,
-    range: IndexedRange,
-    gathered: &Gathered,
-    verification: &Verification<'_>,
-) -> Result<Exit, RunFault<'a>> {
-    match units_beside(rt.alloc(), &gathered.views, range, verification) {
-        Ok(units) => print_verification(rt, form, is_whole, gathered, verification, Some(&units)),
-        Err(_) => Err(RunFault::OutOfMemory),
-    }
-}
-
-/// Prints what was verified of the reference, and of its edit units if some are asked for.
-fn print_verification<'v, 'a, R: System>(
-    rt: &R,
-    form: Form,
-    is_whole: bool,
-    gathered: &'v Gathered,
-    verification: &'v Verification<'_>,
-    units: Option<&'v VerifiedUnits>,
-) -> Result<Exit, RunFault<'a>> {
-    let verified = Verified {
-        reports: gathered.reports.as_slice(),
-        verification,
-        units,
-        is_whole,
-    };
-    print_answer(rt, Printed::Verified(&verified), form)
+    found: &FoundUnits<'_>,
+    clocks: &'c Option<Clocks>,
+) -> Result<ToldUnits<'c>, OutOfMemory> {
+    let FoundUnits { units, range } = found;
+    let shown = timecodes_shown(alloc, units, *range, clocks)?;
+    let units = Some(units_beside(alloc, verification, units, *range)?);
+    Ok(ToldUnits { units, shown })
 }
 
 /// The edit units of a range of the reference, beside what was verified of it.
 fn units_beside(
     alloc: Global,
-    views: &Views,
-    range: IndexedRange,
     verification: &Verification<'_>,
+    units: &Units<'_>,
+    range: UnitRange,
 ) -> Result<VerifiedUnits, OutOfMemory>
-    ensures { IfOk result (AreToldOf views.now verification.now range) }
+    ensures { IfOk result (AreToldOf verification.now units.now range) }
 {
-    let IndexedRange { index, range } = range;
-    let at_hand = AtHand::nothing(alloc);
-    let units = Units::of(alloc, views, &at_hand, index)?;
-    VerifiedUnits::of(alloc, verification, &units, range.first(), range.last())
+    VerifiedUnits::of(alloc, verification, units, range.first(), range.last())
+}
+
+/// Prints what was verified of the reference, with the edit units that are told, and if hints are told, what that
+/// leaves open.
+fn print_by<'a, R: System>(
+    rt: &R,
+    inputs: Inputs<'_, 'a>,
+    is_whole: bool,
+    gathered: &Gathered,
+    verification: &Verification<'_>,
+    told_units: &ToldUnits<'_>,
+) -> Result<Exit, RunFault<'a>> {
+    let verified = Verified {
+        reports: gathered.reports.as_slice(),
+        verification,
+        units: match &told_units.units {
+            Some(units) => Some(units),
+            None => None,
+        },
+        shown: &told_units.shown,
+        is_whole,
+    };
+    let exit = print_answer(rt, Printed::Verified(&verified), inputs.form)?;
+    if inputs.telling.has_hints && tell_open(rt, inputs, is_whole, verification).is_err() {
+        return Err(RunFault::OutOfMemory);
+    }
+    let reports = gathered.reports.as_slice();
+    let has_hints = inputs.telling.has_hints;
+    told(rt, has_hints, inputs.beside, reports, false, exit)
 }
 
 /// What a verification leaves open. It prints as its line.

@@ -21,7 +21,7 @@ loop-unit-init g c =
     let counts : held_count c.into_iter-unit-iterator.result ≡ held_count units = ap held_count items in
     let others : hand_count c.into_iter-unit-iterator.result ≡ hand_count units = ap hand_count items in
     record {
-      lines = leads_first (ap (λ (us : List EditUnit). flat_map (λ u. unit_line u ∷ []) us
+      lines = leads_first (ap (λ (us : List EditUnit). flat_map (λ u. unit_line c.args.shown.now u ∷ []) us
           ++ last_line first units ∷ []) items);
       units = ap (λ (l : UnitsLine). l.units) c.of_none-last.ensures;
       held = omega (arith, none, counts);
@@ -38,11 +38,11 @@ returns-in_err-print_to-clause-lines g c =
     let p = err_from_is_err_and c.from_residual.result c.from_residual.ensures.1 in
     rw (p.1, p.2) (as_fault (Unit {0}) ℕ c.args.printer.now.fields.form (g.W.Write.contents c.args.writer.now)
     (g.W.Write.contents c.print_to.new.writer) c.args.printer.now.progress.written
-    c.print_to.new.printer.progress.written c.in_err-print_to.field-0.0 (unit_lines first units)
+    c.print_to.new.printer.progress.written c.in_err-print_to.field-0.0 (unit_lines c.args.shown.now first units)
     (leads_failed (g.W.Write.contents c.print_to.new.writer) c.print_to.new.printer.progress.written
-    c.in_err-print_to.field-0.0 (unit_line c.in-Some.unit ∷ [])
-    (flat_map (λ u. unit_line u ∷ []) c.next.new.self ++ last)
-    (ap (λ (us : List EditUnit). flat_map (λ u. unit_line u ∷ []) us ++ last) c.in-Some.ensures.steps)
+    c.in_err-print_to.field-0.0 (unit_line c.args.shown.now c.in-Some.unit ∷ [])
+    (flat_map (λ u. unit_line c.args.shown.now u ∷ []) c.next.new.self ++ last)
+    (ap (λ (us : List EditUnit). flat_map (λ u. unit_line c.args.shown.now u ∷ []) us ++ last) c.in-Some.ensures.steps)
     c.loop-unit.invariant.lines c.in_err-print_to.ensures.lines))
 
 pub add-requires : goal.add-requires
@@ -65,8 +65,8 @@ loop-unit-preserved g c =
     let others = ap hand_count steps in
     let many = ap (λ (us : List EditUnit). length us) steps in
     record {
-      lines = leads_more (unit_line u ∷ []) (flat_map (λ u. unit_line u ∷ []) left ++ last)
-          (ap (λ (us : List EditUnit). flat_map (λ u. unit_line u ∷ []) us ++ last) steps) inv.lines
+      lines = leads_more (unit_line c.args.shown.now u ∷ []) (flat_map (λ u. unit_line c.args.shown.now u ∷ []) left ++ last)
+          (ap (λ (us : List EditUnit). flat_map (λ u. unit_line c.args.shown.now u ∷ []) us ++ last) steps) inv.lines
           c.in_ok-print_to.ensures.lines c.in_ok-print_to.ensures.form;
       units = added.units ∙ inv.units;
       held = omega (arith, added.held, held-step u left, counts, inv.held);
@@ -86,8 +86,8 @@ returns-in_err-print_to-2-clause-lines g c =
     let p = err_from_is_err_and r.result r.ensures.1 in
     rw (p.1, p.2) (as_fault (Unit {0}) ℕ c.args.printer.now.fields.form (g.W.Write.contents c.args.writer.now)
     (g.W.Write.contents c.print_to-2.new.writer) c.args.printer.now.progress.written
-    c.print_to-2.new.printer.progress.written c.in_err-print_to-2.field-0.0 (unit_lines first units)
-    (answered first units _ _ _ _ _ c.in-None.ensures.steps.0 many inv.held inv.hand inv.from inv.lines
+    c.print_to-2.new.printer.progress.written c.in_err-print_to-2.field-0.0 (unit_lines c.args.shown.now first units)
+    (answered first units _ _ _ _ _ c.in-None.ensures.steps.0 many inv.held inv.hand inv.from c.args.shown.now inv.lines
     (g.W.Write.contents c.print_to-2.new.writer) c.print_to-2.new.printer.progress.written
     (Err c.in_err-print_to-2.field-0.0)
     c.in_err-print_to-2.ensures.lines))
@@ -98,7 +98,7 @@ returns-clause-lines g c =
     let units = units_from c.args.units.now first c.args.range.count in
     let inv = c.loop-unit.invariant in
     let many = inv.units ∙ sym (units_length c.args.units.now first c.args.range.count) in
-    answered first units _ _ _ _ _ c.in-None.ensures.steps.0 many inv.held inv.hand inv.from inv.lines
+    answered first units _ _ _ _ _ c.in-None.ensures.steps.0 many inv.held inv.hand inv.from c.args.shown.now inv.lines
     (g.W.Write.contents c.print_to-2.new.writer) c.print_to-2.new.printer.progress.written (Ok tt)
     c.in_ok-print_to-2.ensures.lines
 

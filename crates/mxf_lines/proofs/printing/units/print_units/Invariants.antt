@@ -8,8 +8,8 @@ use Rattle.mxf_lines.proofs.printing.units.print_units.Given as goal
 abbrev pub invariant-loop-unit : goal.invariant-loop-unit
 invariant-loop-unit g l = record {
   lines : Leads l.initial.printer.fields.form (g.W.Write.contents l.initial.writer) l.initial.printer.progress.written
-      (unit_lines l.fn.range.first (units_from l.fn.units l.fn.range.first l.fn.range.count)) l.printer.fields.form
-      (g.W.Write.contents l.writer) l.printer.progress.written (flat_map (λ u. unit_line u ∷ []) l.unit-iterator
+      (unit_lines l.fn.shown l.fn.range.first (units_from l.fn.units l.fn.range.first l.fn.range.count)) l.printer.fields.form
+      (g.W.Write.contents l.writer) l.printer.progress.written (flat_map (λ u. unit_line l.fn.shown u ∷ []) l.unit-iterator
       ++ last_line l.fn.range.first (units_from l.fn.units l.fn.range.first l.fn.range.count) ∷ []);
   units : l.last.units ≡ l.fn.range.count;
   held : l.last.held + held_count l.unit-iterator

@@ -1,0 +1,110 @@
+//! Where edit units lie, and what to restore for them.
+ghost use Rattle.std.specs.Prelude.{◌≡◌, IfOk};
+ghost use Rattle.mxf_lines.specs.OneRun.{clocks_told};
+
+use super::{Inputs, Printed, print_answer};
+use mxf_asked::IndexedUnits;
+use mxf_clocks::Clocks;
+use mxf_hints::{Exit, FoundUnits, RunFault, found_units, tell_unsettled};
+use mxf_klv::OutOfMemory;
+use mxf_partial::UnitPlan;
+use mxf_places::Holdings;
+use mxf_sources::{HeldBySources, System};
+use mxf_tracks::preferred_tracks;
+use mxf_views::Views;
+use std::alloc::Global;
+
+/// The clocks of what is held, if timecodes are asked for or told.
+pub fn clocks_told(
+    alloc: Global,
+    views: &Views,
+    with_timecodes: bool,
+) -> Result<Option<Clocks>, OutOfMemory>
+    ensures { IfOk result (λ c. c ≡ clocks_told with_timecodes views.now) }
+{
+    if !with_timecodes {
+        return Ok(None);
+    }
+    let tracks = preferred_tracks(alloc, views)?;
+    Ok(Some(Clocks::of(alloc, views, &tracks)?))
+}
+
+/// Prints where the edit units lie that are asked for.
+pub fn print_units<'a, R: System>(
+    rt: &R,
+    inputs: Inputs<'_, 'a>,
+    asked: IndexedUnits<'a>,
+    held: &HeldBySources,
+) -> Result<Exit, RunFault<'a>> {
+    let views = &held.gathered.views;
+    let clocks = clocks_told(rt.alloc(), views, asked.with_timecodes)?;
+    let FoundUnits { units, range } = found_units(rt, views, &held.at_hand, &clocks, asked)?;
+    let printed = Printed::Units {
+        units: &units,
+        range,
+        clocks: &clocks,
+    };
+    print_answer(rt, printed, inputs.form)
+}
+
+/// Prints what to restore for the edit units that are asked for. If no unit is known by the timecode, since no copy of
+/// the header metadata is finished, that is what tells of one.
+pub fn print_unit_plan<'a, R: System>(
+    rt: &R,
+    inputs: Inputs<'_, 'a>,
+    asked: IndexedUnits<'a>,
+    held: &HeldBySources,
+) -> Result<Exit, RunFault<'a>> {
+    let views = &held.gathered.views;
+    let clocks = clocks_told(rt.alloc(), views, asked.with_timecodes)?;
+    let FoundUnits { units, range } = match found_units(rt, views, &held.at_hand, &clocks, asked) {
+        Ok(found) => found,
+        Err(fault) if waits_for_metadata(views, &fault) => {
+            return print_metadata_plan(rt, inputs, held, fault);
+        }
+        Err(fault) => return Err(fault),
+    };
+    let printed = Printed::UnitPlan {
+        units: &units,
+        range,
+    };
+    let exit = print_answer(rt, printed, inputs.form)?;
+    if let Exit::Found = exit {
+        told_unsettled(rt, inputs, views)?;
+    }
+    Ok(exit)
+}
+
+/// Whether header metadata may come by which there is a unit at a timecode.
+fn waits_for_metadata(views: &Views, fault: &RunFault<'_>) -> bool {
+    let is_finished = views.preferred().is_some_and(|copy| copy.finished);
+    !is_finished && matches!(fault, RunFault::NoUnitAt { .. })
+}
+
+/// Prints what to restore of header metadata; if there is nothing, it ends with the fault.
+fn print_metadata_plan<'a, R: System>(
+    rt: &R,
+    inputs: Inputs<'_, 'a>,
+    held: &HeldBySources,
+    fault: RunFault<'a>,
+) -> Result<Exit, RunFault<'a>> {
+    let holdings = Holdings::of(rt.alloc(), &held.gathered.views)?;
+    let plan = UnitPlan::of_metadata(rt.alloc(), &holdings, &held.at_hand)?;
+    if plan.orders().is_empty() {
+        return Err(fault);
+    }
+    print_answer(rt, Printed::MetadataPlan(&plan), inputs.form)
+}
+
+/// If hints are told, it tells that units aren't there while packets of the only source are disputed.
+fn told_unsettled<'a, R: System>(
+    rt: &R,
+    inputs: Inputs<'_, 'a>,
+    views: &Views,
+) -> Result<(), RunFault<'a>> {
+    let is_one = inputs.sources.len() == 1;
+    if inputs.telling.has_hints && is_one && tell_unsettled(rt, views).is_err() {
+        return Err(RunFault::OutOfMemory);
+    }
+    Ok(())
+}
