@@ -43,7 +43,7 @@ impl fmt::Display for Hint<'_, '_> {
                 "no segment that is held gives this index a last unit from the first on: name the last by --to, or another index by --index",
             ),
             RunFault::TooManyUnits => {
-                f.write_str("ask for 1000000 units at most, and name the last by --to")
+                f.write_str("ask for 1000000 units at most, by --from and --to")
             }
             RunFault::NoIndex => f.write_str(
                 "no index table segment is held: plan says what to restore",
@@ -93,12 +93,15 @@ fn write_clock<W: fmt::Write>(
     } = clock
     else {
         return f.write_str(
-            "the header metadata that are held give no edit unit a timecode: describe prints them; name edit units by their numbers",
+            "no clock of the index is known: describe prints those that are; name edit units by their numbers",
         );
     };
     match TimecodeWord::read(word) {
         Some(word) if word.frames >= u32::from(base) => {
             return write!(f, "the clock has {base} frames a second, counted from 00");
+        }
+        Some(word) if word.is_drop && !first.is_drop && is_one => {
+            return f.write_str("the clock isn't one of drop frame: write ':' before the frames");
         }
         _ => {}
     }

@@ -12,8 +12,9 @@
 //!
 //! What is proved: the exit status of each end of a run ([`Exit`]), the end for each fault, and whether hints are told
 //! ([`Telling::of`]). What each part holds by itself is its run alone ([`gather_each`]), and the [`Shift`] of a content
-//! is the only one that all of its partition packs say ([`laws::one_shift`]). The edit units that are asked for end
-//! with the last of the index ([`range_of`]). The words of hints are tested.
+//! is the only one that all of its partition packs say ([`laws::one_shift`]). The edit units that are asked for are
+//! those between the bounds that words say, by the clock of the index that is meant ([`found_units`]). The words of
+//! hints are tested.
 #![tactic(auto)]
 
 mod apart;

@@ -13,7 +13,7 @@ use Rattle.mxf_units.specs.declared.range.UnitRange.{UnitRange}
 use Rattle.mxf_units.specs.declared.standing.UnitStanding.TheVariants as standings
 use Rattle.mxf_units.specs.declared.unit.EditUnit.{EditUnit}
 use Rattle.mxf_partial.specs.Orders.{UnitPlanParts}
-use Rattle.mxf_partial.specs.Wanted.{WantedParts, notes_of, wanted_units}
+use Rattle.mxf_partial.specs.Wanted.{WantedParts, notes_of, wanted_in, wanted_units}
 use Rattle.mxf_forms.specs.Forms.{PrintedLine}
 use Rattle.mxf_lines.specs.Lines.{lines_where}
 use Rattle.mxf_lines.specs.PlanLines.{disputes_line, ordered_bytes, planned_line, restore_line}
@@ -21,7 +21,7 @@ use Rattle.mxf_lines.specs.UnitLines.{is_hand, is_held, last_line, units_status}
 
 -- The units of a range that are wanted of an index.
 abbrev pub wanted_of : UnitsParts → UnitRange → WantedParts
-wanted_of units range = record { units = units; first = range.first; count = range.count }
+wanted_of units range = wanted_in units range.first range.count
 
 -- The same by the index of an IndexSID, by what is at hand and a content.
 abbrev pub asked_of : ℕ → UnitRange → AtHandParts → List NoteParts → WantedParts

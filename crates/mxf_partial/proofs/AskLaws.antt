@@ -1,17 +1,19 @@
 -- What units ask for, as lists and by definition.
-use Rattle.mxf_views.proofs.Common.{◌≡◌, ◌↔◌, ◌⊎◌, ◌∙◌, ◌++◌, ◌+◌, ◌<◌, ◌==◌, ℕ, List, [], ◌∷◌, Option, None, Some, ap}
+use Rattle.mxf_views.proofs.Common.{◌≡◌, ◌↔◌, ◌⊎◌, ◌∙◌, ◌++◌, ◌+◌, ◌<◌, ◌==◌, ℕ, List, [], ◌∷◌, Some, ap}
 use Rattle.mxf_views.proofs.Common.{arith, inl, inr, Err, Ok, Result, true, filter_map, map, refl, subst, sym, zero}
-use Rattle.mxf_views.proofs.Common.{suc, same_Some, range_with_len, result_ok, cons_option, ◌-◌, In, IsRising}
-use Rattle.mxf_views.proofs.Common.{In-append, In-filter_map, all_from_In, find-only, found-In, IsRisingBy, from_lower}
-use Rattle.mxf_views.proofs.Common.{one_by_key}
+use Rattle.mxf_views.proofs.Common.{suc, same_Some, range_with_len, result_ok, ◌-◌, In, IsRising}
+use Rattle.mxf_views.proofs.Common.{In-append, In-filter_map, all_from_In, find-only, found-In}
+use Rattle.mxf_views.proofs.Common.{one_by_key, RiseBy}
+use Rattle.mxf_views.proofs.KeyedLists.{rise_by}
+use Rattle.mxf_klv.proofs.RisingBy.{IsRisingFrom, at_or_above, rises-filter_map}
 use Rattle.mxf_views.specs.declared.index.place.StreamPlace.{StreamPlace}
 use Rattle.std.proofs.Common.{nat_cmp}
 use Rattle.std.proofs.lemmas.Bool.{eq-eqb, eqb-true}
 use Rattle.std.specs.Option.{option_and_then}
 use Rattle.mxf_restore.specs.declared.named.NamedPlace.{NamedPlace}
 use Rattle.mxf_units.specs.Streams.{place_of, segments_for}
-use Rattle.mxf_units.specs.Ranges.{needed_from, units_from}
-use Rattle.mxf_units.specs.Units.{UnitsParts, location_of, unit_of}
+use Rattle.mxf_units.specs.Ranges.{needed_from, units_from, units_with_keys}
+use Rattle.mxf_units.specs.Units.{UnitsParts, unit_of}
 use Rattle.mxf_units.specs.declared.essence_zone.part.StreamPart.{StreamPart}
 use Rattle.mxf_units.specs.declared.location.Location.{Location}
 use Rattle.mxf_units.specs.declared.standing.UnitStanding.{UnitStanding}
@@ -24,7 +26,6 @@ use Rattle.mxf_partial.specs.Questions.{limit_asked, number_unindexed, partition
 use Rattle.mxf_partial.specs.Wanted.{WantedParts, notes_of, wanted_units}
 use Rattle.mxf_partial.specs.Ways.{LeadsTo}
 use Rattle.mxf_partial.proofs.ChosenLaws.{keys_rise, numbers_rise}
-use Rattle.mxf_klv.proofs.RisingBy.{IsRisingFrom, at_or_above}
 use Rattle.mxf_units.specs.declared.standing.UnitStanding.TheVariants as standings
 
 from_ok : {T E : Type 0} (r : Result T E) (x : T) → result_ok r ≡ Some x → r ≡ Ok x
@@ -173,29 +174,44 @@ asked_are w named before_ways before_limits asked limits partitions ways none n 
 
 -- ---- where the index may go on
 
--- The numbers of units that no segment places, as the units come.
+-- The numbers of units one after another rise.
 rising_from : (f : ℕ → EditUnit) → ((n : ℕ) → (f n).number ≡ n) → (first count : ℕ)
-    → IsRisingFrom (λ x. x) first (filter_map number_unindexed (map f (range_with_len first count)))
+    → IsRisingFrom (λ (u : EditUnit). u.number) first (map f (range_with_len first count))
 rising_from f is first zero = tt
 rising_from f is first (suc count) =
-    grind (arith, same_Some, IsRisingFrom, filter_map, from_lower, rising_from f is (first + 1) count)
+    let e = is first in (
+      omega (arith, e),
+      subst (λ low. IsRisingFrom (λ (u : EditUnit). u.number) low (map f (range_with_len (first + 1) count)))
+          (ap (λ n. n + 1) (sym e)) (rising_from f is (first + 1) count),
+    )
 
-rising_by : (low : ℕ) (xs : List ℕ) → IsRisingFrom (λ x. x) low xs → IsRisingBy (λ x. x) xs
+rising_by : (low : ℕ) (units : List EditUnit) → IsRisingFrom (λ (u : EditUnit). u.number) low units
+    → RiseBy (λ u. u.number) units
 rising_by low [] r = tt
-rising_by low (x ∷ xs) r = (
-  all_from_In (λ y. x < y) xs (λ y i. let l = at_or_above (λ x. x) (x + 1) xs y r.1 i in omega (arith, l)),
-  rising_by (x + 1) xs r.1,
+rising_by low (u ∷ units) r = (
+  all_from_In (λ (v : EditUnit). u.number < v.number) units
+      (λ v i. let l = at_or_above (λ (w : EditUnit). w.number) (u.number + 1) units v r.1 i in omega (arith, l)),
+  rising_by (u.number + 1) units r.1,
 )
 
 number_of : (u : UnitsParts) (n : ℕ) → (unit_of u.known u.index_sid n).number ≡ n
 unfolding unit_of
 number_of u n = refl
 
-pub numbers_are_rising : (w : WantedParts) → IsRising nat_cmp (filter_map number_unindexed (wanted_units w))
-numbers_are_rising w =
-    let from = needed_from w.first (units_from w.units w.first w.count) in
-    numbers_rise _ (rising_by from _ (rising_from (unit_of w.units.known w.units.index_sid) (number_of w.units) from
-    (w.first - from + w.count)))
+pub units_rise : (u : UnitsParts) (first count : ℕ) → RiseBy (λ e. e.number) (units_with_keys u first count)
+units_rise u first count =
+    let from = needed_from first (units_from u first count) in
+    rising_by from _ (rising_from (unit_of u.known u.index_sid) (number_of u) from (first - from + count))
+
+-- The numbers of units that no segment places rise as those of all do.
+pub numbers_are_rising : (units : List EditUnit) → RiseBy (λ u. u.number) units
+    → IsRising nat_cmp (filter_map number_unindexed units)
+numbers_are_rising units rise =
+    numbers_rise _ (rises-filter_map (λ (u : EditUnit). u.number) number_unindexed (λ x. x) units number_is
+    ((rise_by (λ (u : EditUnit). u.number) units).0 rise))
+  where
+    number_is : (unit : EditUnit) (n : ℕ) → number_unindexed unit ≡ Some n → n ≡ unit.number
+    number_is unit n e = grind (arith, same_Some)
 
 numbers_say : (w : WantedParts) (numbers : List ℕ) (x : ℕ) → numbers ≡ filter_map number_unindexed (wanted_units w)
     → MayIndexOneOf w.units numbers x ↔ MayIndex w x

@@ -1,6 +1,6 @@
 -- The front of a section, and the source with which it is restored.
 use Rattle.mxf_views.proofs.Common.{◌≡◌, ◌↔◌, ◌⊎◌, ◌∙◌, ◌≤◌, ℕ, Bool, true, false, List, [], ◌∷◌, Option, None, Some}
-use Rattle.mxf_views.proofs.Common.{ap, arith, filter, inl, inr, min, nat_le, nat_lt, refl, subst, sym, and_from}
+use Rattle.mxf_views.proofs.Common.{ap, arith, filter, inl, inr, min, nat_le, refl, subst, sym, and_from}
 use Rattle.mxf_views.proofs.Common.{and_parts, le-leb, leb-false, leb-true, same_Some, NoteParts, In, In-filter}
 use Rattle.std.proofs.lemmas.Bool.{lt-ltb, ltb-true}
 use Rattle.std.specs.Option.{option_and_then, option_map}

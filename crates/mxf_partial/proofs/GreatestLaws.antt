@@ -4,8 +4,8 @@ use Rattle.mxf_views.proofs.Common.{◌∷◌, Option, None, Some, MatchOption, 
 use Rattle.mxf_views.proofs.Common.{eq-eqb, eqb-true, if◌then◌else◌, negsuc, suc, zero, ℤ, max, unsigned_abs, lt-ltb}
 use Rattle.mxf_views.proofs.Common.{cases_lt, IsTotalOrder, IsAntisymmetric, nat_cmp-IsAntisymmetric, nat_cmp, on}
 use Rattle.mxf_views.proofs.Common.{then_cmp, Ordering, nat_cmp_total, on_total, then_total, In, In-union, IsRising}
-use Rattle.mxf_views.proofs.Common.{union, In-end, In-filter, lt_from_less, ties, covers_constant, covers_entry}
-use Rattle.mxf_views.proofs.Common.{entry_offset, stream_offset, SegmentParts, entry_count, is_constant, SegmentAtParts}
+use Rattle.mxf_views.proofs.Common.{union, In-end, In-filter, lt_from_less, ties}
+use Rattle.mxf_views.proofs.Common.{stream_offset, SegmentParts, entry_count, is_constant, SegmentAtParts}
 use Rattle.mxf_views.proofs.Common.{segments_of}
 use Rattle.std.proofs.Common.{mul-le-mul_left}
 use Rattle.mxf_units.specs.LastUnits.{IsEndless}

@@ -1,9 +1,9 @@
 -- Elements of streams in their order: what their places say.
-use Rattle.mxf_views.proofs.Common.{◌≡◌, ◌∙◌, ◌<◌, ◌≤◌, ◌-◌, ◌⊎◌, ◌&&◌, ◌||◌, ◌==◌, ℕ, zero, suc, Bool, true, false}
+use Rattle.mxf_views.proofs.Common.{◌≡◌, ◌∙◌, ◌<◌, ◌≤◌, ◌-◌, ◌⊎◌, ◌==◌, ℕ, zero, suc, Bool, true, false}
 use Rattle.mxf_views.proofs.Common.{List, [], ◌∷◌, Some, refl, sym, ap, subst, inl, inr, arith, eq-eqb, eqb-true}
 use Rattle.mxf_views.proofs.Common.{get_or, length, lt-ltb, ltb-true, nat_lt, and_from, and_parts, cases_lt}
 use Rattle.mxf_views.proofs.Common.{get_or_from_slice_get, slice_get_within, IsPartitionedBy, AllByRecursion}
-use Rattle.mxf_views.proofs.Common.{ordering_then, Ordering, Less, Equal, Greater, In, IsRising, all-In, In-at}
+use Rattle.mxf_views.proofs.Common.{ordering_then, Ordering, Less, Equal, Greater, IsRising, all-In, In-at}
 use Rattle.mxf_views.proofs.Common.{Contains-from_In, either}
 use Rattle.std.proofs.Common.{slice_get}
 use Rattle.std.specs.List.Sorted.{IsPartitionPoint}

@@ -1,7 +1,7 @@
 -- Between which file offsets an offset of a stream lies, by tables that are searched.
 use Rattle.mxf_views.proofs.Common.{◌≡◌, ◌∙◌, ◌≤◌, ◌+◌, ◌-◌, ℕ, List, [], ◌∷◌, Option, None, Some, refl, sym, ap, subst}
 use Rattle.mxf_views.proofs.Common.{inl, inr, arith, map, max, reverse, cases_lt, IsTotalOrder, IsAntisymmetric}
-use Rattle.mxf_views.proofs.Common.{nat_cmp-IsAntisymmetric, nat_cmp, on, then_cmp, Ordering, Less, nat_cmp_total}
+use Rattle.mxf_views.proofs.Common.{nat_cmp, on, then_cmp, Ordering, Less, nat_cmp_total}
 use Rattle.mxf_views.proofs.Common.{on_total, then_total, NoteParts, In, In-union, IsRising, union, In-append, In-map}
 use Rattle.mxf_views.proofs.Common.{one_by_key, lt_from_less, ties, IsContent, PartitionParts, partitions_of}
 use mathlib.Core.List.{reverse-cons}

@@ -2,7 +2,7 @@
 use Rattle.mxf_views.proofs.Common.{◌≡◌, ◌↔◌, ◌⊎◌, ◌∙◌, ◌++◌, ◌<◌, ◌≤◌, ◌+◌, ℕ, Bool, true, false, List, [], ◌∷◌}
 use Rattle.mxf_views.proofs.Common.{Option, None, Some, ap, nat_lt, unwrap_or, arith, filter_map, flat_map, inl, inr}
 use Rattle.mxf_views.proofs.Common.{is_some, map, refl, subst, sym, Result, Ok, Err, if◌then◌else◌, IfOk, drop, get_or}
-use Rattle.mxf_views.proofs.Common.{length, suc, ◌==◌, same_Some, result_ok, option_map_or, NoteParts, greatest_end, In}
+use Rattle.mxf_views.proofs.Common.{length, suc, ◌==◌, same_Some, option_map_or, NoteParts, greatest_end, In}
 use Rattle.mxf_views.proofs.Common.{In-union, same_from_members, union, In-append, In-filter_map, In-flat_map, In-map}
 use Rattle.mxf_views.proofs.Common.{all-In, found-In, none_found, drop_all, drop-cons, IsCover, union_of_runs}
 use Rattle.mxf_views.proofs.Common.{union_of_runs-IsUnion, LiesIn, same_covers, option_to_list, slice_get, ltb-false}
@@ -25,10 +25,11 @@ use Rattle.mxf_restore.specs.declared.named.NamedPlace.{NamedPlace}
 use Rattle.mxf_restore.specs.declared.plan.Order.{Order}
 use Rattle.mxf_restore.specs.declared.section.Section.{Section}
 use Rattle.mxf_restore.proofs.PlanLaws.{one_order, order_total}
-use Rattle.mxf_units.specs.Units.{AreKnown, IsKnown, UnitsParts, location_of}
+use Rattle.mxf_units.specs.Units.{AreKnown, IsKnown, UnitsParts}
 use Rattle.mxf_units.specs.declared.location.Location.{Location}
 use Rattle.mxf_units.specs.declared.standing.UnitStanding.{UnitStanding}
 use Rattle.mxf_units.specs.declared.unit.EditUnit.{EditUnit}
+use Rattle.mxf_units.specs.declared.unit.Extent.{Extent}
 use Rattle.mxf_partial.specs.Asks.{IsAskedByIndex, IsAskedByUnit}
 use Rattle.mxf_partial.specs.Fronts.{front_order}
 use Rattle.mxf_partial.specs.Helping.{helping_by, helping_for, helping_of}
@@ -36,7 +37,8 @@ use Rattle.mxf_partial.specs.Named.{AreNamed, IsNamed, is_named, named_at}
 use Rattle.mxf_partial.specs.Orders.{AreAsked, AreOffsetsOf, IsFindingOrder, IsFrontOrder, IsOrdered, IsThere}
 use Rattle.mxf_partial.specs.Orders.{IsUnitOrder, IsUnitPlan, UnitPlanParts, helping_orders, is_described, known_end}
 use Rattle.mxf_partial.specs.Orders.{unit_order}
-use Rattle.mxf_partial.specs.Wanted.{HasByte, HasByteOf, HasNamedLimit, IsWantedByte, WantedParts, WantsAt, WantsByte}
+use Rattle.mxf_partial.specs.Wanted.{HasByte, HasByteBy, HasByteOf, HasNamedLimit, IsWantedBy, IsWantedByte}
+use Rattle.mxf_partial.specs.Wanted.{WantedParts, WantsAt, WantsByte}
 use Rattle.mxf_partial.specs.Wanted.{hand_of, is_limit_named, notes_of, wanted_at, wanted_by, wanted_of, wanted_units}
 use Rattle.mxf_partial.proofs.FrontLaws.{by_members, front_is}
 use Rattle.mxf_places.specs.declared.reason.Reason.TheVariants as reasons
@@ -213,24 +215,23 @@ wanted_of_says : (named : List NamedPlace) (u : UnitsParts) (unit : EditUnit) (x
     → HasByte (wanted_of named u unit) x ↔ WantsByte u unit x
 wanted_of_says named u unit x are = grind (arith, wanted_at_says, same_Some)
 
+wanted_by_says : (w : WantedParts) (named : List NamedPlace) (bytes : Option Extent) (x : ℕ)
+    → AreNamed (notes_of w) named → HasByteBy named w bytes x ↔ (IsWantedBy w bytes x × (x < greatest_end))
+wanted_by_says w named None x are = (
+  λ h. ((h.0.0, h.0.1, (wanted_of_says named w.units h.0.0 x are).0 h.0.2), h.1),
+  λ h. ((h.0.0, h.0.1, (wanted_of_says named w.units h.0.0 x are).1 h.0.2), h.1),
+)
+wanted_by_says w named (Some e) x are = (λ h. h, λ h. h)
+
 pub wanted_is : (w : WantedParts) (named : List NamedPlace) (runs : List Run) → AreNamed (notes_of w) named
-    → IsCover runs → ((x : ℕ) → LiesIn runs x ↔ HasByteOf named w.units (wanted_units w) x)
-    → AreOffsetsOf (IsWantedByte w) runs
+    → IsCover runs → ((x : ℕ) → LiesIn runs x ↔ HasByteBy named w w.bytes x) → AreOffsetsOf (IsWantedByte w) runs
 wanted_is w named runs are cover offsets = record {
   cover = cover;
-  offsets = λ x. (
-    λ h.
-        let s = (offsets x).0 h in (
-          record {
-            unit = s.0.0;
-            wanted = s.0.1;
-            wants = (wanted_of_says named w.units s.0.0 x are).0 s.0.2;
-            within = s.1;
-          },
-          s.1,
-        ),
-    λ h. (offsets x).1 ((h.0.unit, h.0.wanted, (wanted_of_says named w.units h.0.unit x are).1 h.0.wants), h.1),
-  );
+  offsets = λ x.
+      let says = wanted_by_says w named w.bytes x are in (
+        λ h. let s = says.0 ((offsets x).0 h) in (record { wanted = s.0; within = s.1 }, s.1),
+        λ h. (offsets x).1 (says.1 (h.0.wanted, h.1)),
+      );
 }
 
 -- ---- the orders of bytes of units

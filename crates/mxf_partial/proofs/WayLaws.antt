@@ -3,8 +3,8 @@ use Rattle.mxf_views.proofs.Common.{◌≡◌, ◌↔◌, ◌⊎◌, ◌∙◌, 
 use Rattle.mxf_views.proofs.Common.{Some, ap, arith, drop, find, get_or, if◌then◌else◌, inl, inr, is_some, length}
 use Rattle.mxf_views.proofs.Common.{nat_lt, refl, suc, subst, sym, ltb-false, same_Some, IsNote, greatest_end}
 use Rattle.mxf_views.proofs.Common.{IsCatalogue, undisputed_notes, In-undisputed_notes, NoteParts, In, IsRising, all-In}
-use Rattle.mxf_views.proofs.Common.{find-only, found-In, lt_from_less, IsContent, place_cmp, drop_all, drop-cons, Less}
-use Rattle.mxf_views.proofs.Common.{nat_cmp-IsAntisymmetric, PartitionParts, in_numbers, partitions_of}
+use Rattle.mxf_views.proofs.Common.{find-only, found-In, lt_from_less, IsContent, place_cmp, drop_all, drop-cons}
+use Rattle.mxf_views.proofs.Common.{PartitionParts, in_numbers, partitions_of}
 use Rattle.mxf_views.specs.declared.index.place.StreamPlace.{StreamPlace}
 use Rattle.std.proofs.Common.{nat_cmp}
 use Rattle.std.proofs.lemmas.Bool.{eq-eqb, eqb-true, lt-ltb, ltb-true}
@@ -15,7 +15,7 @@ use Rattle.mxf_units.specs.declared.essence_zone.EssenceZone.{EssenceZone}
 use Rattle.mxf_restore.specs.declared.named.NamedPlace.{NamedPlace}
 use Rattle.mxf_units.specs.EssenceZones.{parts_of}
 use Rattle.mxf_units.specs.declared.essence_zone.part.StreamPart.{StreamPart}
-use Rattle.mxf_partial.specs.InStreams.{HasNoneFrom, IsFirstFrom, IsInOrder, Precedes}
+use Rattle.mxf_partial.specs.InStreams.{HasNoneFrom, IsFirstFrom, IsInOrder}
 use Rattle.mxf_partial.specs.Streams.{HasNoPartBehind, IsPart, IsPartBehind}
 use Rattle.mxf_partial.specs.Ways.{HasPlace, HasWay, LeadsTo, way_from, way_of}
 use Rattle.mxf_partial.proofs.InStreamLaws.{in_order_from, then_less}

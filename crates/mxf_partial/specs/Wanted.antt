@@ -17,11 +17,24 @@ use Rattle.mxf_units.specs.declared.standing.UnitStanding.TheVariants as standin
 use Rattle.mxf_units.specs.declared.unit.EditUnit.{EditUnit}
 use Rattle.mxf_units.specs.declared.unit.Extent.{Extent}
 
--- The units of an index from one on, `count` of them.
+-- The units of an index that are asked for, `count` of them from one on; those that are wanted; and the bytes that are
+-- wanted in place of those of each, if there are some.
 pub record WantedParts : Type 0 where
   pub units : UnitsParts
   pub first : ℕ
   pub count : ℕ
+  pub wanted : List EditUnit
+  pub bytes : Option Extent
+
+-- Those that are asked for are wanted, and those before them from the least key frame on that they name.
+abbrev pub wanted_in : UnitsParts → ℕ → ℕ → WantedParts
+wanted_in u first count = record {
+  units = u;
+  first = first;
+  count = count;
+  wanted = units_with_keys u first count;
+  bytes = None;
+}
 
 abbrev pub notes_of : WantedParts → List NoteParts
 notes_of w = w.units.known.notes
@@ -29,9 +42,8 @@ notes_of w = w.units.known.notes
 abbrev pub hand_of : WantedParts → AtHandParts
 hand_of w = w.units.known.at
 
--- The wanted units: those that are asked for, and those before them from the least key frame on that they name.
 abbrev pub wanted_units : WantedParts → List EditUnit
-wanted_units w = units_with_keys w.units w.first w.count
+wanted_units w = w.wanted
 
 -- A segment of the index gives a unit a place that stands so.
 abbrev pub is_indexed : UnitStanding → Bool
@@ -69,11 +81,14 @@ abbrev pub HasByte : Option Extent → ℕ → Type 0
 HasByte None x = ⊥
 HasByte (Some e) x = LiesBetween e.start e.end x
 
--- A byte that is wanted of some wanted unit, as far as files reach.
+-- The byte is one of those that are wanted in place of the units' own, or one that is wanted of some unit.
+abbrev pub IsWantedBy : WantedParts → Option Extent → ℕ → Type 0
+IsWantedBy w None x = (unit : EditUnit) × In unit (wanted_units w) × WantsByte w.units unit x
+IsWantedBy w (Some e) x = LiesBetween e.start e.end x
+
+-- A byte that is wanted, as far as files reach.
 pub record IsWantedByte (w : WantedParts) (x : ℕ) : Type 0 where
-  pub unit : EditUnit
-  pub wanted : In unit (wanted_units w)
-  pub wants : WantsByte w.units unit x
+  pub wanted : IsWantedBy w w.bytes x
   pub within : x < greatest_end
 
 -- The same as functions. Lemmas tie them to the relations.
@@ -100,3 +115,8 @@ wanted_of named u unit = wanted_by named unit.standing (location_of u.known.note
 abbrev pub HasByteOf : List NamedPlace → UnitsParts → List EditUnit → ℕ → Type 0
 HasByteOf named u units x =
     ((unit : EditUnit) × In unit units × HasByte (wanted_of named u unit) x) × (x < greatest_end)
+
+-- An offset of those that are wanted lies there.
+abbrev pub HasByteBy : List NamedPlace → WantedParts → Option Extent → ℕ → Type 0
+HasByteBy named w None x = HasByteOf named w.units (wanted_units w) x
+HasByteBy named w (Some e) x = LiesBetween e.start e.end x × (x < greatest_end)

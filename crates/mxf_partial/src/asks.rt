@@ -7,37 +7,37 @@ ghost use Rattle.mxf_restore.specs.declared.named.NamedPlace.{NamedPlace};
 ghost use Rattle.mxf_views.specs.Rises.{RiseBy};
 ghost use Rattle.mxf_partial.specs.Asks.{IsAskedByIndex, IsAskedByUnit};
 ghost use Rattle.mxf_partial.specs.Named.{AreNamed, named_at};
+ghost use Rattle.mxf_partial.specs.Wanted.{notes_of};
 
 use crate::between::add_chosen;
 use crate::named::named_at;
 use crate::near::add_partitions;
 use crate::questions::{limits_asked, numbers_unindexed, partitions_asked, ways_asked};
+use crate::wanted_units::WantedUnits;
 use crate::ways::add_ways;
 use mxf_klv::OutOfMemory;
 use mxf_restore::NamedPlace;
-use mxf_units::{UnitRange, Units};
 use std::alloc::Global;
 
 /// The places that are asked for, rising. Those where the index may go on come only if that is looked for. They take
 /// memory.
 pub(crate) fn asked_places(
     alloc: Global,
-    units: &Units<'_>,
-    range: UnitRange,
+    wanted: &WantedUnits<'_>,
     named: &[NamedPlace],
     is_index_sought: bool,
 ) -> Result<Vec<NamedPlace>, OutOfMemory>
-    requires { AreNamed units.now.known.notes named.now }
+    requires { AreNamed (notes_of wanted.now) named.now }
     ensures members { IfOk result (λ v. (n : NamedPlace) → In n v.items
-        ↔ (IsAskedByUnit (record { units = units.now; first = range.first; count = range.count }) n.place n.source
+        ↔ (IsAskedByUnit wanted.now n.place n.source
         ⊎ ((is_index_sought ≡ true)
-        × IsAskedByIndex (record { units = units.now; first = range.first; count = range.count }) n.place n.source))) }
+        × IsAskedByIndex wanted.now n.place n.source))) }
     ensures rising { IfOk result (λ v. IsNonDecreasingBy (λ n. n.place) v.items) }
 {
-    let mut asked = asked_by_units(alloc, units, range, named)?;
+    let mut asked = asked_by_units(alloc, wanted, named)?;
     if is_index_sought {
-        let numbers = numbers_unindexed(alloc, units, range)?;
-        add_chosen(alloc, &mut asked, units, named, &numbers)?;
+        let numbers = numbers_unindexed(alloc, wanted.wanted())?;
+        add_chosen(alloc, &mut asked, wanted.units(), named, &numbers)?;
     }
     Ok(in_order(asked))
 }
@@ -45,20 +45,20 @@ pub(crate) fn asked_places(
 /// The places that units ask for. They take memory.
 fn asked_by_units(
     alloc: Global,
-    units: &Units<'_>,
-    range: UnitRange,
+    wanted: &WantedUnits<'_>,
     named: &[NamedPlace],
 ) -> Result<Vec<NamedPlace>, OutOfMemory>
-    requires { AreNamed units.now.known.notes named.now }
+    requires { AreNamed (notes_of wanted.now) named.now }
     ensures { IfOk result (λ v. (n : NamedPlace) → In n v.items
-        ↔ IsAskedByUnit (record { units = units.now; first = range.first; count = range.count }) n.place n.source) }
+        ↔ IsAskedByUnit wanted.now n.place n.source) }
 {
+    let units = wanted.units();
     let mut asked = Vec::new(alloc);
-    let partitions = partitions_asked(alloc, units, range)?;
+    let partitions = partitions_asked(alloc, wanted)?;
     add_partitions(alloc, &mut asked, units, named, &partitions)?;
-    let ways = ways_asked(alloc, units, range)?;
+    let ways = ways_asked(alloc, wanted)?;
     add_ways(alloc, &mut asked, units, &ways)?;
-    let limits = limits_asked(alloc, units, range)?;
+    let limits = limits_asked(alloc, wanted)?;
     add_limits(&mut asked, named, &limits)?;
     Ok(asked)
 }

@@ -19,7 +19,8 @@
 //! ```
 //! let units = Units::of(alloc, &views, &at_hand, index_sid)?;
 //! if let Some(range) = UnitRange::new(from, to) {
-//!     let plan = UnitPlan::of(alloc, &units, range)?;
+//!     let wanted = WantedUnits::of_range(alloc, &units, range)?;
+//!     let plan = UnitPlan::of(alloc, &wanted)?;
 //!     for order in plan.orders() {
 //!         println!(rt; "{} from {}", order.reason, order.start)?;
 //!     }
@@ -40,6 +41,8 @@ mod plan;
 mod questions;
 mod streams;
 mod wanted;
+mod wanted_units;
 mod ways;
 
 pub use plan::UnitPlan;
+pub use wanted_units::WantedUnits;

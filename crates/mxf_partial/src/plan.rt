@@ -15,19 +15,20 @@ ghost use Rattle.mxf_partial.specs.Named.{AreNamed};
 ghost use Rattle.mxf_places.specs.declared.reason.Reason.{Reason};
 ghost use Rattle.mxf_partial.specs.Orders.{IsFindingOrder, IsOrdered, IsUnitPlan, UnitPlanParts, is_described};
 ghost use Rattle.mxf_partial.specs.Orders.{known_end, unit_order};
-ghost use Rattle.mxf_partial.specs.Wanted.{IsWantedByte, WantedParts, are_indexed, is_indexed};
+ghost use Rattle.mxf_partial.specs.Wanted.{IsWantedByte, WantedParts, are_indexed, is_indexed, notes_of};
 
 mod metadata;
 
 use crate::asks::asked_places;
 use crate::leads::{add_fronts, helping_orders};
 use crate::wanted::{add_extent, wanted_bytes};
+use crate::wanted_units::WantedUnits;
 pub use metadata::metadata_plan_by_definition;
 use mxf_catalogue::{Cover, Semilattice};
 use mxf_klv::{MAX, OutOfMemory, sort_once};
 use mxf_places::{AtHand, Claim, OffsetRange, Reason, claims, ranges_lacking};
 use mxf_restore::{NamedPlace, Order, SectionOrders, is_again, named_places, sections};
-use mxf_units::{Extent, UnitRange, UnitStanding, Units, UnitsLeft};
+use mxf_units::{Extent, UnitStanding, Units};
 use mxf_views::Views;
 use std::alloc::Global;
 use std::marker::Model;
@@ -52,18 +53,18 @@ impl Model for UnitPlan {
 }
 
 impl UnitPlan {
-    /// What to restore for the units of a range, and for the key frames that they name. It takes memory: n log n of the
-    /// notes, the runs at hand, the index entries and the units, as its time does.
-    pub fn of(alloc: Global, units: &Units<'_>, range: UnitRange) -> Result<UnitPlan, OutOfMemory>
-        ensures { IfOk result (λ p. IsUnitPlan
-            (record { units = units.now; first = range.first; count = range.count }) p) }
+    /// What to restore for some wanted units. It takes memory: n log n of the notes, the runs at hand, the index
+    /// entries and the units, as its time does.
+    pub fn of(alloc: Global, wanted: &WantedUnits<'_>) -> Result<UnitPlan, OutOfMemory>
+        ensures { IfOk result (λ p. IsUnitPlan wanted.now p) }
     {
+        let units = wanted.units();
         let claims = claims(alloc, units.holdings())?;
         let named = named_places(alloc, units.holdings(), &claims)?;
-        let mut orders = finding_orders(alloc, units, range, &claims, &named)?;
+        let mut orders = finding_orders(alloc, wanted, &claims, &named)?;
         let there = there(alloc, units, &orders)?;
-        let wanted = wanted_bytes(alloc, units, range, &named)?;
-        add_unit_orders(alloc, &mut orders, units.at_hand(), &wanted, &there)?;
+        let bytes = wanted_bytes(alloc, wanted, &named)?;
+        add_unit_orders(alloc, &mut orders, units.at_hand(), &bytes, &there)?;
         Ok(UnitPlan {
             orders: in_order(orders),
             end: units.holdings().end(),
@@ -87,10 +88,10 @@ impl UnitPlan {
 }
 
 /// Whether the header metadata need not be restored: the preferred copy is finished, and each wanted unit is indexed.
-fn is_described(units: &Units<'_>, range: UnitRange) -> bool
-    ensures { result ≡ is_described (record { units = units.now; first = range.first; count = range.count }) }
+fn is_described(wanted: &WantedUnits<'_>) -> bool
+    ensures { result ≡ is_described wanted.now }
 {
-    has_finished_copy(units.holdings().views()) && are_indexed(units, range)
+    has_finished_copy(wanted.units().holdings().views()) && are_indexed(wanted)
 }
 
 /// Whether the preferred copy is finished.
@@ -104,10 +105,10 @@ fn has_finished_copy(views: &Views) -> bool
 }
 
 /// Whether each wanted unit is indexed.
-fn are_indexed(units: &Units<'_>, range: UnitRange) -> bool
-    ensures { result ≡ are_indexed (record { units = units.now; first = range.first; count = range.count }) }
+fn are_indexed(wanted: &WantedUnits<'_>) -> bool
+    ensures { result ≡ are_indexed wanted.now }
 {
-    UnitsLeft::with_keys(units, range).all(|unit| is_indexed(unit.standing))
+    wanted.wanted().iter().all(|unit| is_indexed(unit.standing))
 }
 
 /// Whether a segment of the index gives a unit a place that stands so.
@@ -120,22 +121,21 @@ fn is_indexed(standing: UnitStanding) -> bool
 /// What is restored to find partitions and index table segments. It takes memory.
 fn finding_orders(
     alloc: Global,
-    units: &Units<'_>,
-    range: UnitRange,
+    wanted: &WantedUnits<'_>,
     claims: &[Claim],
     named: &[NamedPlace],
 ) -> Result<Vec<Order>, OutOfMemory>
-    requires claims { claims.now ≡ claims_of units.now.known.notes }
-    requires named { AreNamed units.now.known.notes named.now }
-    ensures { IfOk result (λ v. (o : Order) → In o v.items ↔ IsFindingOrder
-        (record { units = units.now; first = range.first; count = range.count }) o) }
+    requires claims { claims.now ≡ claims_of (notes_of wanted.now) }
+    requires named { AreNamed (notes_of wanted.now) named.now }
+    ensures { IfOk result (λ v. (o : Order) → In o v.items ↔ IsFindingOrder wanted.now o) }
 {
-    let is_described = is_described(units, range);
+    let units = wanted.units();
+    let is_described = is_described(wanted);
     let sections = sections(alloc, units.holdings(), claims)?;
     let section_orders = SectionOrders::of(alloc, units.holdings(), units.at_hand(), claims)?;
     let mut orders = helping_orders(alloc, &section_orders, &sections, is_described)?;
     let is_index_sought = is_none(&orders);
-    let asked = asked_places(alloc, units, range, named, is_index_sought)?;
+    let asked = asked_places(alloc, wanted, named, is_index_sought)?;
     add_fronts(
         alloc,
         &mut orders,

@@ -4,21 +4,25 @@ ghost use Rattle.std.specs.List.{filter_map};
 ghost use Rattle.mxf_partial.specs.Questions.{limit_asked, partition_asked, number_unindexed, way_asked};
 ghost use Rattle.mxf_partial.specs.Wanted.{wanted_units};
 
+use crate::wanted_units::WantedUnits;
 use mxf_klv::OutOfMemory;
-use mxf_units::{EditUnit, Location, UnitRange, UnitStanding, Units, UnitsLeft};
+use mxf_units::{EditUnit, Location, UnitStanding, Units};
 use mxf_views::StreamPlace;
 use std::alloc::Global;
 
 /// The places of the units whose partition isn't held, or not known to be. They take memory.
 pub(crate) fn partitions_asked(
     alloc: Global,
-    units: &Units<'_>,
-    range: UnitRange,
+    wanted: &WantedUnits<'_>,
 ) -> Result<Vec<StreamPlace>, OutOfMemory>
-    ensures { IfOk result (λ v. v.items ≡ filter_map (partition_asked units.now)
-        (wanted_units (record { units = units.now; first = range.first; count = range.count }))) }
+    ensures { IfOk result (λ v. v.items ≡ filter_map (partition_asked wanted.now.units)
+        (wanted_units wanted.now)) }
 {
-    let asked = UnitsLeft::with_keys(units, range).filter_map(|unit| partition_asked(units, &unit));
+    let units = wanted.units();
+    let asked = wanted
+        .wanted()
+        .iter()
+        .filter_map(|unit| partition_asked(units, unit));
     Ok(asked.collect(alloc)?)
 }
 
@@ -35,13 +39,16 @@ fn partition_asked(units: &Units<'_>, unit: &EditUnit) -> Option<StreamPlace>
 /// The places of the units whose partition has no first packet of essence, as far as is known. They take memory.
 pub(crate) fn ways_asked(
     alloc: Global,
-    units: &Units<'_>,
-    range: UnitRange,
+    wanted: &WantedUnits<'_>,
 ) -> Result<Vec<StreamPlace>, OutOfMemory>
-    ensures { IfOk result (λ v. v.items ≡ filter_map (way_asked units.now)
-        (wanted_units (record { units = units.now; first = range.first; count = range.count }))) }
+    ensures { IfOk result (λ v. v.items ≡ filter_map (way_asked wanted.now.units)
+        (wanted_units wanted.now)) }
 {
-    let asked = UnitsLeft::with_keys(units, range).filter_map(|unit| way_asked(units, &unit));
+    let units = wanted.units();
+    let asked = wanted
+        .wanted()
+        .iter()
+        .filter_map(|unit| way_asked(units, unit));
     Ok(asked.collect(alloc)?)
 }
 
@@ -56,15 +63,15 @@ fn way_asked(units: &Units<'_>, unit: &EditUnit) -> Option<StreamPlace>
 }
 
 /// The limits of the essence zones, in bytes, below which an unknown partition may lie. They take memory.
-pub(crate) fn limits_asked(
-    alloc: Global,
-    units: &Units<'_>,
-    range: UnitRange,
-) -> Result<Vec<u64>, OutOfMemory>
-    ensures { IfOk result (λ v. v.items ≡ filter_map (limit_asked units.now)
-        (wanted_units (record { units = units.now; first = range.first; count = range.count }))) }
+pub(crate) fn limits_asked(alloc: Global, wanted: &WantedUnits<'_>) -> Result<Vec<u64>, OutOfMemory>
+    ensures { IfOk result (λ v. v.items ≡ filter_map (limit_asked wanted.now.units)
+        (wanted_units wanted.now)) }
 {
-    let asked = UnitsLeft::with_keys(units, range).filter_map(|unit| limit_asked(units, &unit));
+    let units = wanted.units();
+    let asked = wanted
+        .wanted()
+        .iter()
+        .filter_map(|unit| limit_asked(units, unit));
     Ok(asked.collect(alloc)?)
 }
 
@@ -78,16 +85,11 @@ fn limit_asked(units: &Units<'_>, unit: &EditUnit) -> Option<u64>
     }
 }
 
-/// The numbers of the units to which no segment gives a place, rising. They take memory.
-pub(crate) fn numbers_unindexed(
-    alloc: Global,
-    units: &Units<'_>,
-    range: UnitRange,
-) -> Result<Vec<u64>, OutOfMemory>
-    ensures { IfOk result (λ v. v.items ≡ filter_map number_unindexed
-        (wanted_units (record { units = units.now; first = range.first; count = range.count }))) }
+/// The numbers of those of the units to which no segment gives a place. They take memory.
+pub(crate) fn numbers_unindexed(alloc: Global, units: &[EditUnit]) -> Result<Vec<u64>, OutOfMemory>
+    ensures { IfOk result (λ v. v.items ≡ filter_map number_unindexed units.now) }
 {
-    let asked = UnitsLeft::with_keys(units, range).filter_map(|unit| number_unindexed(&unit));
+    let asked = units.iter().filter_map(number_unindexed);
     Ok(asked.collect(alloc)?)
 }
 

@@ -3,32 +3,49 @@ ghost use Rattle.std.specs.Prelude.{◌≡◌, ◌↔◌, ◌⊎◌, ◌<◌, �
 ghost use Rattle.mxf_klv.specs.Note.{greatest_end};
 ghost use Rattle.mxf_catalogue.specs.Runs.{LiesIn};
 ghost use Rattle.mxf_views.specs.Rises.{RiseBy};
-ghost use Rattle.mxf_units.specs.Ranges.{units_with_keys};
-ghost use Rattle.mxf_partial.specs.Wanted.{HasByte, HasByteOf, is_limit_named, reach_of, wanted_at, wanted_of};
+ghost use Rattle.mxf_partial.specs.Wanted.{HasByte, HasByteBy, HasByteOf, is_limit_named, reach_of, wanted_at};
+ghost use Rattle.mxf_partial.specs.Wanted.{wanted_of, wanted_units};
 
 use crate::named::is_named;
+use crate::wanted_units::WantedUnits;
 use mxf_catalogue::Cover;
 use mxf_klv::{MAX, OutOfMemory};
 use mxf_restore::NamedPlace;
-use mxf_units::{EditUnit, Extent, Location, UnitRange, UnitStanding, Units, UnitsLeft};
+use mxf_units::{EditUnit, Extent, Location, UnitStanding, Units};
 use std::alloc::Global;
 
 /// The offsets of the bytes that are wanted, as far as files reach. They take memory.
 pub(crate) fn wanted_bytes(
     alloc: Global,
-    units: &Units<'_>,
-    range: UnitRange,
+    wanted: &WantedUnits<'_>,
     named: &[NamedPlace],
 ) -> Result<Cover, OutOfMemory>
     requires { RiseBy (λ n. n.place) named.now }
-    ensures { IfOk result (λ c. (x : ℕ) → LiesIn c x ↔ HasByteOf named.now units.now
-        (units_with_keys units.now range.first range.count) x) }
+    ensures { IfOk result (λ c. (x : ℕ) → LiesIn c x ↔ HasByteBy named.now wanted.now wanted.now.bytes x) }
 {
-    let mut wanted = Cover::new(alloc);
-    for unit in UnitsLeft::with_keys(units, range) {
-        add_extent(&mut wanted, wanted_of(named, units, &unit))?;
+    let mut bytes = Cover::new(alloc);
+    match wanted.bytes() {
+        Some(extent) => add_extent(&mut bytes, Some(extent))?,
+        None => add_each(&mut bytes, wanted, named)?,
     }
-    Ok(wanted)
+    Ok(bytes)
+}
+
+/// Adds the bytes that are wanted of each unit, as far as files reach.
+fn add_each(
+    bytes: &mut Cover,
+    wanted: &WantedUnits<'_>,
+    named: &[NamedPlace],
+) -> Result<(), OutOfMemory>
+    requires { RiseBy (λ n. n.place) named.now }
+    ensures { OnOk result ((x : ℕ) → LiesIn bytes.new x
+        ↔ (LiesIn bytes.old x ⊎ HasByteOf named.now wanted.now.units (wanted_units wanted.now) x)) }
+{
+    let units = wanted.units();
+    for unit in wanted.wanted() {
+        add_extent(bytes, wanted_of(named, units, unit))?;
+    }
+    Ok(())
 }
 
 /// The bytes that are wanted of a unit, if some are.

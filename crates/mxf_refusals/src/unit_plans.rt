@@ -3,7 +3,7 @@ use crate::additions::in_views;
 use crate::files::{M, SEGMENT};
 use crate::units::{add_piece, units_of};
 use mxf_klv::OutOfMemory;
-use mxf_partial::UnitPlan;
+use mxf_partial::{UnitPlan, WantedUnits};
 use mxf_places::{AtHand, Holdings, Reason};
 use mxf_restore::Order;
 use mxf_units::{UnitRange, Units};
@@ -16,10 +16,16 @@ fn unit_plan_of(
     units: &Units<'_>,
     range: UnitRange,
 ) -> Result<UnitPlan, OutOfMemory> {
-    match UnitPlan::of(alloc, units, range) {
+    match unit_plan(alloc, units, range) {
         Ok(plan) => Ok(plan),
-        Err(OutOfMemory) => UnitPlan::of(alloc, units, range),
+        Err(OutOfMemory) => unit_plan(alloc, units, range),
     }
+}
+
+/// What to restore for units.
+fn unit_plan(alloc: Global, units: &Units<'_>, range: UnitRange) -> Result<UnitPlan, OutOfMemory> {
+    let wanted = WantedUnits::of_range(alloc, units, range)?;
+    UnitPlan::of(alloc, &wanted)
 }
 
 /// Whether the footer is ordered, and nothing else.

@@ -77,7 +77,7 @@ pub fn find<'a>(alloc: Global) -> Result<Command<'a>, AllocError> {
 
 fn whole<'a>(alloc: Global) -> Arg<'a> {
     let help =
-        "Ends with status 1 if a byte is unverified or unknown; with --index if a unit isn't verified";
+        "Ends with status 1 if a byte is unverified or unknown; of edit units, if one isn't verified";
     flag(alloc, "whole", help)
 }
 

@@ -42,8 +42,8 @@ pub fn locate<'a>(alloc: Global) -> Result<Command<'a>, AllocError> {
 pub fn units<'a>(alloc: Global) -> Result<Command<'a>, AllocError> {
     let about = "Prints where edit units lie in the file, and which of them are held";
     let units = named(alloc, "units", about, UNITS_HELP);
-    let units = with_args(units, index_of_units(alloc), timecode(alloc))?;
-    with_sources(alloc, with_units(alloc, units)?)
+    let units = with_units(alloc, units.arg(index_of_units(alloc))?)?;
+    with_sources(alloc, units.arg(timecode(alloc))?)
 }
 
 fn index<'a>(alloc: Global) -> Arg<'a> {

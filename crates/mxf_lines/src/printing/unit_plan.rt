@@ -3,7 +3,6 @@ ghost use Rattle.std.specs.Prelude.{◌≡◌, ◌↔◌, ◌==◌, ◌+◌, ◌
 ghost use Rattle.std.specs.List.{list_any};
 ghost use Rattle.mxf_klv.specs.Written.{Puts, Writes};
 ghost use Rattle.mxf_restore.specs.declared.disputes.Disputes.{Disputes};
-ghost use Rattle.mxf_units.specs.Ranges.{units_with_keys};
 ghost use Rattle.mxf_partial.specs.Orders.{IsUnitPlan, UnitPlanParts};
 ghost use Rattle.mxf_partial.specs.Wanted.{WantedParts};
 ghost use Rattle.mxf_lines.specs.Printing.{Prints};
@@ -15,9 +14,9 @@ use super::lines::{Each, Printer, Then, print_with_status};
 use super::plan::PlannedLine;
 use super::units::UnitsLine;
 use mxf_forms::Form;
-use mxf_partial::UnitPlan;
+use mxf_partial::{UnitPlan, WantedUnits};
 use mxf_restore::{Disputes, Order};
-use mxf_units::{EditUnit, UnitRange, UnitStanding, Units, UnitsLeft};
+use mxf_units::{EditUnit, UnitRange, UnitStanding, Units};
 use std::alloc::Global;
 use std::io::Write;
 
@@ -40,8 +39,9 @@ pub fn print_unit_plan<W: Write>(
     ensures status { (p : UnitPlanParts) → IsUnitPlan (wanted_of units.now range) p
         → IfOk result (λ status. status ≡ unit_plan_status (wanted_of units.now range) p) }
 {
-    let plan = UnitPlan::of(alloc, units, range)?;
-    print_planned(alloc, units, range, &plan, form, writer)
+    let wanted = WantedUnits::of_range(alloc, units, range)?;
+    let plan = UnitPlan::of(alloc, &wanted)?;
+    print_planned(alloc, units, range, &wanted, &plan, form, writer)
 }
 
 /// Prints a plan that orders header metadata alone, in a form, and answers 1.
@@ -80,16 +80,18 @@ fn print_planned<W: Write>(
     alloc: Global,
     units: &Units<'_>,
     range: UnitRange,
+    wanted: &WantedUnits<'_>,
     plan: &UnitPlan,
     form: Form,
     writer: &mut W,
 ) -> Result<u8, AnswerFault>
+    requires { wanted.now ≡ wanted_of units.now range }
     ensures lines { Prints form (Writes (W.contents writer.old) (W.contents writer.new)) result
         (unit_plan_lines (wanted_of units.now range) plan.now) }
     ensures status { IfOk result (λ status. status ≡ unit_plan_status (wanted_of units.now range) plan.now) }
 {
     let mut printer = Printer::new(alloc, form);
-    print_plan_lines(&mut printer, writer, units, range, plan)
+    print_plan_lines(&mut printer, writer, units, range, wanted, plan)
 }
 
 /// Prints the orders of a plan, the disputed packets if units wait for bytes, how many orders there are, and how the
@@ -99,15 +101,17 @@ fn print_plan_lines<W: Write>(
     writer: &mut W,
     units: &Units<'_>,
     range: UnitRange,
+    wanted: &WantedUnits<'_>,
     plan: &UnitPlan,
 ) -> Result<u8, AnswerFault>
+    requires { wanted.now ≡ wanted_of units.now range }
     ensures lines { Prints printer.old.fields.form
         (Puts W.contents writer.old writer.new printer.old.progress printer.new.progress)
         result (unit_plan_lines (wanted_of units.now range) plan.now) }
     ensures status { IfOk result (λ status. status ≡ unit_plan_status (wanted_of units.now range) plan.now) }
 {
     let last = UnitsLine::of(units, range);
-    let disputes = told_disputes(units, range);
+    let disputes = told_disputes(wanted);
     let orders = plan.orders();
     let end = plan.end();
     let planned = Then(PlannedLine { orders, end }, last);
@@ -116,25 +120,20 @@ fn print_plan_lines<W: Write>(
 }
 
 /// The disputed packets, unless all bytes of each wanted unit are held or at hand.
-fn told_disputes(units: &Units<'_>, range: UnitRange) -> Option<Disputes>
-    ensures { result ≡ told_disputes (wanted_of units.now range) }
+fn told_disputes(wanted: &WantedUnits<'_>) -> Option<Disputes>
+    ensures { result ≡ told_disputes wanted.now }
 {
-    if !is_any_open(units, range) {
+    if !is_any_open(wanted.wanted()) {
         return None;
     }
-    Disputes::of(units.holdings().views().catalogue())
+    Disputes::of(wanted.units().holdings().views().catalogue())
 }
 
-/// Whether a unit of a range, or one before it that it needs, isn't held or at hand whole.
-fn is_any_open(units: &Units<'_>, range: UnitRange) -> bool
-    ensures { result ≡ list_any is_open (units_with_keys units.now range.first range.count) }
+/// Whether one of the units isn't held or at hand whole.
+fn is_any_open(units: &[EditUnit]) -> bool
+    ensures { result ≡ list_any is_open units.now }
 {
-    for unit in UnitsLeft::with_keys(units, range) {
-        if is_open(&unit) {
-            return true;
-        }
-    }
-    false
+    units.iter().any(is_open)
 }
 
 /// Whether not all bytes of a unit are held or at hand.

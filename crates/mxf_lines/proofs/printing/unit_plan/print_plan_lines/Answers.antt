@@ -1,5 +1,5 @@
 use Rattle.std.proofs.Common.{◌≡◌, ◌∙◌, ◌==◌, ◌+◌, ◌++◌, ◌&&◌, ◌∷◌, [], ℕ, IfOk, count_by, flat_map, if◌then◌else◌}
-use Rattle.std.proofs.Common.{is_none, length, subst, sum_by, sym}
+use Rattle.std.proofs.Common.{ap, is_none, length, subst, sum_by, sym}
 use Rattle.mxf_klv.specs.Written.{Puts}
 use Rattle.mxf_restore.specs.declared.disputes.Disputes.{Disputes}
 use Rattle.mxf_restore.specs.declared.plan.Order.{Order}
@@ -7,7 +7,7 @@ use Rattle.mxf_lines.specs.Lines.{lines_where}
 use Rattle.mxf_lines.specs.PlanLines.{disputes_line, ordered_bytes, planned_line, restore_line}
 use Rattle.mxf_lines.specs.Printing.{Prints}
 use Rattle.mxf_lines.specs.UnitLines.{units_line}
-use Rattle.mxf_lines.specs.UnitPlanLines.{told_units, unit_plan_lines, unit_plan_status, wanted_of}
+use Rattle.mxf_lines.specs.UnitPlanLines.{told_disputes, told_units, unit_plan_lines, unit_plan_status, wanted_of}
 use Rattle.mxf_lines.proofs.UnitLineLaws.{units_length}
 use Rattle.mxf_lines.proofs.printing.unit_plan.print_plan_lines.Goals as goal
 
@@ -20,7 +20,7 @@ returns-clause-lines g c =
     let many : last.units ≡ length us = told.units ∙ sym (units_length w.units w.first w.count) in
     let orders = c.orders-orders.ensures in
     let end = c.end-end.ensures in
-    let disputes = c.told_disputes-disputes.ensures in
+    let disputes = c.told_disputes-disputes.ensures ∙ ap told_disputes c.requires in
     let same : flat_map (λ (o : Order). restore_line o ∷ []) c.orders-orders.result.now
     ++ (lines_where (λ (d : Disputes). disputes_line d ∷ []) c.told_disputes-disputes.result
     ++ (planned_line (length c.orders-orders.result.now) (sum_by ordered_bytes c.orders-orders.result.now)
@@ -43,7 +43,7 @@ returns-clause-status g c =
     let told = c.of-last.ensures in
     let many : last.units ≡ length us = told.units ∙ sym (units_length w.units w.first w.count) in
     let orders = c.orders-orders.ensures in
-    let disputes = c.told_disputes-disputes.ensures in
+    let disputes = c.told_disputes-disputes.ensures ∙ ap told_disputes c.requires in
     let same : c.status_of.result ≡ unit_plan_status w c.args.plan.now = c.status_of.ensures
     ∙ (λ i. if length (orders i) == 0
     && is_none (disputes i) then (if told.held i + told.hand i == many i then 0 else 1) else 1) in

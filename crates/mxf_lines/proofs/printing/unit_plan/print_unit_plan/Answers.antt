@@ -1,16 +1,24 @@
 use Rattle.mxf_views.proofs.Common.{◌≡◌, ◌<◌, ℕ, IfOk, arith, length, length-append, rules, subst, err_from_is_err_and}
 use Rattle.mxf_views.proofs.Common.{Writes}
 use Rattle.mxf_partial.proofs.UnitPlanLaws.{one_plan}
-use Rattle.mxf_partial.specs.Orders.{UnitPlanParts}
+use Rattle.mxf_partial.specs.Orders.{IsUnitPlan, UnitPlanParts}
+use Rattle.mxf_partial.specs.Wanted.{WantedParts}
 use Rattle.mxf_lines.specs.Printing.{Prints}
 use Rattle.mxf_lines.specs.UnitPlanLines.{unit_plan_lines, unit_plan_status, wanted_of}
 use Rattle.mxf_lines.proofs.printing.unit_plan.print_unit_plan.Goals as goal
+
+pub returns-in_err-wanted-clause-lines : goal.returns-in_err-wanted-clause-lines
+returns-in_err-wanted-clause-lines g c = λ p is.
+    let lines = unit_plan_lines (wanted_of c.args.units.now c.args.range) p in
+    let some : 0 < length lines = simp length-append (omega arith) in
+    let e = err_from_is_err_and c.from_residual.result c.from_residual.ensures.1 in
+    rw (e.1, e.2) (0, some, search rules)
 
 pub returns-in_err-plan-clause-lines : goal.returns-in_err-plan-clause-lines
 returns-in_err-plan-clause-lines g c = λ p is.
     let lines = unit_plan_lines (wanted_of c.args.units.now c.args.range) p in
     let some : 0 < length lines = simp length-append (omega arith) in
-    let e = err_from_is_err_and c.from_residual.result c.from_residual.ensures.1 in
+    let e = err_from_is_err_and c.from_residual-in_err-plan.result c.from_residual-in_err-plan.ensures.1 in
     rw (e.1, e.2) (0, some, search rules)
 
 pub returns-clause-lines : goal.returns-clause-lines
@@ -18,10 +26,10 @@ returns-clause-lines g c = λ p is.
     let w = wanted_of c.args.units.now c.args.range in
     subst (λ (k : UnitPlanParts). Prints c.args.form (Writes {X = Unit {0}} (g.W.Write.contents c.args.writer.now)
     (g.W.Write.contents c.print_planned.new.writer)) c.print_planned.result (unit_plan_lines w k))
-    (one_plan w c.in_ok-plan.plan p c.in_ok-plan.ensures is) c.print_planned.ensures.lines
+    (one_plan w c.in_ok-plan.plan p (subst (λ (v : WantedParts). IsUnitPlan v c.in_ok-plan.plan) c.in_ok-wanted.ensures c.in_ok-plan.ensures) is) c.print_planned.ensures.lines
 
 pub returns-clause-status : goal.returns-clause-status
 returns-clause-status g c = λ p is.
     let w = wanted_of c.args.units.now c.args.range in
     subst (λ (k : UnitPlanParts). IfOk c.print_planned.result (λ (s : ℕ). s ≡ unit_plan_status w k))
-    (one_plan w c.in_ok-plan.plan p c.in_ok-plan.ensures is) c.print_planned.ensures.status
+    (one_plan w c.in_ok-plan.plan p (subst (λ (v : WantedParts). IsUnitPlan v c.in_ok-plan.plan) c.in_ok-wanted.ensures c.in_ok-plan.ensures) is) c.print_planned.ensures.status

@@ -1,0 +1,88 @@
+//! The edit units that are wanted of an index.
+ghost use Rattle.std.specs.Prelude.{◌≡◌, IfOk};
+ghost use Rattle.mxf_views.specs.Rises.{RiseBy};
+ghost use Rattle.mxf_units.specs.Ranges.{units_with_keys};
+ghost use Rattle.mxf_partial.specs.Wanted.{wanted_in};
+
+use mxf_klv::OutOfMemory;
+use mxf_units::{EditUnit, Extent, UnitRange, Units, UnitsLeft};
+use std::alloc::Global;
+use std::marker::Model;
+
+/// The edit units that are wanted of an index, each once, rising by their numbers.
+#[derive(Drop)]
+pub struct WantedUnits<'a> {
+    units: &'a Units<'a>,
+    /// Those that are asked for: so many from a first one on.
+    first: u64,
+    count: u64,
+    wanted: Vec<EditUnit>,
+    /// The bytes that are wanted in place of those of each unit, if there are some.
+    bytes: Option<Extent>,
+}
+
+impl<'a> Model for WantedUnits<'a> {
+    ghost use Rattle.mxf_views.specs.Rises.{RiseBy};
+    ghost use Rattle.mxf_partial.specs.Wanted.{WantedParts};
+
+    ghost Value = { WantedParts };
+
+    ghost view = { λ w. record {
+      units = w.units.now;
+      first = w.first;
+      count = w.count;
+      wanted = w.wanted.items;
+      bytes = w.bytes;
+    } };
+
+    ghost invariant = { λ w. RiseBy (λ u. u.number) w.wanted.items };
+}
+
+impl<'a> WantedUnits<'a> {
+    /// The units of a range, and those before them from the least key frame on that they name. They take memory.
+    pub fn of_range(
+        alloc: Global,
+        units: &'a Units<'a>,
+        range: UnitRange,
+    ) -> Result<WantedUnits<'a>, OutOfMemory>
+        ensures { IfOk result (λ w. w ≡ wanted_in units.now range.first range.count) }
+    {
+        let wanted = listed(alloc, units, range)?;
+        Ok(WantedUnits {
+            units,
+            first: range.first(),
+            count: range.count(),
+            wanted,
+            bytes: None,
+        })
+    }
+
+    /// All units of the index.
+    pub fn units(&self) -> &'a Units<'a>
+        ensures { result.now ≡ self.now.units }
+    {
+        self.units
+    }
+
+    /// The units that are wanted, rising by their numbers.
+    pub fn wanted(&self) -> &[EditUnit]
+        ensures is { result.now ≡ self.now.wanted }
+        ensures rising { RiseBy (λ u. u.number) result.now }
+    {
+        &self.wanted
+    }
+
+    /// The bytes that are wanted in place of those of each unit, if there are some.
+    pub(crate) fn bytes(&self) -> Option<Extent>
+        ensures { result ≡ self.now.bytes }
+    {
+        self.bytes
+    }
+}
+
+/// The units of a range, and those before them from the least key frame on that they name. They take memory.
+fn listed(alloc: Global, units: &Units<'_>, range: UnitRange) -> Result<Vec<EditUnit>, OutOfMemory>
+    ensures { IfOk result (λ v. v.items ≡ units_with_keys units.now range.first range.count) }
+{
+    Ok(UnitsLeft::with_keys(units, range).collect(alloc)?)
+}
