@@ -172,14 +172,33 @@ def contents_of_units(count: int) -> list[list[notes.Note]]:
     return [found]
 
 
-def listed(count: int) -> list[bytes]:
-    """`count` segments that list 250 edit units each, one after the other, after a body partition and the first packet
-    of its essence, so that each unit is looked for in the file."""
-    parts = [pack(0, 0, 0), pack(1, PACK, 0, body_sid=2), essence_packet(VALUE)]
+def segments(count: int, entry: Callable[[int], str]) -> list[bytes]:
+    """`count` segments that list 250 edit units each, one after the other."""
+    parts = []
     for number in range(count):
         start = LISTED * number
-        offsets = ",".join(str(UNIT * unit) for unit in range(start, start + LISTED))
-        parts.append(laid(f"segment start={start} duration={LISTED} entries={offsets}"))
+        entries = ",".join(entry(unit) for unit in range(start, start + LISTED))
+        parts.append(laid(f"segment start={start} duration={LISTED} entries={entries}"))
+    return parts
+
+
+def listed(count: int) -> list[bytes]:
+    """`count` segments of 250 edit units, after a body partition and the first packet of its essence, so that each unit
+    is looked for in the file."""
+    parts = [pack(0, 0, 0), pack(1, PACK, 0, body_sid=2), essence_packet(VALUE)]
+    return [b"".join(parts + segments(count, lambda unit: str(UNIT * unit)))]
+
+
+def timed(count: int) -> list[bytes]:
+    """The same with a clip in the header metadata that gives each edit unit its timecode. The pictures are stored in
+    another order than they are shown: the first, and then of each three the last one first."""
+    made, file = hostile_files.Made(), 1
+    track, shown = (made.track(2, hostile_files.PICTURE, [made.clip(name, 2, 0, LISTED * count)]) for name in (0, file))
+    packages = [made.package("36", 2, [made.clock(0), shown]), made.package("37", file, [track], 1)]
+    header = made.laid(hostile_files.references(packages))[0][1]
+    parts = [header, pack(1, len(header), 0, body_sid=2), essence_packet(VALUE)]
+    offsets = ("01", "01", "FE")
+    parts += segments(count, lambda unit: f"{offsets[(unit - 1) % 3] if unit else '00'}0000@{UNIT * unit}")
     return [b"".join(parts)]
 
 

@@ -165,11 +165,25 @@ def runs_of(packages, rates):
     return sorted({run for runs in told for run in runs if run}), by_material
 
 
+def runs_told(described, shown):
+    """The runs that these lines of `describe` and of `show` tell, and whether material packages give them."""
+    if not described[0].endswith(" finished"):
+        return [], False
+    return runs_of(packages_of(described), rates_of(shown))
+
+
+def timecode_at(runs, position):
+    """The timecode of a position, by the only one of these runs that has it; a hyphen if none or several have it."""
+    found = []
+    for _, first, number, is_endless, count, base, is_drop, step, passed in runs:
+        if first <= position and (is_endless or position < first + count):
+            found.append(label_of(int(number + (passed + (position - first) * step) // 1), base, is_drop))
+    return found[0] if len(found) == 1 else "-"
+
+
 def clock_lines(described, shown):
     """The lines `clock` that these lines of `describe` and of `show` go with."""
-    if not described[0].endswith(" finished"):
-        return []
-    runs, by_material = runs_of(packages_of(described), rates_of(shown))
+    runs, by_material = runs_told(described, shown)
     lines = []
     for index, first, number, is_endless, count, base, is_drop, step, passed in runs:
         last = "-" if is_endless else label_of(int(number + (passed + (count - 1) * step) // 1), base, is_drop)

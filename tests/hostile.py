@@ -18,7 +18,7 @@ them. Whole notes that version 1 of the file saved are shown, and joined with th
 version, or one with parts of both, is shown, or refused with its cause and place, by notes.py too.
 
 A file of a shape with many alike, and one of twice as many: no question takes more than two and a half times as long,
-and `describe` not more than 2.3 times.
+and `describe` and `units` with timecodes not more than 2.3 times.
 
 A file that is cut at a byte, and what begins with the packet in which that byte lies, leave its catalogue in both
 orders, as pieces and as saved catalogues.
@@ -38,17 +38,21 @@ import time
 
 import notes
 from hostile_files import (
-    MANY, SHAPES, TOP, differing_ranges, heads_over_bytes, listed_units, many_clips, many_clocks, many_components,
-    many_descriptors, many_packages, many_tracks, moved_packets, named_again, named_partitions, pieces_of,
+    MANY, SHAPES, TOP, clips_of_a_frame, differing_ranges, heads_over_bytes, listed_units, many_clips, many_clocks,
+    many_components, many_descriptors, many_packages, many_tracks, moved_packets, named_again, named_partitions,
+    pieces_of, runs_over_one_another, timed_units,
 )  # fmt: skip
 from hostile_runs import Run, Wrong, finds, is_shown, read_source, try_file, try_number, without_kind
 
 # The greatest ratio of two times, one of twice as many: n log n at these sizes is below 2.2, a square is 4.
 GREATEST_RATIO = 2.5
-# That of describe, which reads each set once.
-GREATEST_RATIO_OF_DESCRIBE = 2.3
+# That of describe, which reads each set once, and of units with timecodes, which are looked for in each run once.
+GREATEST_RATIO_OF_TIME = 2.3
 # The shapes of header metadata.
 DESCRIBED = (many_packages, many_tracks, many_components, many_descriptors, named_again, many_clocks, many_clips)
+# The shapes of clocks, and how units are asked for there. Each has the first timecode once.
+TIMED = (clips_of_a_frame, runs_over_one_another, timed_units)
+BY_TIME = ("units --index 1 --timecode", "units --index 1 --from 00:00:00:00 --to 00:00:00:00")
 # Seconds of processor time that a busy machine adds to a run: a ratio doesn't count them.
 NOISE = 0.05
 # How many copies of an example are sources of one run, a flipped bit in each, and how many bytes of it are tried so
@@ -151,7 +155,7 @@ def try_flips(run, name, length, places, beside):
 
 
 def seconds_of(run, shape, sources, size):
-    """The processor time of each question about sources of `size` bytes in a shape."""
+    """The processor time of each question about sources of `size` bytes in a shape, which is named by its words."""
     joined = str(run.folder / "joined")
     asked = {"show": [], "check": [], "locate": ["--index", "1", "--unit", "0"], "join": ["--out", joined]}
     if shape in (listed_units, named_partitions):
@@ -160,9 +164,16 @@ def seconds_of(run, shape, sources, size):
         asked.update(plan=[], map=[])
     if shape in DESCRIBED:
         asked.update(describe=[])
+    if shape in TIMED:
+        asked.update(dict.fromkeys(BY_TIME, []))
     if shape is moved_packets:
         asked = {"find": ["--in", sources[0]]}
-    return {name: run.call_once((0, 1), size, name, *words, *sources)[1] for name, words in asked.items()}
+    return {name: run.call_once((0, 1), size, *name.split(" "), *words, *sources)[1] for name, words in asked.items()}
+
+
+def is_linear(name, ratio):
+    """Whether the ratio of two times of a question isn't too great."""
+    return ratio <= (GREATEST_RATIO_OF_TIME if name == "describe" or name in BY_TIME else GREATEST_RATIO)
 
 
 def try_doubled(run, shape, many, seed):
@@ -179,7 +190,7 @@ def try_doubled(run, shape, many, seed):
         once, twice = least
         ratios = {name: (twice[name] - NOISE) / once[name] for name in once}
         run.ratio = max(ratios.values())
-        if run.ratio <= GREATEST_RATIO and ratios.get("describe", 0) <= GREATEST_RATIO_OF_DESCRIBE:
+        if all(is_linear(name, ratio) for name, ratio in ratios.items()):
             return
     raise Wrong(f"{many} and twice as many take {once} and {twice}")
 

@@ -23,11 +23,11 @@ class RangeOffset(int):
     """The offset of a range."""
 
 
-def laid(lines):
-    """The bytes of the packets of these lines, from offset 0 on."""
+def laid(lines, offset=0):
+    """The bytes of the packets of these lines, from an offset on."""
     data = bytearray()
     for line in lines:
-        data += packets.bytes_of(packets.packet(line, len(data)))
+        data += packets.bytes_of(packets.packet(line, offset + len(data)))
     return bytes(data)
 
 
@@ -304,11 +304,17 @@ class Made:
             self.a("23", _2701=uid(package) * 2, _3f06=f"{index:08x}", _3f07="00000001")
         return self.a(kind, _4401=uid(package) * 2, _4403=references(tracks))
 
-    def laid(self, packages, segments=()):
-        """A header partition of these sets, of which packages are named so, and index table segments behind it."""
+    def metadata(self, packages):
+        """Header metadata of these sets, of which packages are named so."""
         first = [set_of("2f", 1, _3b03=uid(2), _3b06=batch(0, 16)), set_of("18", 2, _1901=packages)]
-        data = laid(["primer"]) + b"".join(first + self.sets)
-        return [(0, laid([f"header header-bytes={len(data)}"]) + data + laid(segments))]
+        return laid(["primer"]) + b"".join(first + self.sets)
+
+    def laid(self, packages, lines=()):
+        """A header partition of these sets, of which packages are named so, and the packets of these lines behind it,
+        such as index table segments."""
+        metadata = self.metadata(packages)
+        data = laid([f"header header-bytes={len(metadata)}"]) + metadata
+        return [(0, data + laid(lines, len(data)))]
 
 
 def described(rng, packages, tracks, components, descriptors, is_one=False):
@@ -376,7 +382,7 @@ def named_again(rng, many=None):
 
 def some_clocks(rng):
     """A few packages that tell the time or have an index, mostly so that they go together, with rates, Origins, durations
-    and bases of all kinds, and segments of some of these rates."""
+    and bases of all kinds, and segments of some of these rates, at times with entries of pictures that are moved."""
     made, packages, files = Made(), [], [1 << 40 | number for number in range(rng.randint(1, 3))]
     other_rates = ("0000003200000002", "00007530000003e9", "0000bb8000000001", "0000003c00000001", "0000000000000001", "ffffffe700000001")
     rates = [RATE] * 6 + rng.sample(other_rates, rng.choice((0, 0, 1, 2)))
@@ -412,8 +418,11 @@ def some_clocks(rng):
         tracks = [seldom(time(), essence(4))] + [essence(track) for track in range(rng.randint(1, 3))]
         packages.append(made.package("36", 1 << 41 | name, tracks))
     lines = []
-    for _ in range(rng.choice((0, 1, 2))):
+    for _ in range(rng.choice((0, 1, 2, 2))):
         lines.append(f"segment index-sid={rng.choice((1, 2))} rate={seldom('25/1', '50/2', '48000/1', '0/1')}")
+        if rng.random() < 0.7:
+            entries = [f"{rng.choice((0, 0, 1, 2, 127, 128, 254, 255)):02X}0000@{unit}" for unit in range(rng.randint(1, 40))]
+            lines[-1] += f" start={rng.choice((0, 0, 1, 7, 1000))} duration={len(entries)} entries={','.join(entries)}"
     return made.laid(references(packages), lines)
 
 
@@ -441,6 +450,38 @@ def many_clips(rng, many=None):
     source = made.package("37", file, tracks, 1)
     segments = ["segment unit-bytes=1 start=0 duration=1"] * many
     return made.laid(references([material, source]), segments + ["segment rate=50/1 unit-bytes=1 start=0 duration=1"] * rng.randint(0, 1))
+
+
+def clips_of_a_frame(rng, many):
+    """Material packages of a thousand clips at most, each of one position, in any order, and units of one size: so each
+    timecode has a clip of its own."""
+    made, file, positions = Made(), 1 << 40, rng.sample(range(many), many)
+    packages = [made.package("37", file, [made.track(2, PICTURE, [made.clip(0, 0, 0)])], 1)]
+    for first in range(0, many, 1000):
+        clips = [made.clip(file, 2, position) for position in positions[first : first + 1000]]
+        packages.append(made.package("36", 1 << 41 | first, [made.clock(first), made.track(2, PICTURE, clips)]))
+    return made.laid(references(packages), [f"segment unit-bytes=1 duration={many}"])
+
+
+def runs_over_one_another(rng, many):
+    """As many material packages, each of a clip: every second one from position 0 on, the others up to the last
+    position, all with the same timecodes, and units of one size."""
+    made, file = Made(), 1 << 40
+    packages = [made.package("37", file, [made.track(2, PICTURE, [made.clip(0, 0, 0)])], 1)]
+    for number in range(many):
+        first, after = (number, many) if number % 2 else (0, number + 1)
+        tracks = [made.clock(first), made.track(2, PICTURE, [made.clip(file, 2, first, after - first)])]
+        packages.append(made.package("36", 1 << 41 | number, tracks))
+    return made.laid(references(packages), [f"segment unit-bytes=1 duration={many}"])
+
+
+def timed_units(rng, many):
+    """Units of a byte each in one packet of essence. A clip gives them their timecodes."""
+    made, file = Made(), 1 << 40
+    source = made.package("37", file, [made.track(2, PICTURE, [made.clip(0, 0, 0)])], 1)
+    material = made.package("36", 1 << 41, [made.clock(0), made.track(2, PICTURE, [made.clip(file, 2, 0, many)])])
+    lines = [f"segment unit-bytes=1 duration={many}", "body body-sid=2", f"essence {many}"]
+    return made.laid(references([material, source]), lines)
 
 
 def disputes(rng, many=None):
@@ -634,7 +675,7 @@ MANY = {
     counts: 10000, items: 5000, packs_that_name: 10000, circles: 5000, zones: 5000, copies: 5000,
     random_indexes: 10000, segments_of_a_unit: 10000, listed_units: 1000, named_partitions: 20000, long_primer: 32000, long_batches: 2000, named_by_all: 2000, named_by_turns: 1000,
     many_packages: 2000, many_tracks: 10000, many_components: 10000, many_descriptors: 10000, named_again: 2000,
-    many_clocks: 1000, many_clips: 2000,
+    many_clocks: 1000, many_clips: 2000, clips_of_a_frame: 10000, runs_over_one_another: 2000, timed_units: 100000,
     disputes: 20000, many_packets: 40000, saved_heads: 10000, under_one_another: 10000, labels_that_fail: 100000,
     differing_ranges: 10000, heads_over_bytes: 10000, named_one_by_one: 2000, moved_packets: 5000,
 }  # fmt: skip

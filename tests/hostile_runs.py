@@ -1,5 +1,6 @@
 """Runs of the program on hostile files, and what each has to print by notes.py and at_hand.py."""
 import bisect
+import collections
 import itertools
 import math
 import os
@@ -253,6 +254,28 @@ def pictures(pictured, content, hand):
     return words[0] == "map" and (int(words[3]), int(words[5]), int(words[13])) == (held, beside, len(notes.disputed(content)))
 
 
+def timecodes(run, size, described, shown, sources):
+    """Whether units of the first indexes that have a clock tell the timecodes that they show, where the first and the last
+    of their runs begin. A picture is stored as many units behind its position as the entry of that says (ST 377-1), 128
+    before it to 127 behind it. A unit shows what it stores if that is one position."""
+    runs, _ = clocks.runs_told(described, shown)
+    for index in sorted({told[0] for told in runs})[:3]:
+        own = [one for one in runs if one[0] == index]
+        for first in {own[0][1], own[-1][1]}:
+            span = max(first - 127, 0), min(first + 158, clocks.GREATEST_UNIT)
+            asked = ["--index", str(index), "--from", str(span[0]), "--to", str(span[1]), "--timecode"]
+            *units, _ = [line.split(" ") for line in run.call((0, 1), size, "units", *asked, *sources).splitlines()]
+            stored = collections.defaultdict(list)
+            for position, words in enumerate(units, span[0]):
+                unit = position + (0 if words[8] == "-" else int(words[8]))
+                stored[unit if 0 <= unit <= clocks.GREATEST_UNIT else position].append(position)
+            for unit, words in enumerate(units, span[0]):
+                told = clocks.timecode_at(own, *stored[unit]) if len(stored[unit]) == 1 else "-"
+                if first <= unit <= first + 30 and words[12] != told:
+                    return False
+    return True
+
+
 def try_pieces(run, rng, pieces):
     """Asks everything of the pieces. The answer is what they hold together."""
     size = sum(len(data) for _, data in pieces)
@@ -280,6 +303,8 @@ def try_pieces(run, rng, pieces):
         raise Wrong("what is described isn't counted, or the saved catalogue isn't described as its pieces are")
     if [line for line in described if line.startswith("clock ")] != clocks.clock_lines(described, shown):
         raise Wrong("the clocks aren't those of the packages and segments")
+    if not timecodes(run, size, described, shown, sources):
+        raise Wrong("units don't tell the timecodes of their clock")
     checked = run.call((0, 1), size, "check", *sources).splitlines()
     stops = list(stops_of(pieces, read, content))
     if checked[: len(stops)] != stops or checked[-1] != f"findings {len(checked) - len(stops) - 1}":

@@ -15,10 +15,13 @@ import importlib.machinery
 import importlib.util
 import itertools
 import json
+import math
 import pathlib
 import re
 import subprocess
 import sys
+
+import clocks
 
 TOP = pathlib.Path(__file__).resolve().parent.parent
 EMPTY = {"meta", "br", "hr", "img", "input", "link", "base", "source", "track", "wbr", "area", "col", "embed"}
@@ -117,6 +120,10 @@ class Page(html.parser.HTMLParser):
         """The rows of the table of this caption; none if it isn't there."""
         found = [table for table in self.tables if table.caption == caption and section in (None, table.section)]
         return found[0].rows if found else []
+
+    def all_rows(self, caption):
+        """The rows of all tables of this caption, one after another."""
+        return [row for table in self.tables if table.caption == caption for row in table.rows]
 
 
 def page_of(path):
@@ -297,17 +304,27 @@ def numbers_text(numbers, most, command):
     return ", ".join(map(str, numbers[:most])) + more
 
 
-def differences_of_orders(page, told):
+def plans_of(told, span):
+    """The orders of the whole recording, and those of the edit units that are named, by the captions of their tables."""
+    indexes = [["--index", str(index)] for index in indexes_of(told, span)] or [[]]
+    named = [line for index in indexes if span for line in told.lines("plan", *index, *span, name="restore")]
+    return {"Orders": told.lines("plan", name="restore"), "Orders for these edit units": named}
+
+
+def order_cells(line):
+    """The cells of an order, but for what is said of its bytes."""
+    length = None if line["end"] is None else line["end"] - line["start"]
+    form = f"{'range' if line['inside'] else 'at'}:{line['start']}:FILE"
+    return [*cells({**line, "length": length}, "start", "end", "length"), *cells(line, "source"), form]
+
+
+def differences_of_orders(page, told, span):
     """How the orders and the disputes differ."""
-    want = []
-    for line in told.lines("plan", name="restore"):
-        length = None if line["end"] is None else line["end"] - line["start"]
-        form = f"{'range' if line['inside'] else 'at'}:{line['start']}:FILE"
-        want.append([*cells({**line, "length": length}, "start", "end", "length"), *cells(line, "source"), form])
-    table = page.table("Orders")
-    kept = [[*row[:3], *row[4:]] for row in table]
-    if kept != want[:CUT]:
-        yield f"the orders are {kept}, not {want}"
+    for caption, orders in plans_of(told, span).items():
+        kept = [[*row[:3], *row[4:]] for row in page.all_rows(caption)]
+        want = [order_cells(line) for line in orders]
+        if kept != want[:CUT]:
+            yield f"{caption} are {kept}, not {want}"
     readings = []
     names = names_of(told)
     for line in told.lines("sources", name="disputed"):
@@ -334,12 +351,34 @@ def sources_text(numbers, names):
     return ", ".join(f"{number} {names[str(number)]}" for number in numbers)
 
 
-def runs_of(units):
-    """The runs of units that stand by one word: of each the first unit, the last, the word, and the bytes."""
+def shown_ends(units, clock):
+    """The timecodes of the unit that is shown first and of the one that is shown last, by the run of a clock; none if
+    no unit shows one."""
+    timecodes = [unit["at"] for unit in units if unit.get("at")]
+
+    def place(timecode):
+        """How many timecodes of the run come before one, which are less than a day has."""
+        before = clocks.number_of(timecode, clock["base"]) - clocks.number_of(clock["first"], clock["base"])
+        return before % clocks.day_of(clock["base"], ";" in clock["first"])
+
+    return [min(timecodes, key=place), max(timecodes, key=place)] if timecodes else []
+
+
+def runs_of(units, clock):
+    """The runs of units that stand by one word: of each the first unit, the last, the word, the bytes, and if there is
+    a clock the timecodes."""
     for _, run in itertools.groupby(units, lambda unit: unit["standing"]):
         run = list(run)
         begin, end = cells(run[0], "unit", "standing", "start"), cells(run[-1], "unit", "end")
-        yield [begin[0], end[0], *begin[1:], end[1]]
+        timecodes = (shown_ends(run, clock) or ["-", "-"]) if shown_ends(units, clock) else []
+        yield [begin[0], end[0], *begin[1:], end[1], *timecodes]
+
+
+def indexes_of(told, span):
+    """The indexes whose units are shown: those that are held, or for timecodes the one that has a clock."""
+    if any(":" in word for word in span):
+        return sorted({line["index-sid"] for line in told.lines("describe", name="clock")})
+    return sorted({line["index-sid"] for line in told.lines("show", name="segment")})
 
 
 def span_of(told, index):
@@ -353,15 +392,23 @@ def span_of(told, index):
     return ["--to", str(durations[0] - 1)] if durations else []
 
 
-def differences_of_units(page, told, span):
-    """How edit units differ: the runs of a table, and the sums of a strip."""
-    indexes = sorted({line["index-sid"] for line in told.lines("show", name="segment")})
+def differences_of_units(page, told, span, against):
+    """How edit units differ: the runs of tables, the sums of a strip, and what orders say of units."""
+    indexes = indexes_of(told, span)
     for index in indexes:
-        units = told.lines("units", "--index", str(index), *(span or span_of(told, index)), name="unit")
-        tables = [table for table in page.tables if table.caption == "Runs of units" and len(table.heads) == 5]
-        want = list(runs_of(units))
-        if len(indexes) == 1 and units and tables[0].rows != want[:CUT]:
-            yield f"the runs of units are {tables[0].rows}, not {want}"
+        runs = [line for line in told.lines("describe", name="clock") if line["index-sid"] == index]
+        clock, timed = (runs[0], ["--timecode"]) if runs else (None, [])
+        units = told.lines("units", "--index", str(index), *(span or span_of(told, index)), *timed, name="unit")
+        if len(indexes) == 1 and units:
+            yield from differences_of_runs(page, "units", True, list(runs_of(units, clock)))
+            for caption, orders in plans_of(told, span).items():
+                yield from differences_of_remarks(page.all_rows(caption), orders, units, clock)
+            named = ["--index", str(index), "--from", str(units[0]["unit"]), "--to", str(units[-1]["unit"]), *timed]
+            beside = told.lines("verify", *against, *named, name="units") if against else []
+            names = ["first", "last", "standing"]
+            names += ["first-at", "last-at"] if any(line.get("first-at") for line in beside) else []
+            want = [cells(line, *names) for line in beside]
+            yield from differences_of_runs(page, "units beside the reference", False, want)
         for word, count in collections.Counter(unit["standing"] for unit in units).items():
             if f"{count} {word}" not in page.text["units"]:
                 yield f"it isn't told that {count} units are {word}"
@@ -370,6 +417,26 @@ def differences_of_units(page, told, span):
         numbers = [int(number.replace(",", "")) for number in re.findall(r"([\d,]+) [a-z]", counts)]
         if sum(numbers) != int(last) - int(first) + 1:
             yield f"of the units {first} to {last} {counts} are told"
+
+
+def differences_of_runs(page, what, has_bytes, want):
+    """How the runs of units differ from those that are wanted, in the first table of runs with bytes or without."""
+    tables = [table for table in page.tables if table.caption == "Runs of units"]
+    rows = next((table.rows for table in tables if ("First begins at" in table.heads) == has_bytes), [])
+    if rows != want[:CUT]:
+        yield f"the runs of {what} are {rows}, not {want}"
+
+
+def differences_of_remarks(rows, orders, units, clock):
+    """How the timecodes that an order is said to be of differ from those of the units that have bytes in it."""
+    for row, order in zip(rows, orders):
+        end = math.inf if order["end"] is None else order["end"]
+        placed = [unit for unit in units if unit["start"] is not None and unit["start"] < end]
+        within = [unit for unit in placed if order["start"] < (unit["end"] or unit["start"] + 1)]
+        want = " to ".join(dict.fromkeys(shown_ends(within, clock)))
+        told_of = row[3].partition("; edit units at ")[2]
+        if told_of != want:
+            yield f"the order from {order['start']} on is said to be of units at {told_of}, not {want}"
 
 
 def packet_cells(line):
@@ -420,8 +487,8 @@ def differences_of_page(tool, path, words):
     yield from differences_of_bar(page, told)
     yield from differences_of_recording(page, told)
     yield from differences_of_findings(page, told)
-    yield from differences_of_orders(page, told)
-    yield from differences_of_units(page, told, span)
+    yield from differences_of_orders(page, told, span)
+    yield from differences_of_units(page, told, span, against)
     yield from differences_of_reference(page, told, against)
     yield from differences_of_metadata(page, told)
     if pathlib.Path(path).stat().st_size > 2_000_000:
