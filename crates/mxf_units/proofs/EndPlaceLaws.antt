@@ -123,7 +123,7 @@ module _ (notes : List NoteParts) (index_sid unit : ℕ) where
     pub end_place-told : zone.body_offset ≤ offset → IsEnd (end_place segments zone unit body_sid offset)
     end_place-told low = end_by (next_of segments body_sid offset) low (next-told segments body_sid offset)
 
-    same_end : (a b : Option ℕ) → IsEnd a → IsEnd b → a ≡ b
+    pub same_end : (a b : Option ℕ) → IsEnd a → IsEnd b → a ≡ b
     same_end None None f g = refl
     same_end None (Some y) f g = absurd (f y g)
     same_end (Some x) None f g = absurd (g x f)

@@ -24,7 +24,7 @@ use Rattle.mxf_units.specs.declared.standing.UnitStanding.TheVariants as standin
 
 -- ---- of which units it is told
 
-told-says : (w : UnitStanding) → is_told w ≡ true → IsTold w
+pub told-says : (w : UnitStanding) → is_told w ≡ true → IsTold w
 told-says standings.NotIndexed e = absurd cc
 told-says standings.Ambiguous e = absurd cc
 told-says standings.NoPartition e = absurd cc
@@ -38,7 +38,7 @@ told-says standings.Part e = inr (inr (inl refl))
 told-says standings.Held e = inr (inr (inr (inl refl)))
 told-says standings.Hand e = inr (inr (inr (inr refl)))
 
-says-told : (w : UnitStanding) → IsTold w → is_told w ≡ true
+pub says-told : (w : UnitStanding) → IsTold w → is_told w ≡ true
 says-told w (inl e) = ap is_told e
 says-told w (inr (inl e)) = ap is_told e
 says-told w (inr (inr (inl e))) = ap is_told e
@@ -71,7 +71,7 @@ told-is known index_sid unit =
 -- ---- where the bytes lie
 
 -- The bytes of a unit of which it is told don't lie elsewhere.
-told-within : (known : KnownParts) (zone : EssenceZone) (e : Extent) (w : UnitStanding)
+pub told-within : (known : KnownParts) (zone : EssenceZone) (e : Extent) (w : UnitStanding)
     → IsStandingIn known zone e w → is_told w ≡ true → ¬ LiesElsewhere known.notes zone e
 told-within known zone e standings.NotIndexed s t = absurd cc
 told-within known zone e standings.Ambiguous s t = absurd cc
@@ -86,7 +86,7 @@ told-within known zone e standings.Part s t = s.0.within
 told-within known zone e standings.Held s t = s.0.within
 told-within known zone e standings.Hand s t = s.0.within
 
-zone-begins : (notes : List NoteParts) (p : PartitionParts) (zone : EssenceZone) → zone_of notes p ≡ Some zone
+pub zone-begins : (notes : List NoteParts) (p : PartitionParts) (zone : EssenceZone) → zone_of notes p ≡ Some zone
     → zone.body_offset ≡ p.pack.numbers.body_offset
 unfolding zone_of
 zone-begins notes p zone e =

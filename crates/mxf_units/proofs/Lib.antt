@@ -16,6 +16,8 @@ pub mod NextLaws
 pub mod EndPlaceLaws
 pub mod LimitLaws
 pub mod EntryLaws
+pub mod EvenLaws
+pub mod EvenTests
 pub mod SidLaws
 pub mod ExtentLaws
 pub mod OneStanding

@@ -119,7 +119,7 @@ begins_behind bytes low unit some from =
     let d : bytes * (low / bytes) + low % bytes ≡ low = omega (arith, some) in
     let r : low % bytes < bytes = omega (arith, some) in omega (arith, m, d, r)
 
-covered : (s : SegmentParts) (unit earlier : ℕ) → covers_constant s unit ≡ true → unsigned_abs s.numbers.start ≤ earlier
+pub covered : (s : SegmentParts) (unit earlier : ℕ) → covers_constant s unit ≡ true → unsigned_abs s.numbers.start ≤ earlier
     → earlier ≤ unit → covers_constant s earlier ≡ true
 covered s unit earlier e from below =
     let start = unsigned_abs s.numbers.start in

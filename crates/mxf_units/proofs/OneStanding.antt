@@ -92,7 +92,7 @@ module _ (notes : List NoteParts) (body_sid offset : ℕ) where
   both_zones r q (inr (inr (inr a))) (inr (inr (inl b))) = absurd (unknown_several b.1 a.1)
   both_zones r q (inr (inr (inr a))) (inr (inr (inr b))) = a.0 ∙ sym b.0
 
-  one-zone : (r q : Result EssenceZone UnitStanding) → IsIn r → IsIn q → r ≡ q
+  pub one-zone : (r q : Result EssenceZone UnitStanding) → IsIn r → IsIn q → r ≡ q
   one-zone r q a b = both_zones r q (zones r a) (zones q b)
 
 -- ---- a place has one standing

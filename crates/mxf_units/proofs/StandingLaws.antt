@@ -30,7 +30,7 @@ by_zone known index_sid unit place (Ok zone) z =
       }),
     )
 
-at_place : (known : KnownParts) (index_sid unit body_sid offset : ℕ) (w : UnitStanding)
+pub at_place : (known : KnownParts) (index_sid unit body_sid offset : ℕ) (w : UnitStanding)
     → IsOnlyPlace (segments_of known.notes) index_sid unit body_sid offset
     → IsStandingAt known index_sid unit body_sid offset w → IsStanding known index_sid unit w
 at_place known index_sid unit body_sid offset standings.NotIndexed o (inl z) = absurd z

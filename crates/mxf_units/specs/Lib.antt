@@ -3,6 +3,7 @@ pub mod Streams
 pub mod LastUnits
 pub mod NextPlaces
 pub mod EssenceZones
+pub mod EvenUnits
 pub mod Units
 pub mod Indexes
 pub mod Ranges

@@ -54,6 +54,13 @@ impl<T: Interval> Intervals<T> {
         Ok(Intervals { intervals, ends })
     }
 
+    /// All of them.
+    pub(crate) fn all(&self) -> &[T]
+        ensures { result.now ≡ self.now }
+    {
+        &self.intervals
+    }
+
     /// Those that may have a number, and those that begin above it: two binary searches. If intervals overlap, those
     /// that lie between them come as well.
     pub(crate) fn around(&self, at: u128) -> (&[T], &[T])

@@ -1,5 +1,6 @@
 //! The laws of edit units and of indexes: functions that do nothing, whose clauses hold of all values.
 pub use crate::essence_zone::limits_by_definition;
+pub use crate::even_units::even_units_by_definition;
 pub use crate::first_packet::first_packets_by_definition;
 pub use crate::indexes::{index_sids_by_definition, named_index_sids_by_definition};
 pub use crate::last::one_last_unit;

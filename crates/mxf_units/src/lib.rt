@@ -54,6 +54,7 @@ mod beside;
 mod bounds;
 mod constant_units;
 mod essence_zone;
+mod even_units;
 mod first_packet;
 mod indexes;
 mod intervals;
@@ -70,6 +71,7 @@ mod units;
 
 pub use essence_zone::EssenceZone;
 pub use essence_zone::part::StreamPart;
+pub use even_units::{EvenUnits, UnitCounts, lists_units};
 pub use first_packet::behind_index;
 pub use indexes::{index_sids, named_index_sids};
 pub use last::last_unit;

@@ -23,7 +23,7 @@ pub struct Location {
 }
 
 /// The file offset, in bytes, at which an offset of a stream lies by an essence zone.
-fn file_offset(zone: EssenceZone, offset: u128) -> u128
+pub(crate) fn file_offset(zone: EssenceZone, offset: u128) -> u128
     requires { offset + 2 ^ 96 ≤ 2 ^ 128 }
     ensures { result ≡ file_offset zone offset }
 {
@@ -58,7 +58,7 @@ pub(crate) fn extent_in(zone: EssenceZone, offset: u128, end: Option<u128>) -> E
 }
 
 /// Whether all offsets from one up to another, in bytes, are held.
-fn are_all_held(holdings: &Holdings<'_>, from: u128, to: u128) -> bool
+pub(crate) fn are_all_held(holdings: &Holdings<'_>, from: u128, to: u128) -> bool
     ensures { result ≡ are_all_held holdings.now from to }
 {
     if from >= to {
@@ -69,7 +69,7 @@ fn are_all_held(holdings: &Holdings<'_>, from: u128, to: u128) -> bool
 }
 
 /// Whether all offsets from one up to another, in bytes, are in the set: held or at hand.
-fn are_all_known(set: &Cover, from: u128, to: u128) -> bool
+pub(crate) fn are_all_known(set: &Cover, from: u128, to: u128) -> bool
     ensures { (known : KnownParts) → AreKnown known set.now → result ≡ are_all_known known from to }
 {
     if from >= to {
@@ -79,7 +79,7 @@ fn are_all_known(set: &Cover, from: u128, to: u128) -> bool
 }
 
 /// Whether an offset from one up to another, in bytes, is in the set.
-fn is_any_known(set: &Cover, from: u128, to: u128) -> bool
+pub(crate) fn is_any_known(set: &Cover, from: u128, to: u128) -> bool
     ensures { (known : KnownParts) → AreKnown known set.now → result ≡ is_any_known known from to }
 {
     let end = u128::from(set.end());
@@ -87,7 +87,7 @@ fn is_any_known(set: &Cover, from: u128, to: u128) -> bool
 }
 
 /// Whether a disputed packet covers an offset from one up to another, in bytes.
-fn is_any_disputed(holdings: &Holdings<'_>, from: u128, to: u128) -> bool
+pub(crate) fn is_any_disputed(holdings: &Holdings<'_>, from: u128, to: u128) -> bool
     ensures { result ≡ is_any_disputed holdings.now from to }
 {
     let end = u128::from(holdings.held_end());
@@ -168,7 +168,7 @@ pub(crate) fn standing_by(
 }
 
 /// Whether bytes that stand so lie in their partition, as far as what is held says.
-fn is_told(standing: UnitStanding) -> bool
+pub(crate) fn is_told(standing: UnitStanding) -> bool
     ensures { result ≡ is_told standing }
 {
     matches!(

@@ -9,7 +9,7 @@ use crate::units::Units;
 use std::marker::Model;
 
 /// The greatest edit unit: segments state theirs as signed numbers of eight bytes.
-const GREATEST_UNIT: u64 = 9_223_372_036_854_775_807;
+pub(crate) const GREATEST_UNIT: u64 = 9_223_372_036_854_775_807;
 
 /// The greatest number of units that are asked for at once.
 const MOST_UNITS: u64 = 1_000_000;

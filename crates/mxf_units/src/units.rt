@@ -4,6 +4,7 @@ ghost use Rattle.mxf_klv.specs.Parts.{NoteParts, PacketParts};
 ghost use Rattle.mxf_klv.specs.Piece.{end_after, notes_from};
 ghost use Rattle.mxf_sets.specs.declared.segment.offset.IndexEntry.{IndexEntry};
 ghost use Rattle.mxf_units.specs.declared.unit.Extent.{Extent};
+ghost use Rattle.std.specs.List.Sorted.{IsPermutation};
 ghost use Rattle.std.specs.Result.{ForOk};
 ghost use Rattle.mxf_views.specs.declared.index.place.StreamPlace.{StreamPlace};
 ghost use Rattle.mxf_places.specs.AtHand.{AtHandParts, KnownParts};
@@ -14,7 +15,7 @@ ghost use Rattle.mxf_units.specs.declared.location.Location.{Location};
 ghost use Rattle.mxf_units.specs.declared.standing.UnitStanding.{UnitStanding};
 ghost use Rattle.mxf_units.specs.Streams.{IsSmall, entry_of, is_given, place_of, segments_for};
 ghost use Rattle.mxf_units.specs.EssenceZones.{parts_of};
-ghost use Rattle.mxf_units.specs.Units.{AreKnown, IsHeldWhole, IsKnownWhole, key_at, location_at, location_of};
+ghost use Rattle.mxf_units.specs.Units.{AreBesideEssence, AreKnown, IsHeldWhole, IsKnownWhole, key_at, location_at, location_of};
 ghost use Rattle.mxf_units.specs.Units.{end_place, extent_in, has_next_unit, standing_in, unit_by, unit_of};
 ghost use Rattle.mxf_units.specs.declared.essence_zone.EssenceZone.{EssenceZone};
 
@@ -123,6 +124,20 @@ impl<'a> Units<'a> {
         ensures { AreKnown self.now.known result.now }
     {
         &self.known
+    }
+
+    /// The segments of the index.
+    pub(crate) fn segments(&self) -> &[SegmentAt<'a>]
+        ensures { IsPermutation (segments_for self.now.known.notes self.now.index_sid) result.now }
+    {
+        self.segments.all()
+    }
+
+    /// The offsets where no essence can lie.
+    pub(crate) fn beside(&self) -> &Cover
+        ensures { AreBesideEssence self.now.known.notes result.now }
+    {
+        &self.beside
     }
 
     /// The IndexSID.
