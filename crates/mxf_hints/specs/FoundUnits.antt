@@ -27,7 +27,7 @@ units_by known index = record { known = known; index_sid = index }
 abbrev pub AreFound : KnownParts → Option ClocksParts → IndexedUnits → Result FoundUnits RunFault → Type 0
 AreFound known clocks asked (Ok found) =
     (index : ℕ) × IsIndexOf known.notes (runs_of clocks) asked (Ok index) × (found.units ≡ units_by known index)
-    × AreAsked (units_by known index) (clock_of clocks index) asked.units (Ok found.range)
+    × AreAsked (units_by known index) (clock_of clocks index) asked.units (Ok found.span)
 AreFound known clocks asked (Err fault) =
     (fault ≡ runs.OutOfMemory) ⊎ (IsIndexOf known.notes (runs_of clocks) asked (Err fault)
     ⊎ ((index : ℕ) × IsIndexOf known.notes (runs_of clocks) asked (Ok index)

@@ -4,18 +4,18 @@ ghost use Rattle.mxf_hints.specs.FoundUnits.{AreFound, clock_of, runs_of};
 
 use crate::fault::RunFault;
 use crate::index::index_of;
-use crate::unit_range::range_of;
+use crate::unit_range::{UnitSpan, span_of};
 use mxf_asked::IndexedUnits;
 use mxf_clocks::{Clocks, Run};
 use mxf_places::AtHand;
-use mxf_units::{UnitRange, Units};
+use mxf_units::Units;
 use mxf_views::Views;
 
 /// The edit units of an index, and those of them that are asked for.
 #[derive(Drop)]
 pub struct FoundUnits<'u> {
     pub units: Units<'u>,
-    pub range: UnitRange,
+    pub span: UnitSpan,
 }
 
 /// The edit units that are asked for, by what is held, what is at hand, and the clocks if a timecode is asked for or
@@ -31,8 +31,8 @@ pub fn found_units<'a, 'u, R: Eprint + AllocGlobal>(
 {
     let index = index_of(rt, views, runs_of(clocks), asked)?;
     let units = Units::of(rt.alloc(), views, at_hand, index)?;
-    let range = range_of(&units, clock_of(clocks, index), asked.units)?;
-    Ok(FoundUnits { units, range })
+    let span = span_of(&units, clock_of(clocks, index), asked.units)?;
+    Ok(FoundUnits { units, span })
 }
 
 /// The runs of all clocks.

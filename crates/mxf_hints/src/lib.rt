@@ -48,3 +48,4 @@ pub use refusal::RefusalHint;
 pub use shift::{Shift, shift_of};
 pub use stops::{tell_foreign, tell_stops};
 pub use telling::{Telling, line_on_screen, tell, tell_on_screen};
+pub use unit_range::UnitSpan;

@@ -1,12 +1,14 @@
 -- Runs that were handed the same hold one content, and print the same of it.
-use Rattle.mxf_views.proofs.Common.{◌≡◌, ◌+◌, ◌-◌, ℕ, Bool, List, [], ◌∷◌, ◌++◌, Option, None, Some, sym, ap, subst, ◌∙◌}
+use Rattle.mxf_views.proofs.Common.{◌≡◌, ◌+◌, ◌-◌, ℕ, Bool, List, [], ◌∷◌, ◌++◌, Option, None, Some, sym, ap, subst, same_Some, ◌∙◌}
 use Rattle.mxf_views.proofs.Common.{NoteParts, In, SameMembers, file_bytes, IsLocated, Read, IsTheRun}
 use Rattle.std.specs.Prelude.{codes, filter, flat_map}
 use Rattle.mxf_catalogue.specs.History.{HandsSame}
 use Rattle.mxf_places.specs.AtHand.{KnownParts}
 use Rattle.mxf_map.specs.Map.{MapParts}
 use Rattle.mxf_map.proofs.MarkLaws.{one_map}
-use Rattle.mxf_partial.specs.Orders.{UnitPlanParts}
+use Rattle.mxf_partial.specs.Many.{ManyParts}
+use Rattle.mxf_partial.specs.Orders.{IsUnitPlan, UnitPlanParts}
+use Rattle.mxf_partial.proofs.ManyLaws.{one_many}
 use Rattle.mxf_partial.proofs.UnitPlanLaws.{one_plan}
 use Rattle.mxf_verify.specs.Fixities.{VerifiedUnitsParts, is_verified, units_in}
 use Rattle.mxf_verify.specs.TouchedUnits.{units_touched}
@@ -22,11 +24,12 @@ use Rattle.mxf_lines.specs.Answering.{stop_lines}
 use Rattle.mxf_forms.specs.Forms.{line, lines_in, number}
 use Rattle.mxf_lines.specs.Lines.{note_fields}
 use Rattle.mxf_lines.specs.OneRun.{Answer, AreTimes, AreTold, AskedUnits, IsPrinted, Map, PrintSame, Printed, Question}
-use Rattle.mxf_lines.specs.OneRun.{Renewal, Sources, UnitPlan, Units, Verification, clocks_told, units_told}
+use Rattle.mxf_lines.specs.OneRun.{ManyPlan, Renewal, Sources, UnitPlan, Units, Verification, clocks_told, units_told}
 use Rattle.mxf_lines.specs.MapLines.{AreToldExtents, map_lines}
 use Rattle.mxf_lines.proofs.MapLineLaws.{one_told}
 use Rattle.mxf_timed.specs.Shown.{TimedParts}
-use Rattle.mxf_lines.specs.UnitPlanLines.{asked_of, told_units, unit_plan_lines, unit_plan_status}
+use Rattle.mxf_lines.specs.UnitPlanLines.{asked_of, many_plan_lines, many_plan_status, told_units, unit_plan_lines}
+use Rattle.mxf_lines.specs.UnitPlanLines.{unit_plan_status, units_at}
 use Rattle.mxf_lines.proofs.ShownLineLaws.{same_lines, same_runs}
 use Rattle.mxf_lines.specs.VerificationLines.{cut_lines, differs_line, other_fields, range_lines, runs_of, span_fields}
 use Rattle.mxf_lines.specs.VerificationLines.{unit_run_line, verification_lines, verification_status, verified_fields}
@@ -138,6 +141,12 @@ printed_once (UnitPlan index range at) m a b (x, is, l, s) (y, also, k, t) =
     let same : x ≡ y = one_plan _ x y is also in (
       l ∙ ap (unit_plan_lines (asked_of index range at m)) same ∙ sym k,
       s ∙ ap (λ (p : UnitPlanParts). Some (unit_plan_status (asked_of index range at m) p)) same ∙ sym t,
+    )
+printed_once (ManyPlan index first last at) m a b (x, p, is, plan, l, s) (y, q, also, other, k, t) =
+    let same : x ≡ y = same_Some x y (one_many (units_at index at m) first last (Some x) (Some y) is also) in
+    let plans : p ≡ q = one_plan y.wanted p q (subst (λ (z : ManyParts). IsUnitPlan z.wanted p) same plan) other in (
+      l ∙ (λ i. many_plan_lines (same i) (plans i)) ∙ sym k,
+      s ∙ (λ i. Some (many_plan_status (same i) (plans i))) ∙ sym t,
     )
 printed_once (Verification sources reports asked is_whole) m a b (v, x, c, is, told, times, l, s)
     (w, y, d, also, tell, clock, k, t) =

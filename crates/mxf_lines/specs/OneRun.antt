@@ -12,6 +12,7 @@ use Rattle.mxf_map.specs.declared.extent.MapExtent.{MapExtent}
 use Rattle.mxf_units.specs.Units.{UnitsParts}
 use Rattle.mxf_units.specs.declared.range.UnitRange.{UnitRange}
 use Rattle.mxf_timed.specs.Shown.{TimedParts}
+use Rattle.mxf_partial.specs.Many.{AreMany, ManyParts}
 use Rattle.mxf_partial.specs.Orders.{IsUnitPlan, UnitPlanParts}
 use Rattle.mxf_verify.specs.Fixities.{AreVerifiedUnits, VerifiedUnitsParts}
 use Rattle.mxf_verify.specs.Renewing.{dropped_of, renewed_of}
@@ -25,7 +26,8 @@ use Rattle.mxf_lines.specs.MapLines.{AreToldExtents, map_lines}
 use Rattle.mxf_lines.specs.RenewalLines.{renewal_lines}
 use Rattle.mxf_lines.specs.SourceLines.{sources_lines, sources_status}
 use Rattle.mxf_lines.specs.UnitLines.{AreToldTimes, unit_lines, units_status}
-use Rattle.mxf_lines.specs.UnitPlanLines.{asked_of, told_units, unit_plan_lines, unit_plan_status}
+use Rattle.mxf_lines.specs.UnitPlanLines.{asked_of, many_plan_lines, many_plan_status, told_units, unit_plan_lines}
+use Rattle.mxf_lines.specs.UnitPlanLines.{unit_plan_status, units_at}
 use Rattle.mxf_lines.specs.VerificationLines.{verification_lines, verification_status}
 
 -- Edit units of a reference: those from one up to another of an index, by what is at hand beside the reference, and
@@ -47,6 +49,8 @@ pub data Question : Type 0 where
   Units : ℕ → UnitRange → Bool → AtHandParts → Question
   -- What is to be restored for the units of a range, by the index of an IndexSID.
   UnitPlan : ℕ → UnitRange → AtHandParts → Question
+  -- The same for units from a first one up to a last one that are more than are told one by one.
+  ManyPlan : ℕ → ℕ → ℕ → AtHandParts → Question
   -- What sources verify of the content: all of it or some of its units, and whether all is to be verified.
   Verification : List Source → List PieceReport → Option AskedUnits → Bool → Question
   -- How the content stands beside those of the sources before it and after it, which have names.
@@ -102,6 +106,9 @@ IsPrinted (UnitPlan index range at) content printed =
     (p : UnitPlanParts) × IsUnitPlan (asked_of index range at content) p
     × (printed.lines ≡ unit_plan_lines (asked_of index range at content) p)
     × (printed.status ≡ Some (unit_plan_status (asked_of index range at content) p))
+IsPrinted (ManyPlan index first last at) content printed =
+    (m : ManyParts) × (p : UnitPlanParts) × AreMany (units_at index at content) first last (Some m)
+    × IsUnitPlan m.wanted p × (printed.lines ≡ many_plan_lines m p) × (printed.status ≡ Some (many_plan_status m p))
 IsPrinted (Verification sources reports asked is_whole) content printed =
     (v : VerificationParts) × (told : Option VerifiedUnitsParts) × (shown : Option TimedParts)
     × IsVerification content sources v × AreTold asked content v told × AreTimes asked content shown

@@ -24,7 +24,7 @@ mod one_run;
 mod printing;
 
 pub use printing::{
-    AnswerFault, Searched, Verified, answer, print_edit_units, print_found, print_map,
-    print_metadata_plan, print_renewed, print_sources, print_unit_plan, print_verification,
-    timecodes_shown,
+    AnswerFault, Searched, Verified, answer, print_edit_units, print_found, print_many_plan,
+    print_map, print_metadata_plan, print_renewed, print_sources, print_unit_plan,
+    print_verification, timecodes_shown,
 };

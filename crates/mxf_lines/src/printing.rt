@@ -43,7 +43,9 @@ pub use sources::print_sources;
 use std::alloc::Global;
 use std::io::Write;
 use thiserror::Error;
-pub use unit_plan::{print_metadata_plan, print_unit_plan, told_disputes_by_definition};
+pub use unit_plan::{
+    print_many_plan, print_metadata_plan, print_unit_plan, told_disputes_by_definition,
+};
 pub use units::{print_edit_units, timecodes_shown};
 pub use verification::{
     Verified, print_verification, verified_status_by_definition, whole_status_by_packets,

@@ -194,7 +194,7 @@ rising_by low (u ∷ units) r = (
   rising_by (u.number + 1) units r.1,
 )
 
-number_of : (u : UnitsParts) (n : ℕ) → (unit_of u.known u.index_sid n).number ≡ n
+pub number_of : (u : UnitsParts) (n : ℕ) → (unit_of u.known u.index_sid n).number ≡ n
 unfolding unit_of
 number_of u n = refl
 

@@ -13,3 +13,4 @@ pub mod StreamOne
 pub mod NearPlaces
 pub mod WayLaws
 pub mod MetadataPlanLaws
+pub mod ManyLaws

@@ -15,3 +15,4 @@ pub mod Helping
 pub mod Fronts
 pub mod Orders
 pub mod MetadataPlans
+pub mod Many

@@ -34,6 +34,7 @@ mod greatest;
 mod in_streams;
 pub mod laws;
 mod leads;
+mod many;
 mod named;
 mod near;
 mod place_streams;
@@ -44,5 +45,6 @@ mod wanted;
 mod wanted_units;
 mod ways;
 
+pub use many::ManyUnits;
 pub use plan::UnitPlan;
 pub use wanted_units::WantedUnits;

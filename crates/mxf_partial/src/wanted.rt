@@ -89,7 +89,7 @@ fn is_limit_named(named: &[NamedPlace], location: Location) -> bool
 }
 
 /// Up to where the bytes of a unit may reach: to their end, or otherwise to the limit of its essence zone.
-fn reach_of(location: Location) -> Option<u128>
+pub(crate) fn reach_of(location: Location) -> Option<u128>
     ensures { result ≡ reach_of location }
 {
     location.extent.end.or(location.zone.limit.map(u128::from))

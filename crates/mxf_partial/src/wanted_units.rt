@@ -1,7 +1,8 @@
 //! The edit units that are wanted of an index.
-ghost use Rattle.std.specs.Prelude.{◌≡◌, IfOk};
+ghost use Rattle.std.specs.Prelude.{◌≡◌, ◌<◌, ◌^◌, ◌∷◌, [], IfOk};
 ghost use Rattle.mxf_views.specs.Rises.{RiseBy};
 ghost use Rattle.mxf_units.specs.Ranges.{units_with_keys};
+ghost use Rattle.mxf_partial.specs.Many.{ends_wanted};
 ghost use Rattle.mxf_partial.specs.Wanted.{wanted_in};
 
 use mxf_klv::OutOfMemory;
@@ -57,11 +58,48 @@ impl<'a> WantedUnits<'a> {
         })
     }
 
+    /// The first and the last of many units, and the bytes that are wanted in place of theirs, if there are some. They
+    /// take memory.
+    pub(crate) fn of_ends(
+        alloc: Global,
+        units: &'a Units<'a>,
+        first: u64,
+        last: u64,
+        bytes: Option<Extent>,
+    ) -> Result<WantedUnits<'a>, OutOfMemory>
+        requires order { first < last }
+        requires number { last < 2 ^ 63 }
+        ensures { IfOk result (λ w. w ≡ ends_wanted units.now first last bytes) }
+    {
+        let wanted = two(alloc, units.unit(first), units.unit(last))?;
+        Ok(WantedUnits {
+            units,
+            first,
+            count: last - first + 1,
+            wanted,
+            bytes,
+        })
+    }
+
     /// All units of the index.
     pub fn units(&self) -> &'a Units<'a>
         ensures { result.now ≡ self.now.units }
     {
         self.units
+    }
+
+    /// The first of those that are asked for.
+    pub fn first(&self) -> u64
+        ensures { result ≡ self.now.first }
+    {
+        self.first
+    }
+
+    /// How many are asked for.
+    pub fn count(&self) -> u64
+        ensures { result ≡ self.now.count }
+    {
+        self.count
     }
 
     /// The units that are wanted, rising by their numbers.
@@ -78,6 +116,16 @@ impl<'a> WantedUnits<'a> {
     {
         self.bytes
     }
+}
+
+/// Two units. They take memory.
+fn two(alloc: Global, first: EditUnit, last: EditUnit) -> Result<Vec<EditUnit>, OutOfMemory>
+    ensures { IfOk result (λ v. v.items ≡ first ∷ last ∷ []) }
+{
+    let mut units = Vec::new(alloc);
+    units.push(first)?;
+    units.push(last)?;
+    Ok(units)
 }
 
 /// The units of a range, and those before them from the least key frame on that they name. They take memory.

@@ -21,10 +21,10 @@ use mxf_hints::{
     Exit, RefusalHint, RunFault, Telling, tell, tell_on_screen, tell_stops, tell_together,
 };
 use mxf_lines::{
-    AnswerFault, Searched, Verified, answer, print_edit_units, print_found, print_map,
-    print_metadata_plan, print_renewed, print_sources, print_verification,
+    AnswerFault, Searched, Verified, answer, print_edit_units, print_found, print_many_plan,
+    print_map, print_metadata_plan, print_renewed, print_sources, print_verification,
 };
-use mxf_partial::UnitPlan;
+use mxf_partial::{ManyUnits, UnitPlan};
 use mxf_read::{Gathered, PieceReport};
 use mxf_readings::Readings;
 use mxf_saving::{
@@ -367,6 +367,8 @@ enum Printed<'g, 'n, 'c> {
         units: &'g Units<'n>,
         range: UnitRange,
     },
+    /// What to restore for edit units that are more than are told one by one.
+    ManyPlan(&'g ManyUnits<'n>),
     /// What to restore of header metadata.
     MetadataPlan(&'g UnitPlan),
     /// A renewal, and whether it was saved.
@@ -412,6 +414,7 @@ fn print_lines<W: Write>(
         Printed::UnitPlan { units, range } => {
             mxf_lines::print_unit_plan(alloc, units, range, form, writer)
         }
+        Printed::ManyPlan(many) => print_many_plan(alloc, many, form, writer),
         Printed::MetadataPlan(plan) => print_metadata_plan(alloc, plan, form, writer),
         Printed::Renewed(renewed, is_saved) => {
             print_renewed(alloc, renewed, is_saved, form, writer)?;

@@ -7,14 +7,16 @@ ghost use Rattle.mxf_partial.specs.Orders.{IsUnitPlan, UnitPlanParts};
 ghost use Rattle.mxf_partial.specs.Wanted.{WantedParts};
 ghost use Rattle.mxf_lines.specs.Printing.{Prints};
 ghost use Rattle.mxf_lines.specs.UnitPlanLines.{AreToldDisputes, is_open, order_lines, told_disputes, unit_plan_lines};
+ghost use Rattle.mxf_lines.specs.UnitPlanLines.{disputes_of_many, many_plan_lines, many_plan_status, told_plan_lines};
 ghost use Rattle.mxf_lines.specs.UnitPlanLines.{unit_plan_status, wanted_of};
+ghost use Rattle.mxf_lines.specs.UnitLines.{units_line};
 
 use super::AnswerFault;
 use super::lines::{Each, Printer, Then, print_with_status};
 use super::plan::PlannedLine;
 use super::units::UnitsLine;
 use mxf_forms::Form;
-use mxf_partial::{UnitPlan, WantedUnits};
+use mxf_partial::{ManyUnits, UnitPlan, WantedUnits};
 use mxf_restore::{Disputes, Order};
 use mxf_units::{EditUnit, UnitRange, UnitStanding, Units};
 use std::alloc::Global;
@@ -90,33 +92,118 @@ fn print_planned<W: Write>(
         (unit_plan_lines (wanted_of units.now range) plan.now) }
     ensures status { IfOk result (λ status. status ≡ unit_plan_status (wanted_of units.now range) plan.now) }
 {
-    let mut printer = Printer::new(alloc, form);
-    print_plan_lines(&mut printer, writer, units, range, wanted, plan)
+    let last = UnitsLine::of(units, range);
+    let told = Told {
+        disputes: told_disputes(wanted),
+        last,
+    };
+    print_told(alloc, told, plan, form, writer)
 }
 
-/// Prints the orders of a plan, the disputed packets if units wait for bytes, how many orders there are, and how the
-/// units stand.
+/// Prints what to restore so that many edit units can be cut out of the file, in a form. The answer is 0 if nothing is to
+/// be restored and all bytes of all of them are held or at hand; otherwise 1.
+///
+/// Out of memory, some whole lines have been written; after a write fault the first bytes, which it counts.
+pub fn print_many_plan<W: Write>(
+    alloc: Global,
+    many: &ManyUnits<'_>,
+    form: Form,
+    writer: &mut W,
+) -> Result<u8, AnswerFault>
+    ensures lines { (p : UnitPlanParts) → IsUnitPlan many.now.wanted p
+        → Prints form (Writes (W.contents writer.old) (W.contents writer.new)) result (many_plan_lines many.now p) }
+    ensures some { IfOk result (λ _. (p : UnitPlanParts) × IsUnitPlan many.now.wanted p) }
+    ensures status { (p : UnitPlanParts) → IsUnitPlan many.now.wanted p
+        → IfOk result (λ status. status ≡ many_plan_status many.now p) }
+{
+    let plan = UnitPlan::of(alloc, many.wanted())?;
+    print_many(alloc, many, &plan, form, writer)
+}
+
+/// Prints a plan for many units, in a form.
+fn print_many<W: Write>(
+    alloc: Global,
+    many: &ManyUnits<'_>,
+    plan: &UnitPlan,
+    form: Form,
+    writer: &mut W,
+) -> Result<u8, AnswerFault>
+    ensures lines { Prints form (Writes (W.contents writer.old) (W.contents writer.new)) result
+        (many_plan_lines many.now plan.now) }
+    ensures status { IfOk result (λ status. status ≡ many_plan_status many.now plan.now) }
+{
+    print_told(alloc, told_of_many(many), plan, form, writer)
+}
+
+/// What is told of units beside the orders of a plan for them: the disputed packets, and how the units stand.
+#[derive(Clone, Copy)]
+struct Told {
+    disputes: Option<Disputes>,
+    last: UnitsLine,
+}
+
+/// What is told of many units.
+fn told_of_many(many: &ManyUnits<'_>) -> Told
+    ensures disputes { result.disputes ≡ disputes_of_many many.now }
+    ensures last { result.last ≡ record {
+      units = many.now.wanted.count;
+      held = many.now.counts.held;
+      hand = many.now.counts.hand;
+      from = many.now.wanted.first;
+    } }
+    ensures bound { result.last.held + result.last.hand ≤ result.last.units }
+{
+    let counts = many.counts();
+    let last = UnitsLine::of_counts(many.wanted().first(), many.wanted().count(), counts);
+    let disputes = if last.status() == 0 {
+        None
+    } else {
+        Disputes::of(many.wanted().units().holdings().views().catalogue())
+    };
+    Told { disputes, last }
+}
+
+/// Prints a plan, and what is told beside it, in a form.
+fn print_told<W: Write>(
+    alloc: Global,
+    told: Told,
+    plan: &UnitPlan,
+    form: Form,
+    writer: &mut W,
+) -> Result<u8, AnswerFault>
+    requires { told.last.held + told.last.hand ≤ told.last.units }
+    ensures lines { Prints form (Writes (W.contents writer.old) (W.contents writer.new)) result
+        (told_plan_lines told.disputes
+        (units_line told.last.units told.last.held told.last.hand told.last.from) plan.now) }
+    ensures status { IfOk result (λ status. status ≡ if length plan.now.orders == 0 && is_none told.disputes
+        then (if told.last.held + told.last.hand == told.last.units then 0 else 1) else 1) }
+{
+    let mut printer = Printer::new(alloc, form);
+    print_plan_lines(&mut printer, writer, told, plan)
+}
+
+/// Prints the orders of a plan, the disputed packets if they are told, how many orders there are, and how the units
+/// stand.
 fn print_plan_lines<W: Write>(
     printer: &mut Printer,
     writer: &mut W,
-    units: &Units<'_>,
-    range: UnitRange,
-    wanted: &WantedUnits<'_>,
+    told: Told,
     plan: &UnitPlan,
 ) -> Result<u8, AnswerFault>
-    requires { wanted.now ≡ wanted_of units.now range }
+    requires { told.last.held + told.last.hand ≤ told.last.units }
     ensures lines { Prints printer.old.fields.form
         (Puts W.contents writer.old writer.new printer.old.progress printer.new.progress)
-        result (unit_plan_lines (wanted_of units.now range) plan.now) }
-    ensures status { IfOk result (λ status. status ≡ unit_plan_status (wanted_of units.now range) plan.now) }
+        result (told_plan_lines told.disputes
+        (units_line told.last.units told.last.held told.last.hand told.last.from) plan.now) }
+    ensures status { IfOk result (λ status. status ≡ if length plan.now.orders == 0 && is_none told.disputes
+        then (if told.last.held + told.last.hand == told.last.units then 0 else 1) else 1) }
 {
-    let last = UnitsLine::of(units, range);
-    let disputes = told_disputes(wanted);
     let orders = plan.orders();
     let end = plan.end();
-    let planned = Then(PlannedLine { orders, end }, last);
-    let lines = Then(Each(orders), Then(disputes, planned));
-    print_with_status(printer, writer, lines, status_of(orders, disputes, last))
+    let planned = Then(PlannedLine { orders, end }, told.last);
+    let lines = Then(Each(orders), Then(told.disputes, planned));
+    let status = status_of(orders, told.disputes, told.last);
+    print_with_status(printer, writer, lines, status)
 }
 
 /// The disputed packets, unless all bytes of each wanted unit are held or at hand.

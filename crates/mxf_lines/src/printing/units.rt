@@ -19,7 +19,7 @@ use mxf_clocks::Clocks;
 use mxf_forms::{FieldWriter, Form, HexDigits};
 use mxf_klv::OutOfMemory;
 use mxf_timed::ShownTimecodes;
-use mxf_units::{EditUnit, Extent, UnitRange, UnitStanding, Units, UnitsLeft};
+use mxf_units::{EditUnit, Extent, UnitCounts, UnitRange, UnitStanding, Units, UnitsLeft};
 use std::alloc::{AllocError, Global};
 use std::io::Write;
 
@@ -218,6 +218,18 @@ impl UnitsLine {
             last.add(&unit);
         }
         last
+    }
+
+    /// That of so many units from one on, by how many of them are held and at hand.
+    pub fn of_counts(first: u64, count: u64, counts: UnitCounts) -> UnitsLine
+        ensures { result ≡ record { units = count; held = counts.held; hand = counts.hand; from = first } }
+    {
+        UnitsLine {
+            units: count,
+            held: counts.held,
+            hand: counts.hand,
+            from: first,
+        }
     }
 
     /// That of the units of a range, before any is counted.

@@ -5,12 +5,13 @@ ghost use Rattle.mxf_lines.specs.OneRun.{clocks_told};
 use super::{Inputs, Printed, print_answer};
 use mxf_asked::IndexedUnits;
 use mxf_clocks::Clocks;
-use mxf_hints::{Exit, FoundUnits, RunFault, found_units, tell_unsettled};
+use mxf_hints::{Exit, FoundUnits, RunFault, UnitSpan, found_units, tell_unsettled};
 use mxf_klv::OutOfMemory;
-use mxf_partial::UnitPlan;
+use mxf_partial::{ManyUnits, UnitPlan};
 use mxf_places::Holdings;
 use mxf_sources::{HeldBySources, System};
 use mxf_tracks::preferred_tracks;
+use mxf_units::Units;
 use mxf_views::Views;
 use std::alloc::Global;
 
@@ -38,10 +39,10 @@ pub fn print_units<'a, R: System>(
 ) -> Result<Exit, RunFault<'a>> {
     let views = &held.gathered.views;
     let clocks = clocks_told(rt.alloc(), views, asked.with_timecodes)?;
-    let FoundUnits { units, range } = found_units(rt, views, &held.at_hand, &clocks, asked)?;
+    let FoundUnits { units, span } = found_units(rt, views, &held.at_hand, &clocks, asked)?;
     let printed = Printed::Units {
         units: &units,
-        range,
+        range: span.range()?,
         clocks: &clocks,
     };
     print_answer(rt, printed, inputs.form)
@@ -57,22 +58,40 @@ pub fn print_unit_plan<'a, R: System>(
 ) -> Result<Exit, RunFault<'a>> {
     let views = &held.gathered.views;
     let clocks = clocks_told(rt.alloc(), views, asked.with_timecodes)?;
-    let FoundUnits { units, range } = match found_units(rt, views, &held.at_hand, &clocks, asked) {
+    let FoundUnits { units, span } = match found_units(rt, views, &held.at_hand, &clocks, asked) {
         Ok(found) => found,
         Err(fault) if waits_for_metadata(views, &fault) => {
             return print_metadata_plan(rt, inputs, held, fault);
         }
         Err(fault) => return Err(fault),
     };
-    let printed = Printed::UnitPlan {
-        units: &units,
-        range,
-    };
-    let exit = print_answer(rt, printed, inputs.form)?;
+    let exit = print_plan_for(rt, inputs, asked, &units, span)?;
     if let Exit::Found = exit {
         told_unsettled(rt, inputs, views)?;
     }
     Ok(exit)
+}
+
+/// Prints what to restore for the edit units from a first one up to a last one. By a timecode they may be more than are
+/// told one by one, if they lie side by side.
+fn print_plan_for<'a, R: System>(
+    rt: &R,
+    inputs: Inputs<'_, 'a>,
+    asked: IndexedUnits<'a>,
+    units: &Units<'_>,
+    span: UnitSpan,
+) -> Result<Exit, RunFault<'a>> {
+    let fault = match span.range() {
+        Ok(range) => return print_answer(rt, Printed::UnitPlan { units, range }, inputs.form),
+        Err(fault) => fault,
+    };
+    if asked.units.timecode().is_none() {
+        return Err(fault);
+    }
+    match ManyUnits::of(rt.alloc(), units, span.first, span.last)? {
+        Some(many) => print_answer(rt, Printed::ManyPlan(&many), inputs.form),
+        None => Err(fault),
+    }
 }
 
 /// Whether header metadata may come by which there is a unit at a timecode.

@@ -58,9 +58,10 @@ fn verify_by<'a, R: System, F: Read + Drop>(
         return print_by(rt, inputs, asked.is_whole, gathered, &verification, &told);
     };
     let clocks = clocks_told(rt.alloc(), views, units.with_timecodes)?;
-    let found = found_units(rt, views, &at_hand, &clocks, units)?;
+    let FoundUnits { units, span } = found_units(rt, views, &at_hand, &clocks, units)?;
+    let range = span.range()?;
     let verification = verified(rt.alloc(), inputs, views, parts, last)?;
-    let told = told_units(rt.alloc(), &verification, &found, &clocks)?;
+    let told = told_units(rt.alloc(), &verification, &units, range, &clocks)?;
     print_by(rt, inputs, asked.is_whole, gathered, &verification, &told)
 }
 
@@ -90,12 +91,12 @@ struct ToldUnits<'c> {
 fn told_units<'c>(
     alloc: Global,
     verification: &Verification<'_>,
-    found: &FoundUnits<'_>,
+    units: &Units<'_>,
+    range: UnitRange,
     clocks: &'c Option<Clocks>,
 ) -> Result<ToldUnits<'c>, OutOfMemory> {
-    let FoundUnits { units, range } = found;
-    let shown = timecodes_shown(alloc, units, *range, clocks)?;
-    let units = Some(units_beside(alloc, verification, units, *range)?);
+    let shown = timecodes_shown(alloc, units, range, clocks)?;
+    let units = Some(units_beside(alloc, verification, units, range)?);
     Ok(ToldUnits { units, shown })
 }
 
