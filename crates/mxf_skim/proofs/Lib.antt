@@ -1,0 +1,4 @@
+pub mod PreferringLaws
+pub mod HeadsRead
+pub mod ContainerLaws
+pub mod SavingLaws
