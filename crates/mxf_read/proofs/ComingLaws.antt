@@ -1,13 +1,13 @@
 -- The note of a packet, the value of which has come whole.
-use Rattle.std.proofs.Common.{◌≡◌, ℕ, ◌+◌, ◌≤◌, List, length, Bool, Vec, Global, vec_len, Option, None, Some, IsSome}
+use Rattle.std.proofs.Common.{◌≡◌, ℕ, ◌+◌, ◌≤◌, List, length, Bool, false, Vec, Global, vec_len, Option, None, Some, IsSome}
 use Rattle.std.proofs.Common.{SomeIff, if◌then◌else◌, refl, sym, ap, subst, ◌∙◌, arith}
 use Rattle.sha2.specs.Sha256.{sha256}
 use Rattle.sha2.specs.declared.Sha256.{Sha256}
 use Rattle.sha2.specs.Hashers.{Holds256}
-use Rattle.mxf_klv.specs.Parts.{CanSpell, note_parts, packet_parts}
+use Rattle.mxf_klv.specs.Parts.{CanSpell, NoteParts, note_parts, packet_parts}
 use Rattle.mxf_klv.specs.Note.{CanNote, greatest_end, keeps, note_of}
 use Rattle.mxf_read.specs.Coming.{HasTaken}
-use Rattle.mxf_read.specs.ValueSoFar.{Has, came_of, is_gathered}
+use Rattle.mxf_read.specs.ValueSoFar.{Has, came_of, is_gathered, is_passing, noted_if}
 use Rattle.mxf_read.specs.declared.coming.ComingValue.{ComingValue}
 use Rattle.mxf_read.specs.declared.coming.ValueSoFar.{ValueSoFar}
 use Rattle.mxf_read.specs.declared.coming.ValueSoFar.TheVariants.{Gathered, Digested}
@@ -49,3 +49,7 @@ gathered_bytes v value m is taken = subst (λ (h : ValueSoFar). Has h m) is take
 pub digested_bytes : (v : ComingValue) (hasher : Sha256) (m : List ℕ) → v.so_far ≡ Digested hasher → HasTaken v m
     → Holds256 hasher m
 digested_bytes v hasher m is taken = subst (λ (h : ValueSoFar). Has h m) is taken.so_far
+
+-- where the value was read, its note is that of the packet
+pub noted_read : (held : ValueSoFar) (n : NoteParts) → is_passing held ≡ false → n ≡ noted_if (is_passing held) n
+noted_read held n e = ap (λ (b : Bool). noted_if b n) (sym e)

@@ -271,20 +271,21 @@ module _ {R : Type 0} (left : R → Option (List ℕ)) where
       (subst IsCatalogue (sym is) (record { content = tt; members = tt }))
       (subst (λ (v : List NoteParts). length v < 2 ^ 64) (sym is) (omega arith))
 
-  pub gathered_fault : (all rest more : List (Part R)) (p : Part R) (number : ℕ) (levels : List (List NoteParts))
-      (reports : List PieceReport) (fault : PartFault) → IsGathered all number rest levels reports → rest ≡ p ∷ more
+  -- a part was passed that is at fault, after others that are good
+  pub fault_at : (all rest more : List (Part R)) (p : Part R) (number : ℕ) (fault : PartFault)
+      → (passed : IsPassed all number rest) → AllByRecursion (IsGood left) passed.done → rest ≡ p ∷ more
       → HasFault left fault p → IsGatherFault left all (record { part = number; fault = fault })
-  gathered_fault all rest more p number levels reports fault g is h =
-      let whole : all ≡ g.passed.done ++ (p ∷ more) =
-      g.passed.whole ∙ ap (λ (t : List (Part R)). g.passed.done ++ t) is in
-      let front : take number all ≡ g.passed.done =
-      ap (take number) whole ∙ take_at g.passed.done (p ∷ more) number g.passed.counted in
+  fault_at all rest more p number fault passed good is h =
+      let whole : all ≡ passed.done ++ (p ∷ more) =
+      passed.whole ∙ ap (λ (t : List (Part R)). passed.done ++ t) is in
+      let front : take number all ≡ passed.done =
+      ap (take number) whole ∙ take_at passed.done (p ∷ more) number passed.counted in
       record {
         at_fault = p;
         numbered = ap (λ (t : List (Part R)). slice_get t number) whole
-            ∙ slice_get_at g.passed.done more p number g.passed.counted;
+            ∙ slice_get_at passed.done more p number passed.counted;
         has = h;
-        before = subst (AllByRecursion (IsGood left)) (sym front) g.good;
+        before = subst (AllByRecursion (IsGood left)) (sym front) good;
       }
 
   -- any part may want memory
@@ -293,18 +294,17 @@ module _ {R : Type 0} (left : R → Option (List ℕ)) where
   wants (Range offset from) = tt
   wants (Saved from) = tt
 
-  pub gathered_wants : (all rest : List (Part R)) (number : ℕ) (levels : List (List NoteParts))
-      (reports : List PieceReport) → IsGathered all number rest levels reports → length rest ≡ 0 → 0 < number
+  pub wants_at_end : (all rest : List (Part R)) (number : ℕ) → (passed : IsPassed all number rest)
+      → AllByRecursion (IsGood left) all → length rest ≡ 0 → 0 < number
       → IsGatherFault left all (record { part = number - 1; fault = OutOfMemory })
-  gathered_wants all rest number levels reports g none some =
-      let is = all_done all rest number levels reports g none in
-      let counted = passed_all all rest number g.passed none in
+  wants_at_end all rest number passed good none some =
+      let counted = passed_all all rest number passed none in
       let (p, there) = some_at all (number - 1) (omega (arith, counted, some)) in
       record {
         at_fault = p;
         numbered = there;
         has = wants p;
-        before = all_take (IsGood left) (number - 1) all (subst (AllByRecursion (IsGood left)) is g.good);
+        before = all_take (IsGood left) (number - 1) all good;
       }
 
   pub told : (all rest more : List (Part R)) (p : Part R) (number : ℕ) → IsPassed all number rest → rest ≡ p ∷ more

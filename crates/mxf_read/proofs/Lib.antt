@@ -2,6 +2,7 @@ pub mod GoingOn
 pub mod Pieces
 pub mod Taking
 pub mod Feeding
+pub mod Scans
 pub mod Reports
 pub mod LevelLaws
 pub mod SavedLaws
@@ -11,4 +12,7 @@ pub mod WindowLaws
 pub mod Tellings
 pub mod GatheringLaws
 pub mod ComingLaws
+pub mod SkimLaws
+pub mod SkimPieces
+pub mod SkimsAndReadings
 mod Walks

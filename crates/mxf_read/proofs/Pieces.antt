@@ -22,7 +22,7 @@ apart_take zero low (x ∷ xs) a = tt
 apart_take (suc n) low (x ∷ xs) a = (a.0, apart_take n (x.offset + 16 + x.width + x.length) xs a.1)
 
 -- no two of them have one offset
-one_at : (low : ℕ) (ns : List NoteParts) (x y : NoteParts) → AreApart low ns → In x ns → In y ns → x.offset ≡ y.offset
+pub one_at : (low : ℕ) (ns : List NoteParts) (x y : NoteParts) → AreApart low ns → In x ns → In y ns → x.offset ≡ y.offset
     → y ≡ x
 one_at low [] x y a h k e = absurd h
 one_at low (n ∷ ns) x y a (inl p) (inl q) e = q ∙ sym p
@@ -36,7 +36,7 @@ one_at low (n ∷ ns) x y a (inr h) (inl q) e =
     absurd (omega arith)
 one_at low (n ∷ ns) x y a (inr h) (inr k) e = one_at (n.offset + 16 + n.width + n.length) ns x y a.1 h k e
 
-reduced_apart : (low : ℕ) (ns : List NoteParts) → AreApart low ns → AreReduced ns
+pub reduced_apart : (low : ℕ) (ns : List NoteParts) → AreApart low ns → AreReduced ns
 reduced_apart low ns a x h (y, k, other, tells) =
     other (one_at low ns x y a h k (sym (ap (λ (m : NoteParts). m.offset) tells)))
 
@@ -47,7 +47,7 @@ all_behind low m (n ∷ ns) a h =
     let from = a.0 in
     (less_by_offset m n (omega arith), all_behind (n.offset + 16 + n.width + n.length) m ns a.1 (omega arith))
 
-content_apart : (low : ℕ) (ns : List NoteParts) → AreApart low ns → IsContent ns
+pub content_apart : (low : ℕ) (ns : List NoteParts) → AreApart low ns → IsContent ns
 content_apart low [] a = tt
 content_apart low (n ∷ ns) a =
     let end = n.offset + 16 + n.width + n.length in

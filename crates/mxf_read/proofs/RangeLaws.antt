@@ -19,7 +19,7 @@ abbrev reported : ℕ → ℕ → Report → PieceReport
 reported part offset report = record { part = part; offset = offset; report = report }
 
 -- the window of the bytes that are read is that of all
-same_window : (all window : List ℕ) → window ≡ take window_limit all → window_of (take piece_limit all) ≡ window
+pub same_window : (all window : List ℕ) → window ≡ take window_limit all → window_of (take piece_limit all) ≡ window
 same_window all window w = take-take window_limit piece_limit all (omega arith) ∙ sym w
 
 -- ---- without a start

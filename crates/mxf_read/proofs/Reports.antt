@@ -22,6 +22,10 @@ use Rattle.mxf_read.specs.declared.report.Report.{Report}
 use Rattle.mxf_read.specs.declared.report.AbsorbFault.{AbsorbFault}
 use Rattle.mxf_read.specs.declared.report.AbsorbFault.TheVariants.{OutOfMemory, ReadFault}
 use Rattle.mxf_read.proofs.Feeding.{awaits, holds}
+use Rattle.mxf_read.proofs.Scans.{noted_count, noted_in}
+use Rattle.mxf_skim.specs.PassedOver.{noted_by}
+use Rattle.mxf_skim.specs.declared.scan.Scan.{Scan}
+use Rattle.mxf_skim.specs.declared.scan.Scan.TheVariants.{Full}
 use Rattle.mxf_read.specs.declared.reading.Cause.TheVariants as causes
 
 -- ---- the report
@@ -29,22 +33,23 @@ use Rattle.mxf_read.specs.declared.reading.Cause.TheVariants as causes
 abbrev made : ℕ → Stop → Report
 made noted stop = record { noted = noted; stop = stop }
 
-pub count_noted : (o : ℕ) (m : List ℕ) (p : Piece) → Knows o m p → length p.notes ≡ length (packets_in o m)
-count_noted o m p k = ap length k.notes ∙ notes_for_packets o (packets_in o m)
+pub count_noted : (scan : Scan) (o : ℕ) (m : List ℕ) (p : Piece) → Knows scan o m p → length p.notes ≡ length (packets_in o m)
+count_noted scan o m p k =
+    ap length k.notes ∙ noted_count scan (notes_from o (packets_in o m)) ∙ notes_for_packets o (packets_in o m)
 
-reported : (o : ℕ) (m : List ℕ) (p : Piece) (noted : ℕ) (stop : Stop) → Knows o m p → noted ≡ length p.notes
+reported : (scan : Scan) (o : ℕ) (m : List ℕ) (p : Piece) (noted : ℕ) (stop : Stop) → Knows scan o m p → noted ≡ length p.notes
     → stop ≡ stop_of p.at (rest_in o m) → made noted stop ≡ report_of o m
-reported o m p noted stop k n s =
-    let count : noted ≡ length (packets_in o m) = n ∙ count_noted o m p k in
+reported scan o m p noted stop k n s =
+    let count : noted ≡ length (packets_in o m) = n ∙ count_noted scan o m p k in
     let is : stop ≡ stop_in o m = s ∙ ap (λ (a : ℕ). stop_of a (rest_in o m)) k.at in
     λ i. record { noted = count i; stop = is i }
 
-pub report_stopped : (o : ℕ) (m : List ℕ) (p : Piece) (noted : ℕ) (stop : Stop) → Fed o m p → noted ≡ length p.notes
+pub report_stopped : (scan : Scan) (o : ℕ) (m : List ℕ) (p : Piece) (noted : ℕ) (stop : Stop) → Fed scan o m p → noted ≡ length p.notes
     → p.stop ≡ Some stop → made noted stop ≡ report_of o m
-report_stopped o m p noted stop fed n e =
-    let next : IsNext p.at (Some stop) p.value p.head.items (rest_in o m) =
-    subst (λ (s : Option Stop). IsNext p.at s p.value p.head.items (rest_in o m)) e fed.next in
-    reported o m p noted stop fed.knows n next.1
+report_stopped scan o m p noted stop fed n e =
+    let next : IsNext scan p.at (Some stop) p.value p.head.items (rest_in o m) =
+    subst (λ (s : Option Stop). IsNext scan p.at s p.value p.head.items (rest_in o m)) e fed.next in
+    reported scan o m p noted stop fed.knows n next.1
 
 end_at : (at : ℕ) → stop_of at [] ≡ End
 unfolding stop_of
@@ -54,12 +59,12 @@ pub nil_from : (xs : List ℕ) (n : ℕ) → n ≡ length xs → nat_eq n 0 ≡ 
 nil_from [] n e t = refl
 nil_from (x ∷ xs) n e t = let zero_is : n ≡ 0 = eqb-true n 0 t in absurd (omega (arith, e, zero_is))
 
-pub report_end : (o : ℕ) (m : List ℕ) (p : Piece) (noted len : ℕ) → Fed o m p → noted ≡ length p.notes → p.stop ≡ None
+pub report_end : (scan : Scan) (o : ℕ) (m : List ℕ) (p : Piece) (noted len : ℕ) → Fed scan o m p → noted ≡ length p.notes → p.stop ≡ None
     → p.value ≡ None → len ≡ length p.head.items → nat_eq len 0 ≡ true → made noted End ≡ report_of o m
-report_end o m p noted len fed n stop value is empty =
-    let h = holds o m p fed stop value in
+report_end scan o m p noted len fed n stop value is empty =
+    let h = holds scan o m p fed stop value in
     let nothing : rest_in o m ≡ [] = sym h.head ∙ nil_from p.head.items len is empty in
-    reported o m p noted End fed.knows n (sym (end_at p.at) ∙ ap (stop_of p.at) (sym nothing))
+    reported scan o m p noted End fed.knows n (sym (end_at p.at) ∙ ap (stop_of p.at) (sym nothing))
 
 open_cut : (at : ℕ) (r : List ℕ) → HasNoKeyAndLength r → IsOpen (stop_of at r) → (length r ≡ 0 → ⊥)
     → stop_of at r ≡ Truncated at
@@ -73,51 +78,51 @@ open_cut at r none cut some =
       | NoStart place ↦ λ e o. absurd o
     ] refl cut
 
-pub report_cut_head : (o : ℕ) (m : List ℕ) (p : Piece) (noted len : ℕ) → Fed o m p → noted ≡ length p.notes
+pub report_cut_head : (scan : Scan) (o : ℕ) (m : List ℕ) (p : Piece) (noted len : ℕ) → Fed scan o m p → noted ≡ length p.notes
     → p.stop ≡ None → p.value ≡ None → len ≡ length p.head.items → nat_eq len 0 ≡ false
     → made noted (Truncated p.at) ≡ report_of o m
-report_cut_head o m p noted len fed n stop value is some =
-    let h = holds o m p fed stop value in
+report_cut_head scan o m p noted len fed n stop value is some =
+    let h = holds scan o m p fed stop value in
     let size = ap length h.head in
-    reported o m p noted (Truncated p.at) fed.knows n (sym (open_cut p.at (rest_in o m) h.none h.cut
+    reported scan o m p noted (Truncated p.at) fed.knows n (sym (open_cut p.at (rest_in o m) h.none h.cut
     (λ z. let zero_is : len ≡ 0 = is ∙ size ∙ z in
     let t : nat_eq len 0 ≡ true = ap (λ (k : ℕ). nat_eq k 0) zero_is in absurd (cc (t, some)))))
 
-pub report_cut_value : (o : ℕ) (m : List ℕ) (p : Piece) (noted : ℕ) → Fed o m p → noted ≡ length p.notes
+pub report_cut_value : (scan : Scan) (o : ℕ) (m : List ℕ) (p : Piece) (noted : ℕ) → Fed scan o m p → noted ≡ length p.notes
     → p.stop ≡ None → is_some p.value ≡ true → made noted (Truncated p.at) ≡ report_of o m
-report_cut_value o m p noted fed n stop some = elim p.value as (λ w. p.value ≡ w → is_some w ≡ true
+report_cut_value scan o m p noted fed n stop some = elim p.value as (λ w. p.value ≡ w → is_some w ≡ true
     → made noted (Truncated p.at) ≡ report_of o m) [
       | None ↦ λ e t. absurd cc
       | Some v ↦ λ e t.
-          let a = awaits o m p v fed stop e in
+          let a = awaits scan o m p v fed stop e in
           let r = rest_in o m in
           let within = v.within in
           let here = a.come.offset in
           let counted = a.come.taken.counted in
           let left = a.left in
           let cut = at_cut p.at r v.key a.come.after v.ber a.come.begins (omega arith) (omega arith) in
-          reported o m p noted (Truncated p.at) fed.knows n (stops p.at r (Truncated p.at) cut).1
+          reported scan o m p noted (Truncated p.at) fed.knows n (stops p.at r (Truncated p.at) cut).1
     ] refl some
 
 -- ---- the head
 
 -- a stop that the piece has come to isn't open
-closed_next : (o : ℕ) (m : List ℕ) (p : Piece) → Fed o m p → is_some p.stop ≡ true → IsOpen (stop_in o m) → ⊥
-closed_next o m p fed some o-pen =
+pub closed_next : (scan : Scan) (o : ℕ) (m : List ℕ) (p : Piece) → Fed scan o m p → is_some p.stop ≡ true → IsOpen (stop_in o m) → ⊥
+closed_next scan o m p fed some o-pen =
     elim p.stop as (λ s. p.stop ≡ s → is_some s ≡ true → ⊥) [
       | None ↦ λ e t. absurd cc
       | Some stop ↦ λ e t.
-          let next : IsNext p.at (Some stop) p.value p.head.items (rest_in o m) =
-          subst (λ (s : Option Stop). IsNext p.at s p.value p.head.items (rest_in o m)) e fed.next in
-          let r = report_stopped o m p (length p.notes) stop fed refl e in
+          let next : IsNext scan p.at (Some stop) p.value p.head.items (rest_in o m) =
+          subst (λ (s : Option Stop). IsNext scan p.at s p.value p.head.items (rest_in o m)) e fed.next in
+          let r = report_stopped scan o m p (length p.notes) stop fed refl e in
           next.2 (subst IsOpen (sym (ap (λ (q : Report). q.stop) r)) o-pen)
     ] refl some
 
 -- the packet whose value is coming is cut
-pub coming_head : (o : ℕ) (m : List ℕ) (p : Piece) (v : ComingValue) → Fed o m p → p.stop ≡ None → p.value ≡ Some v
+pub coming_head : (scan : Scan) (o : ℕ) (m : List ℕ) (p : Piece) (v : ComingValue) → Fed scan o m p → p.stop ≡ None → p.value ≡ Some v
     → heads_at p.at (rest_in o m) ≡ head_parts v.offset v.key v.ber.width v.ber.value ∷ []
-coming_head o m p v fed stop value =
-    let a = awaits o m p v fed stop value in
+coming_head scan o m p v fed stop value =
+    let a = awaits scan o m p v fed stop value in
     let within = v.within in
     let here = a.come.offset in
     let counted = a.come.taken.counted in
@@ -126,14 +131,14 @@ coming_head o m p v fed stop value =
     ∙ ap (λ (at : ℕ). head_parts at v.key v.ber.width v.ber.value ∷ []) (sym here)
 
 -- bytes without a whole key and length have no head
-pub held_head : (o : ℕ) (m : List ℕ) (p : Piece) → Fed o m p → p.stop ≡ None → p.value ≡ None
+pub held_head : (scan : Scan) (o : ℕ) (m : List ℕ) (p : Piece) → Fed scan o m p → p.stop ≡ None → p.value ≡ None
     → heads_at p.at (rest_in o m) ≡ []
-held_head o m p fed stop value = heads_at-none p.at (rest_in o m) (holds o m p fed stop value).none
+held_head scan o m p fed stop value = heads_at-none p.at (rest_in o m) (holds scan o m p fed stop value).none
 
 -- nor is there one behind a stop
-pub stopped_head : (o : ℕ) (m : List ℕ) (p : Piece) → Fed o m p → is_some p.stop ≡ true
+pub stopped_head : (scan : Scan) (o : ℕ) (m : List ℕ) (p : Piece) → Fed scan o m p → is_some p.stop ≡ true
     → heads_at p.at (rest_in o m) ≡ []
-stopped_head o m p fed some = no_heads p.at (rest_in o m) (λ t. closed_next o m p fed some
+stopped_head scan o m p fed some = no_heads p.at (rest_in o m) (λ t. closed_next scan o m p fed some
     (subst (λ (a : ℕ). IsOpen (stop_of a (rest_in o m))) fed.knows.at t))
 
 pub same_with_none : (notes heads : List NoteParts) → heads ≡ [] → notes ≡ reduced_union notes heads
@@ -146,13 +151,13 @@ with_one_head old new heads h n e is one =
 
 -- ---- what was read
 
-take_behind : (xs ys : List ℕ) (n : ℕ) → length xs ≤ n → take n (xs ++ ys) ≡ xs ++ take (n - length xs) ys
+pub take_behind : (xs ys : List ℕ) (n : ℕ) → length xs ≤ n → take n (xs ++ ys) ≡ xs ++ take (n - length xs) ys
 take_behind xs ys n h =
     let split : n ≡ length xs + (n - length xs) = omega arith in
     ap (λ (j : ℕ). take j (xs ++ ys)) split ∙ take-append-add xs ys (n - length xs)
 
 -- a front of the bytes taken is a front of their packets
-pub adds_front : (o : ℕ) (m x : List ℕ) (p : Piece) → Knows o m p
+pub adds_front : (o : ℕ) (m x : List ℕ) (p : Piece) → Knows Full o m p
     → AddsFirst [] p.notes o (m ++ x) (length p.notes) p.at
 adds_front o m x p k =
     let s = seam o m x in
@@ -160,7 +165,7 @@ adds_front o m x p k =
     let qs = packets_in (end_after o ps) (rest_in o m ++ x) in
     let behind = notes_from (end_after o ps) qs in
     let heads = heads_at (end_after o (packets_in o (m ++ x))) (rest_in o (m ++ x)) in
-    let count = count_noted o m p k in
+    let count = count_noted Full o m p k in
     let all : notes_in o (m ++ x) ≡ notes_from o ps ++ (behind ++ heads) =
     ap (λ (l : List NoteParts). l ++ heads) (ap (notes_from o) s.packets ∙ notes_from-append o ps qs)
     ∙ append_assoc (notes_from o ps) behind heads in
@@ -177,18 +182,18 @@ adds_front o m x p k =
     }
 
 -- the state where a read failed may go on
-open_next : (o : ℕ) (m : List ℕ) (p : Piece) → Fed o m p → p.stop ≡ None → IsOpen (stop_in o m)
-open_next o m p fed stop =
+open_next : (scan : Scan) (o : ℕ) (m : List ℕ) (p : Piece) → Fed scan o m p → p.stop ≡ None → IsOpen (stop_in o m)
+open_next scan o m p fed stop =
     elim p.value as (λ w. p.value ≡ w → IsOpen (stop_in o m)) [
-      | None ↦ λ e. subst (λ (a : ℕ). IsOpen (stop_of a (rest_in o m))) fed.knows.at (holds o m p fed stop e).cut
+      | None ↦ λ e. subst (λ (a : ℕ). IsOpen (stop_of a (rest_in o m))) fed.knows.at (holds scan o m p fed stop e).cut
       | Some v ↦ λ e.
           let some : is_some p.value ≡ true = ap is_some e in
-          let r = report_cut_value o m p (length p.notes) fed refl stop some in
+          let r = report_cut_value scan o m p (length p.notes) fed refl stop some in
           subst IsOpen (ap (λ (t : Report). t.stop) r) tt
     ] refl
 
 -- the head that was added is the piece's
-pub heads_added : (o : ℕ) (m : List ℕ) (p q : Piece) → Knows o m p
+pub heads_added : (o : ℕ) (m : List ℕ) (p q : Piece) → Knows Full o m p
     → q.notes ≡ reduced_union p.notes (heads_at p.at (rest_in o m)) → q.notes ≡ reduced_union [] (notes_in o m)
 heads_added o m p q k e =
     let ps = packets_in o m in
@@ -197,28 +202,40 @@ heads_added o m p q k e =
     ∙ ap (λ (l : List NoteParts). reduced_union l heads) (k.notes ∙ sym (alone_packets o ps))
     ∙ sym (union_append [] (notes_from o ps) heads)
 
-pub finished : (o : ℕ) (m : List ℕ) (p q : Piece) (report : Report) → Fed o m p → report ≡ report_of o m
+pub scanned_added : (scan : Scan) (o : ℕ) (m : List ℕ) (p q : Piece) → Knows scan o m p
+    → q.notes ≡ reduced_union p.notes (heads_at p.at (rest_in o m))
+    → q.notes ≡ reduced_union [] (noted_by scan (notes_in o m))
+scanned_added scan o m p q k e =
+    e ∙ ap (λ (a : ℕ). reduced_union p.notes (heads_at a (rest_in o m))) k.at
+    ∙ ap (λ (l : List NoteParts). reduced_union l (heads_at (end_after o (packets_in o m)) (rest_in o m))) k.notes
+    ∙ noted_in scan o m
+
+pub finished : (o : ℕ) (m : List ℕ) (p q : Piece) (report : Report) → Fed Full o m p → report ≡ report_of o m
     → q.notes ≡ reduced_union p.notes (heads_at p.at (rest_in o m)) → Finishes o m q.notes (Ok report)
 finished o m p q report fed is e = (heads_added o m p q fed.knows e, is)
 
 -- it found no memory
-pub unfinished : (o : ℕ) (m : List ℕ) (p q : Piece) (report : Report) (at : ℕ) → Fed o m p → report ≡ report_of o m
+pub unfinished : (o : ℕ) (m : List ℕ) (p q : Piece) (report : Report) (at : ℕ) → Fed Full o m p → report ≡ report_of o m
     → NotesNone p q → at ≡ q.at → Finishes o m q.notes (Err (OutOfMemory report.noted at))
 unfinished o m p q report at fed is none here =
-    let k : Knows o m q = record { notes = none.notes ∙ fed.knows.notes; at = none.at ∙ fed.knows.at } in
+    let k : Knows Full o m q = record {
+      taken_by = none.scan ∙ fed.knows.taken_by;
+      notes = none.notes ∙ fed.knows.notes;
+      at = none.at ∙ fed.knows.at;
+    } in
     let noted : length q.notes ≡ report.noted =
-    count_noted o m q k ∙ sym (ap (λ (r : Report). r.noted) is) in
+    count_noted Full o m q k ∙ sym (ap (λ (r : Report). r.noted) is) in
     subst (λ (j : ℕ). AddsFirst [] q.notes o m j at) noted
     (subst (λ (b : ℕ). AddsFirst [] q.notes o m (length q.notes) b) (sym here)
     (subst (λ (t : List ℕ). AddsFirst [] q.notes o t (length q.notes) q.at) (append-nil m) (adds_front o m [] q k)))
 
 -- a stop that may be gone on behind comes where no more bytes may be taken
 pub filled_end : (o limit : ℕ) (before after : Option (List ℕ)) (p q : Piece) (notes : List NoteParts)
-    (r : Result Report AbsorbFault) → Fed o [] p → ReadsAll before after p q limit (Ok tt)
-    → ((m : List ℕ) → Fed o m q → Finishes o m notes r) → AbsorbsFrom [] notes before after o limit r
+    (r : Result Report AbsorbFault) → Fed Full o [] p → ReadsAll before after p q limit (Ok tt)
+    → ((m : List ℕ) → Fed Full o m q → Finishes o m notes r) → AbsorbsFrom [] notes before after o limit r
 filled_end o limit before after p q notes (Ok report) start h tells =
     let (taken, takes, feeds, ends) = h in
-    let fed = feeds o [] start in
+    let fed = feeds Full o [] start in
     let adds = tells taken fed in (
       taken,
       takes,
@@ -226,38 +243,38 @@ filled_end o limit before after p q notes (Ok report) start h tells =
       λ goes. elim ends [
         | inl e ↦ e
         | inr stopped ↦
-            absurd (closed_next o taken q fed stopped (subst IsOpen (ap (λ (r : Report). r.stop) adds.1) goes))
+            absurd (closed_next Full o taken q fed stopped (subst IsOpen (ap (λ (r : Report). r.stop) adds.1) goes))
       ],
     )
 filled_end o limit before after p q notes (Err (OutOfMemory noted at)) start h tells =
     let (taken, takes, feeds, ends) = h in
-    (taken, takes, tells taken (feeds o [] start))
+    (taken, takes, tells taken (feeds Full o [] start))
 filled_end o limit before after p q notes (Err (ReadFault noted at)) start h tells =
     let (taken, takes, feeds, ends) = h in
-    absurd (tells taken (feeds o [] start))
+    absurd (tells taken (feeds Full o [] start))
 
-pub filled_fault : (o limit : ℕ) (before after : Option (List ℕ)) (p q : Piece) (noted at : ℕ) → Fed o [] p
+pub filled_fault : (o limit : ℕ) (before after : Option (List ℕ)) (p q : Piece) (noted at : ℕ) → Fed Full o [] p
     → ReadsAll before after p q limit (Err causes.ReadFault) → noted ≡ length q.notes → at ≡ q.at
     → AbsorbsFrom [] q.notes before after o limit (Err (ReadFault noted at))
 filled_fault o limit before after p q noted at start h n a =
     let (taken, takes, feeds, stop) = h in
-    let fed = feeds o [] start in
+    let fed = feeds Full o [] start in
     let adds = subst (λ (t : List ℕ). AddsFirst [] q.notes o t (length q.notes) q.at) (append-nil taken)
     (adds_front o taken [] q fed.knows) in (
       taken,
       takes,
       subst (λ (k : ℕ). AddsFirst [] q.notes o taken k at) (sym n)
           (subst (λ (b : ℕ). AddsFirst [] q.notes o taken (length q.notes) b) (sym a) adds),
-      n ∙ count_noted o taken q fed.knows,
-      open_next o taken q fed stop,
+      n ∙ count_noted Full o taken q fed.knows,
+      open_next Full o taken q fed stop,
     )
 
-pub filled_memory : (o limit : ℕ) (before after : Option (List ℕ)) (p q : Piece) (noted at : ℕ) → Fed o [] p
+pub filled_memory : (o limit : ℕ) (before after : Option (List ℕ)) (p q : Piece) (noted at : ℕ) → Fed Full o [] p
     → ReadsAll before after p q limit (Err causes.OutOfMemory) → noted ≡ length q.notes → at ≡ q.at
     → AbsorbsFrom [] q.notes before after o limit (Err (OutOfMemory noted at))
 filled_memory o limit before after p q noted at start h n a =
     let (taken, takes, fails) = h in
-    let (done, left, split, k) = fails o [] start in
+    let (done, left, split, k) = fails Full o [] start in
     let adds = subst (λ (t : List ℕ). AddsFirst [] q.notes o t (length q.notes) q.at) (sym split)
     (adds_front o done left q k) in (
       taken,
@@ -304,7 +321,7 @@ from_none old piece new before after o limit r h e =
 
 -- ---- the stream
 
-adds_more : (old new : List NoteParts) (o : ℕ) (m x : List ℕ) (report : Report) → Absorbs old new o m (Ok report)
+pub adds_more : (old new : List NoteParts) (o : ℕ) (m x : List ℕ) (report : Report) → Absorbs old new o m (Ok report)
     → (IsOpen report.stop → ⊥) → Absorbs old new o (m ++ x) (Ok report)
 adds_more old new o m x report a final =
     let closed : IsOpen (stop_in o m) → ⊥ =
@@ -325,7 +342,7 @@ open_or_not (BadLength place) = inr (λ t. t)
 open_or_not (TooFar place) = inr (λ t. t)
 open_or_not (NoStart place) = inr (λ t. t)
 
-whole_taken : (before after : Option (List ℕ)) (limit : ℕ) (taken : List ℕ) → Takes before after limit taken
+pub whole_taken : (before after : Option (List ℕ)) (limit : ℕ) (taken : List ℕ) → Takes before after limit taken
     → (length taken ≡ limit) ⊎ IsAtEnd after → IfSome before (λ all. take limit all ≡ taken)
 whole_taken None after limit taken t e = tt
 whole_taken (Some xs) None limit taken t e = absurd t.consumed
@@ -335,7 +352,7 @@ whole_taken (Some xs) (Some ys) limit taken t (inr e) =
     let within = t.within in
     ap (take limit) all ∙ take_all limit taken within
 
-front_taken : (before after : Option (List ℕ)) (limit : ℕ) (taken : List ℕ) → Takes before after limit taken
+pub front_taken : (before after : Option (List ℕ)) (limit : ℕ) (taken : List ℕ) → Takes before after limit taken
     → IfSome before (λ all. (x : List ℕ) × (take limit all ≡ taken ++ x))
 front_taken None after limit taken t = tt
 front_taken (Some xs) None limit taken t = absurd t.consumed

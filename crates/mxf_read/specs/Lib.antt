@@ -2,7 +2,10 @@ pub mod ValueSoFar
 pub mod Coming
 pub mod Feeding
 pub mod Reads
+pub mod Skimming
 pub mod Absorbs
+pub mod Scanned
 pub mod Ranges
 pub mod Levels
 pub mod Gathering
+pub mod SkimGathering

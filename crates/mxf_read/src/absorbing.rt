@@ -10,6 +10,9 @@ ghost use Rattle.mxf_catalogue.specs.History.{History, Absorb, Cut, content};
 ghost use Rattle.mxf_read.specs.Absorbs.{Absorbs, AbsorbsFrom, AddsFirst, Finishes, GoesOnAt, first_notes_in};
 ghost use Rattle.mxf_read.specs.Absorbs.{history_with};
 ghost use Rattle.mxf_read.specs.Feeding.{Fed};
+ghost use Rattle.mxf_read.specs.Scanned.{IsScanned};
+ghost use Rattle.mxf_skim.specs.declared.scan.Scan.{Scan};
+ghost use Rattle.mxf_skim.specs.declared.scan.Scan.TheVariants.{Full};
 ghost use Rattle.mxf_read.specs.Reads.{Takes};
 ghost use Rattle.mxf_read.specs.declared.report.AbsorbFault.TheVariants as faults;
 
@@ -150,10 +153,10 @@ fn fill<R: Read>(
     limit: u64,
     ticks: &mut ReadTicks,
 ) -> Result<Report, AbsorbFault>
-    requires { (o : ℕ) × Fed o [] piece.old }
+    requires { (o : ℕ) × Fed Full o [] piece.old }
     ensures reads { ticks.new.count ≤ ticks.old.count + limit + 1026 }
     ensures counts { ticks.old.count ≤ ticks.new.count }
-    ensures taken { (o : ℕ) → Fed o [] piece.old
+    ensures taken { (o : ℕ) → Fed Full o [] piece.old
         → AbsorbsFrom [] piece.new.notes (R.remaining from.old) (R.remaining from.new) o limit result }
 {
     match read_all(piece, from, limit, ticks) {
@@ -170,8 +173,10 @@ fn fill<R: Read>(
 }
 
 /// Says what was noted of the piece, to which no more bytes come, and adds the head of the packet that its end cuts.
-fn finish(piece: &mut Piece) -> Result<Report, AbsorbFault>
-    ensures { (o : ℕ) (m : List ℕ) → Fed o m piece.old → Finishes o m piece.new.notes result }
+pub(crate) fn finish(piece: &mut Piece) -> Result<Report, AbsorbFault>
+    ensures read { (o : ℕ) (m : List ℕ) → Fed Full o m piece.old → Finishes o m piece.new.notes result }
+    ensures scanned { (scan : Scan) (o : ℕ) (m : List ℕ) → Fed scan o m piece.old
+        → IfOk result (IsScanned scan o m piece.new.notes) }
 {
     let report = piece.report();
     match piece.add_head() {

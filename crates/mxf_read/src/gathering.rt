@@ -18,6 +18,7 @@ mod levels;
 mod part;
 mod reading;
 mod report;
+mod skimming;
 
 use crate::absorbing::{PieceNotes, notes_from};
 use crate::range::start_of;
@@ -31,6 +32,7 @@ use mxf_views::Views;
 pub use part::Part;
 use reading::read_up_to;
 pub use report::{PieceReport, PieceReports};
+pub use skimming::gather_skim;
 use std::alloc::Global;
 use std::io::Read;
 

@@ -20,6 +20,9 @@
 //! looked for in the first 33,554,432 bytes, and [`laws::each_start_in_the_window_is_found`] says that none is missed
 //! there.
 //!
+//! [`gather_skim`] does the same without reading what a container holds: it passes over the values of essence and of
+//! what stands among it, by [`PassOver`]. Beside the digests it holds and reports what [`gather`] does.
+//!
 //! Callers that read otherwise feed a [`Piece`], or a [`ComingValue`] after a known key and length. Each read is a
 //! [`read_step`].
 //!
@@ -49,19 +52,22 @@ mod absorbing;
 mod coming;
 mod gathering;
 pub mod laws;
+mod pass_over;
 mod piece;
 mod range;
 mod reading;
 mod report;
+mod skimming;
 mod ticks;
 
 pub use absorbing::{PieceNotes, absorb, absorb_from, notes_from};
 pub use coming::ComingValue;
 pub use gathering::{
     GREATEST_PIECE, GREATEST_WINDOW, GatherFault, Gathered, Part, PartFault, PieceReport,
-    PieceReports, gather,
+    PieceReports, gather, gather_skim,
 };
 pub use mxf_klv::Stop;
+pub use pass_over::PassOver;
 pub use piece::Piece;
 pub use range::start_of;
 pub use reading::{GREATEST_INTERRUPTIONS, Step, read_step};

@@ -4,20 +4,25 @@ ghost use Rattle.std.specs.Prelude.{OnErr, false, is_some};
 ghost use Rattle.sha2.specs.Sha256.{sha256};
 ghost use Rattle.mxf_klv.specs.PieceReading.{IsOpen, heads_at, rest_in};
 ghost use Rattle.mxf_catalogue.specs.Content.{reduced_union};
+ghost use Rattle.mxf_skim.specs.declared.scan.Scan.{Scan};
+ghost use Rattle.mxf_skim.specs.declared.scan.Scan.TheVariants.{Full};
 
 use crate::coming::ComingValue;
 use crate::report::Report;
 use mxf_catalogue::Catalogue;
 use mxf_klv::{KEY_AND_LENGTH, Note, OutOfMemory, Stop, next_key_and_length};
+use mxf_skim::Scan;
 use sha2::{Digest, Sha256};
 use std::alloc::Global;
 
 /// A piece whose bytes come in parts: the notes of the packets that have come whole, and what has come of the next.
 ///
-/// Of that one it holds no more than the key and the length, and the value if it is kept.
+/// Of that one it holds no more than the key and the length, and the value if it is kept. A skim passes over the values
+/// of a container's packets: it can be told that bytes pass, and no byte of them counts.
 #[derive(Drop)]
 pub struct Piece {
     alloc: Global,
+    scan: Scan,
     notes: Catalogue,
     at: u64,
     /// What has come of the next packet, as long as key and length aren't whole.
@@ -33,15 +38,23 @@ pub struct Piece {
 impl Piece {
     ghost use Rattle.mxf_read.specs.Coming.{HasCome};
     ghost use Rattle.mxf_read.specs.Feeding.{Fails, Fed, Feeds, IsFed, Knows, NotesNone, TakesFront, Tells};
-    ghost use Rattle.mxf_read.specs.Feeding.{begun_heads, option_list, waits_for_more};
+    ghost use Rattle.mxf_read.specs.Feeding.{begun_heads, option_list, passing_left, waits_for_more};
     ghost use Rattle.mxf_read.specs.Absorbs.{report_of};
 
-    /// No byte of the piece at a file offset.
+    /// No byte of the piece at a file offset, all values of which are read.
     pub fn new(alloc: Global, offset: u64) -> Piece
-        ensures { Fed offset [] result }
+        ensures { Fed Full offset [] result }
+    {
+        Piece::by(alloc, Scan::Full, offset)
+    }
+
+    /// No byte of the piece at a file offset, which is read or skimmed.
+    pub fn by(alloc: Global, scan: Scan, offset: u64) -> Piece
+        ensures { Fed scan offset [] result }
     {
         Piece {
             alloc,
+            scan,
             notes: Catalogue::new(alloc),
             at: offset,
             head: Vec::new(alloc),
@@ -71,15 +84,15 @@ impl Piece {
     /// Whether any of the last `left` bytes is wanted: none is after a stop, nor inside a value that they don't end.
     pub fn wants(&self, left: u64) -> bool
         ensures more { IsTrue result → 0 < left }
-        ensures enough { result ≡ false → (o : ℕ) (m x : List ℕ) → length x ≡ left → Fed o m self.now
-            → Tells o (m ++ x) self.now }
+        ensures enough { result ≡ false → (scan : Scan) (o : ℕ) (m x : List ℕ) → length x ≡ left
+            → Fed scan o m self.now → Tells scan o (m ++ x) self.now }
     {
         left > 0 && !self.has_stopped() && !self.is_cut(left)
     }
 
     /// What is noted of the piece, when no more bytes come.
     pub(crate) fn report(&self) -> Report
-        ensures { (o : ℕ) (m : List ℕ) → Fed o m self.now → result ≡ report_of o m }
+        ensures { (scan : Scan) (o : ℕ) (m : List ℕ) → Fed scan o m self.now → result ≡ report_of o m }
     {
         let noted = self.notes.len() as u64;
         if let Some(stop) = self.stop {
@@ -99,7 +112,7 @@ impl Piece {
 
     /// Adds the head of the next packet, if key and length have come whole. No more bytes come.
     pub(crate) fn add_head(&mut self) -> Result<(), OutOfMemory>
-        ensures added { OnOk result ((o : ℕ) (m : List ℕ) → Fed o m self.old
+        ensures added { OnOk result ((scan : Scan) (o : ℕ) (m : List ℕ) → Fed scan o m self.old
             → self.new.notes ≡ reduced_union self.old.notes (heads_at self.old.at (rest_in o m))) }
         ensures err { OnErr result (NotesNone self.old self.new) }
     {
@@ -121,6 +134,35 @@ impl Piece {
         }
         let value = self.value.as_ref()?;
         Some(value.head())
+    }
+
+    /// The number of bytes that are to come of a value that is passed over; 0 if there is no such value.
+    pub fn passing(&self) -> u64
+        ensures { result ≡ passing_left self.now.stop self.now.value }
+    {
+        match &self.value {
+            Some(value) if !self.has_stopped() && value.is_passing() => value.left(),
+            _ => 0,
+        }
+    }
+
+    /// The next `count` bytes, all of a value that is passed over, whatever they are.
+    pub fn pass(&mut self, count: u64) -> Result<(), OutOfMemory>
+        requires fed { IsFed self.old }
+        requires within { count ≤ passing_left self.old.stop self.old.value }
+        ensures passed { OnOk result ((x : List ℕ) → length x ≡ count → Feeds self.old self.new x) }
+    {
+        if count == 0 {
+            return Ok(());
+        }
+        match self.value.take() {
+            Some(mut value) => {
+                value.pass(count);
+                self.go_on(value)?;
+                Ok(())
+            }
+            None => Ok(()),
+        }
     }
 
     /// The number of notes.
@@ -186,7 +228,7 @@ impl Piece {
         }
         match next_key_and_length(self.at, bytes) {
             Ok((key, ber)) => {
-                let value = ComingValue::of(self.alloc, self.at, key, ber)?;
+                let value = ComingValue::by(self.alloc, self.scan, self.at, key, ber)?;
                 self.go_on(value)?;
                 Ok(16 + usize::from(ber.width()))
             }
@@ -208,7 +250,7 @@ impl Piece {
         match next_key_and_length(self.at, &self.head) {
             Ok((key, ber)) => {
                 self.head.clear();
-                let value = ComingValue::of(self.alloc, self.at, key, ber)?;
+                let value = ComingValue::by(self.alloc, self.scan, self.at, key, ber)?;
                 self.go_on(value)?;
                 Ok(16 + usize::from(ber.width()) - known)
             }
@@ -230,8 +272,8 @@ impl Piece {
         requires more { 0 < length bytes.now }
         ensures some { IfOk result (λ n. 0 < n) }
         ensures room { IfOk result (λ n. n ≤ length bytes.now) }
-        ensures fed { IfOk result (λ n. (o : ℕ) (m : List ℕ) → Knows o m self.old
-            → HasCome self.old.at value (rest_in o m) → Fed o (m ++ take n bytes.now) self.new) }
+        ensures fed { IfOk result (λ n. (scan : Scan) (o : ℕ) (m : List ℕ) → Knows scan o m self.old
+            → HasCome scan self.old.at value (rest_in o m) → Fed scan o (m ++ take n bytes.now) self.new) }
         ensures err { OnErr result (NotesNone self.old self.new) }
     {
         let mut value = value;
@@ -246,8 +288,8 @@ impl Piece {
         requires goes_on { self.old.stop ≡ None }
         requires value { self.old.value ≡ None }
         requires head { self.old.head.items ≡ [] }
-        ensures fed { OnOk result ((o : ℕ) (m x : List ℕ) → Knows o m self.old
-            → HasCome self.old.at value (rest_in o m ++ x) → Fed o (m ++ x) self.new) }
+        ensures fed { OnOk result ((scan : Scan) (o : ℕ) (m x : List ℕ) → Knows scan o m self.old
+            → HasCome scan self.old.at value (rest_in o m ++ x) → Fed scan o (m ++ x) self.new) }
         ensures err { OnErr result (NotesNone self.old self.new) }
     {
         if value.left() > 0 {

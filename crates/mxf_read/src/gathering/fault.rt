@@ -2,6 +2,7 @@
 ghost use Rattle.std.specs.Prelude.{◌≡◌, ◌⊎◌};
 ghost use Rattle.mxf_read.specs.declared.gathering.fault.PartFault.TheVariants as faults;
 
+use crate::reading::Cause;
 use crate::report::AbsorbFault;
 use mxf_catalogue::FileFault;
 use mxf_klv::OutOfMemory;
@@ -46,6 +47,17 @@ impl From<OutOfMemory> for PartFault {
 
     fn from(_fault: OutOfMemory) -> PartFault {
         PartFault::OutOfMemory
+    }
+}
+
+impl From<Cause> for PartFault {
+    ghost from_gives = { λ _ e. (e ≡ faults.OutOfMemory) ⊎ (e ≡ faults.ReadFault) };
+
+    fn from(cause: Cause) -> PartFault {
+        match cause {
+            Cause::OutOfMemory => PartFault::OutOfMemory,
+            Cause::ReadFault => PartFault::ReadFault,
+        }
     }
 }
 

@@ -1,9 +1,11 @@
 //! Merging catalogues in balance.
 ghost use Rattle.std.specs.Prelude.{◌≡◌, ◌++◌, ◌∷◌, [], IfOk, IfNone, MatchOption, OnOk};
 ghost use Rattle.mxf_read.specs.Levels.{Adds, EndsAbove, HoldsAll, merged_with};
+ghost use Rattle.mxf_read.specs.SkimGathering.{HoldsSkim};
 
 use mxf_catalogue::Catalogue;
 use mxf_klv::OutOfMemory;
+use mxf_skim::prefer_read;
 use mxf_views::Views;
 use std::alloc::Global;
 use std::marker::Model;
@@ -67,6 +69,21 @@ impl Levels {
         ensures { IfOk result (λ views. HoldsAll self views) }
     {
         let catalogue = self.merged(alloc)?;
+        catalogue.laws();
+        match Views::of(alloc, catalogue) {
+            Ok(views) => Ok(views),
+            Err(_) => Err(OutOfMemory),
+        }
+    }
+
+    /// The views of the notes of all, made once, where notes of packets that were read are preferred to those of the
+    /// same packets that were passed over.
+    pub(super) fn into_skim(self, alloc: Global) -> Result<Views, OutOfMemory>
+        ensures { IfOk result (HoldsSkim self) }
+    {
+        let merged = self.merged(alloc)?;
+        merged.laws();
+        let catalogue = prefer_read(alloc, merged)?;
         catalogue.laws();
         match Views::of(alloc, catalogue) {
             Ok(views) => Ok(views),

@@ -4,7 +4,7 @@ use Rattle.mxf_read.proofs.absorbing.fill.Goals as goal
 pub returns-in-Ok-clause-taken : goal.returns-in-Ok-clause-taken
 returns-in-Ok-clause-taken g c = λ o start.
     filled_end o c.args.limit _ _ c.args.piece.now c.read_all.new.piece c.finish.new.piece.notes c.finish.result start
-    c.in-Ok.ensures.bytes (c.finish.ensures o)
+    c.in-Ok.ensures.bytes (c.finish.ensures.read o)
 
 pub returns-in-Err-OutOfMemory-clause-taken : goal.returns-in-Err-OutOfMemory-clause-taken
 returns-in-Err-OutOfMemory-clause-taken g c = λ o start.

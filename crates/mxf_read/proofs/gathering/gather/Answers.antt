@@ -2,7 +2,7 @@ use Rattle.std.proofs.Common.{[], ◌≡◌, ◌∙◌, sym, subst, List, arith}
 use Rattle.std.specs.Vec.Iter.{into_iter_items}
 use Rattle.mxf_read.proofs.GatheringLaws.{IsPassed, IsGathered, passed_none, gathered_none, passed_one, gathered_one}
 use Rattle.mxf_read.proofs.GatheringLaws.{nothing_left, passed_all, passed_within, gathered_good, gathered_reports}
-use Rattle.mxf_read.proofs.GatheringLaws.{gathered_run, gathered_left, gathered_nothing, gathered_fault, gathered_wants}
+use Rattle.mxf_read.proofs.GatheringLaws.{gathered_run, gathered_left, gathered_nothing, fault_at, wants_at_end}
 use Rattle.mxf_read.proofs.GatheringLaws.{told}
 use Rattle.mxf_read.proofs.gathering.gather.Goals as goal
 
@@ -24,7 +24,7 @@ returns-in-Err-clause-fault g c t =
     let all = c.args.parts.items in
     let i = c.parts.invariant in
     let next = c.in-Some.ensures.steps.0 in
-    gathered_fault left all _ _ c.in-Some.part c.parts.number _ _ c.in-Err.fault (i.gathered t) next
+    fault_at left all _ _ c.in-Some.part c.parts.number c.in-Err.fault (i.gathered t).passed (i.gathered t).good next
     (c.in-Err.ensures.fault (told left all _ _ c.in-Some.part c.parts.number i.passed next t))
 
 pub parts-preserved : goal.parts-preserved
@@ -59,8 +59,11 @@ returns-in-Ok-clause-run g c t = grind (arith, gathered_run, into_iter_items)
 
 pub returns-in-Err-into_views-clause-fault : goal.returns-in-Err-into_views-clause-fault
 returns-in-Err-into_views-clause-fault g c t =
-    gathered_wants g.R.Read.remaining c.args.parts.items (into_iter_items c.parts.part-iterator) c.parts.number _ _
-    (c.parts.invariant.gathered t) (sym c.parts.part-iterator.rest.ok.0 ∙ c.in-None.ensures.steps.0) (omega arith)
+    let none = sym c.parts.part-iterator.rest.ok.0 ∙ c.in-None.ensures.steps.0 in
+    wants_at_end g.R.Read.remaining c.args.parts.items (into_iter_items c.parts.part-iterator) c.parts.number
+    (c.parts.invariant.gathered t).passed
+    (gathered_good g.R.Read.remaining c.args.parts.items (into_iter_items c.parts.part-iterator) c.parts.number _ _
+    (c.parts.invariant.gathered t) none) none (omega arith)
 
 pub returns-then-number-eq0-clause-good : goal.returns-then-number-eq0-clause-good
 returns-then-number-eq0-clause-good g c t = grind (arith, gathered_good, into_iter_items)

@@ -1,7 +1,7 @@
 use Rattle.std.proofs.Common.{ap, sym, ◌∙◌}
-use Rattle.mxf_read.specs.ValueSoFar.{is_gathered}
+use Rattle.mxf_read.specs.ValueSoFar.{is_gathered, is_passing}
 use Rattle.mxf_read.proofs.ComingLaws.{all_came, can_note, digested_bytes, gathered, gathered_bytes, same_note}
-use Rattle.mxf_read.proofs.ComingLaws.{some_where}
+use Rattle.mxf_read.proofs.ComingLaws.{noted_read, some_where}
 use Rattle.mxf_read.proofs.coming.ComingValue.into_note.Goals as goal
 
 pub unwrap-requires : goal.unwrap-requires
@@ -22,6 +22,7 @@ returns-in-Gathered c = λ m taken. (rw c.unwrap.ensures at c.kept.ensures.note)
     ∙ same_note c.args.self m c.width.result _ _ _ c.requires.left taken c.width.ensures.width
     (gathered c.args.self c.in-Gathered.value c.in-Gathered.is c.requires.left) (ap is_gathered c.in-Gathered.is)
     (gathered_bytes c.args.self c.in-Gathered.value m c.in-Gathered.is taken)
+    ∙ noted_read c.args.self.so_far _ (ap is_passing c.in-Gathered.is)
 
 pub returns-in-Digested : goal.returns-in-Digested
 returns-in-Digested c = λ m taken. (rw c.unwrap-in-Digested.ensures at c.digested.ensures).1
@@ -30,3 +31,4 @@ returns-in-Digested c = λ m taken. (rw c.unwrap-in-Digested.ensures at c.digest
     c.value-in-Digested.ensures (ap is_gathered c.in-Digested.is)
     (c.digest_of-digest.ensures m (digested_bytes c.args.self c.in-Digested.hasher m c.in-Digested.is taken)
     (all_came c.args.self m c.requires.left taken ∙ sym c.value.ensures))
+    ∙ noted_read c.args.self.so_far _ (ap is_passing c.in-Digested.is)

@@ -26,4 +26,4 @@ returns-else-is_none-clause-fed c =
     let all : Feeds c.args.self.now c.bytes.self c.args.bytes.now =
     subst (Feeds c.args.self.now c.bytes.self) (sym split)
     (Feeds-trans c.args.self.now c.bytes.self c.bytes.self done rest fed last) in
-    λ o m h. same_fed o (m ++ c.args.bytes.now) c.bytes.self _ refl refl refl refl refl (all o m h)
+    λ scan o m h. same_fed scan o (m ++ c.args.bytes.now) c.bytes.self _ refl refl refl refl refl refl (all scan o m h)

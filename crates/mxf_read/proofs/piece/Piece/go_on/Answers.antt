@@ -3,12 +3,12 @@ use Rattle.mxf_read.proofs.Feeding.{noted, waits}
 use Rattle.mxf_read.proofs.piece.Piece.go_on.Goals as goal
 
 pub returns-then-left-gt0-clause-fed : goal.returns-then-left-gt0-clause-fed
-returns-then-left-gt0-clause-fed c = λ o m x knows come.
-    waits o m x c.args.self.now _ c.args.value knows come (omega (arith, c.left.ensures, c.if-left-gt0.true)) refl refl
+returns-then-left-gt0-clause-fed c = λ scan o m x knows come.
+    waits scan o m x c.args.self.now _ c.args.value knows come (omega (arith, c.left.ensures, c.if-left-gt0.true)) refl refl refl
     c.requires.goes_on refl c.requires.head
 
 pub returns-clause-fed : goal.returns-clause-fed
-returns-clause-fed c = λ o m x knows come. noted o m x c.args.self.now _ c.args.value c.into_note-note.result knows come
-    (omega (arith, c.left.ensures, c.if-left-gt0.false)) c.into_note-note.ensures c.in_ok-add.ensures.added
+returns-clause-fed c = λ scan o m x knows come. noted scan o m x c.args.self.now _ c.args.value c.into_note-note.result knows come
+    (omega (arith, c.left.ensures, c.if-left-gt0.false)) c.into_note-note.ensures refl c.in_ok-add.ensures.added
     c.end-end.ensures
     c.requires.goes_on c.requires.value c.requires.head

@@ -1,6 +1,6 @@
 use Rattle.mxf_views.proofs.Common.{◌≡◌, ◌+◌, ◌-◌, ◌++◌, [], length, take, arith, refl, sym, ap, ◌∙◌, take_all}
 use Rattle.mxf_views.proofs.Common.{LengthParts, IsHeadNow}
-use Rattle.mxf_read.proofs.Feeding.{begun, head_whole}
+use Rattle.mxf_read.proofs.Feeding.{begun, head_whole, passing_as}
 use Rattle.mxf_read.proofs.Reports.{nil_from}
 use Rattle.mxf_read.proofs.piece.Piece.take_head.Goals as goal
 
@@ -28,8 +28,8 @@ returns-in_ok-go_on-in-Ok c =
     record {
       some = omega arith;
       room = omega (arith, room, used);
-      fed = λ o m fed. c.in_ok-go_on-in-Ok.ensures.fed o m (take (16 + c.from.result) bytes)
-          (record { notes = fed.knows.notes; at = fed.knows.at })
-          (begun o m bytes p v (16 + c.from.result) fed c.requires.goes_on c.requires.head now used made.offset
-          made.none);
+      fed = λ scan o m fed. c.in_ok-go_on-in-Ok.ensures.fed scan o m (take (16 + c.from.result) bytes)
+          (record { taken_by = fed.knows.taken_by; notes = fed.knows.notes; at = fed.knows.at })
+          (begun scan o m bytes p v (16 + c.from.result) fed c.requires.goes_on c.requires.head now used made.offset
+          made.none (passing_as scan p v fed.knows.taken_by _ _ made.key made.length made.passing));
     }

@@ -1,6 +1,6 @@
 use Rattle.mxf_views.proofs.Common.{◌≡◌, ◌++◌, ◌+◌, ◌-◌, length, take, arith, refl, sym, ap, ◌∙◌, LengthParts}
 use Rattle.mxf_views.proofs.Common.{IsHeadNow}
-use Rattle.mxf_read.proofs.Feeding.{begun, few_held, head_whole, held_more, lacks_head, stopped}
+use Rattle.mxf_read.proofs.Feeding.{begun, few_held, head_whole, held_more, lacks_head, passing_as, stopped}
 use Rattle.mxf_read.proofs.piece.Piece.take_more_of_head.Goals as goal
 
 pub overflow_sub-known : goal.overflow_sub-known
@@ -43,9 +43,10 @@ returns-in_ok-go_on-in-Ok c =
     record {
       some = omega (arith, below, width, c.from.ensures, c.len-known.ensures, p.head.ok.0);
       room = omega (arith, below, room, width, c.from.ensures, c.len-known.ensures, p.head.ok.0);
-      fed = λ o m fed. c.in_ok-go_on-in-Ok.ensures.fed o m (take used c.args.bytes.now)
-          (record { notes = fed.knows.notes; at = fed.knows.at })
-          (begun o m c.args.bytes.now p v used fed c.requires.goes_on c.requires.head now is made.offset made.none);
+      fed = λ scan o m fed. c.in_ok-go_on-in-Ok.ensures.fed scan o m (take used c.args.bytes.now)
+          (record { taken_by = fed.knows.taken_by; notes = fed.knows.notes; at = fed.knows.at })
+          (begun scan o m c.args.bytes.now p v used fed c.requires.goes_on c.requires.head now is made.offset made.none
+          (passing_as scan p v fed.knows.taken_by _ _ made.key made.length made.passing));
     }
 
 pub returns-then-not-may_go_on : goal.returns-then-not-may_go_on
@@ -59,8 +60,8 @@ returns-then-not-may_go_on c =
     record {
       some = omega (arith, few, c.len-known.ensures, p.head.ok.0, c.min-count.ensures, c.requires.more);
       room = omega (arith, c.min-count.ensures);
-      fed = λ o m fed. stopped o m _ p _ c.in-Err.stop fed c.requires.goes_on c.requires.head lacks
-          (λ t. let yes = c.may_go_on.ensures.1 t in absurd (cc (yes, c.if-not-may_go_on.true))) refl refl refl;
+      fed = λ scan o m fed. stopped scan o m _ p _ c.in-Err.stop fed c.requires.goes_on c.requires.head lacks
+          (λ t. let yes = c.may_go_on.ensures.1 t in absurd (cc (yes, c.if-not-may_go_on.true))) refl refl refl refl;
     }
 
 pub returns-else-not-may_go_on : goal.returns-else-not-may_go_on
@@ -74,6 +75,6 @@ returns-else-not-may_go_on c =
     record {
       some = omega (arith, few, c.len-known.ensures, p.head.ok.0, c.min-count.ensures, c.requires.more);
       room = omega (arith, c.min-count.ensures);
-      fed = λ o m fed. held_more o m _ p _ c.in-Err.stop fed c.requires.goes_on c.requires.head lacks
-          (c.may_go_on.ensures.0 c.if-not-may_go_on.false) refl refl c.requires.goes_on c.requires.head items;
+      fed = λ scan o m fed. held_more scan o m _ p _ c.in-Err.stop fed c.requires.goes_on c.requires.head lacks
+          (c.may_go_on.ensures.0 c.if-not-may_go_on.false) refl refl refl c.requires.goes_on c.requires.head items;
     }
