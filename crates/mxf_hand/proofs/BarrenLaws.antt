@@ -28,13 +28,13 @@ one_reading = exact_pairs nat_cmp (option_cmp nat_cmp) exact_unsigned (exact_opt
 -- What a table has is barren.
 pub found_barren : (h : HandBytes) (entries : List ((ℕ × Option ℕ) × Option NoteParts)) (from : ℕ) (end : Option ℕ)
     → AreAllBarren h entries
-    → IfSome (lookup (is_at (asked_cmp (from, end))) entries) (IsReading from (read_bytes h end from) [])
+    → IfSome (lookup (is_at (asked_cmp (from, end))) entries) (IsReading h.scan from (read_bytes h end from) [])
 found_barren h [] from end all = tt
 found_barren h (e ∷ entries) from end all = elim (asked_cmp (from, end) e.0) as (λ o. asked_cmp (from, end) e.0 ≡ o
     → IfSome (cond (is_eq o) (Some e.1) (lookup (is_at (asked_cmp (from, end))) entries))
-    (IsReading from (read_bytes h end from) [])) [
+    (IsReading h.scan from (read_bytes h end from) [])) [
       | Less ↦ λ _. found_barren h entries from end all.1
-      | Equal ↦ λ same. subst (λ (k : ℕ × Option ℕ). IsReading k.0 (read_bytes h k.1 k.0) [] e.1)
+      | Equal ↦ λ same. subst (λ (k : ℕ × Option ℕ). IsReading h.scan k.0 (read_bytes h k.1 k.0) [] e.1)
           (sym (one_reading (from, end) e.0 same)) all.0
       | Greater ↦ λ _. found_barren h entries from end all.1
     ] refl

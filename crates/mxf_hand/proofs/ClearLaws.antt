@@ -3,7 +3,8 @@ use Rattle.mxf_views.proofs.Common.{◌≡◌, ◌∙◌, ◌≤◌, ◌<◌, �
 use Rattle.mxf_views.proofs.Common.{[], ◌∷◌, ◌==◌, Option, None, Some, ap, arith, cond, eqb-true, filter, find, inl}
 use Rattle.mxf_views.proofs.Common.{inr, length, length-append, refl, subst, sym, and_parts, cases_lt, leb-true}
 use Rattle.mxf_views.proofs.Common.{same_Some, option_map_or, NoteParts, PacketParts, IsInSpan, covered_end, end_of}
-use Rattle.mxf_views.proofs.Common.{head_note, note_of, size_of, AreLaid, end_after, notes_from, rest_in, In, In-append}
+use Rattle.mxf_views.proofs.Common.{head_note, note_of, packet_parts, size_of, AreLaid, end_after, notes_from, rest_in}
+use Rattle.mxf_views.proofs.Common.{In, In-append}
 use Rattle.mxf_views.proofs.Common.{In-filter, In-flat_map, In-map, found-In, length-spelled, some_piece, end_up}
 use Rattle.mxf_views.proofs.Common.{AreReduced, IsContent, reduced_union, IsClear, SharesByte, after}
 use Rattle.mxf_views.proofs.Common.{AreReduced-reduced_union, has-reduced_union, same_note, covers_below_end}
@@ -26,6 +27,10 @@ use Rattle.mxf_hand.specs.Rounds.{read_heads_of, read_in, round, rounds, taken_i
 use Rattle.mxf_hand.specs.Sections.{ends_within, from_of, heads_of, made_by, made_of, packets_of, read_from}
 use Rattle.mxf_hand.specs.declared.found.CutHead.{CutHead}
 use Rattle.mxf_hand.proofs.FitLaws.{read_count}
+use Rattle.mxf_read.proofs.Scans.{noted_end as noted_end_if}
+use Rattle.mxf_read.specs.ValueSoFar.{passes}
+use Rattle.mxf_hand.proofs.NotingLaws.{covered_head}
+use Rattle.mxf_hand.proofs.ScanLaws.{if_offset, stands_for}
 use Rattle.std.proofs.lemmas.Bool.{not-true}
 use Rattle.mxf_hand.proofs.HistoryLaws.{round_content, round_reduced}
 
@@ -186,13 +191,17 @@ module _ (notes : List NoteParts) (content : IsContent notes) (n : NoteParts) (c
         | None ↦ λ e j. j
         | Some q ↦ λ e j.
             let bytes = read_bytes h p.end q in
-            let end = noted_end q bytes m j in
+            let read = stands_for h.scan (packet_notes q bytes) m j in
+            let place = read.offset in
+            let last = read.end in
+            let end = noted_end q bytes read.read read.there in
             let size = read_count h.byte bytes q (read_to h.runs p.end q) refl in
-            let above = after q (packets_of_piece q bytes) m j in
+            let from = after q (packets_of_piece q bytes) read.read read.there in
+            let above : q ≤ m.offset = omega (arith, from, place) in
             apart_behind h p q m i e above (λ x first low high.
             sections_are.within p x i (
               first,
-              read_below h p.end q x (omega (arith, above, low)) (omega (arith, end, size, high)),
+              read_below h p.end q x (omega (arith, above, low)) (omega (arith, end, size, high, last)),
             )) s
       ] refl k
 
@@ -209,7 +218,20 @@ module _ (notes : List NoteParts) (content : IsContent notes) (n : NoteParts) (c
 
   -- The packet of a head has the span of the head.
   as_head : (h : HandBytes) (a m : NoteParts) → a.whole ≡ false → m ≡ packet_of h a → SharesByte m n → SharesByte a n
-  as_head h a m head e s = grind (arith, read_count, covers_below_end)
+  as_head h a m head e s =
+      let value = bytes_between h.byte (covered_end a) (end_of a) in
+      let packet = note_of a.offset (packet_parts a.key a.width value) in
+      let passing = passes h.scan a.key a.length in
+      let offset : m.offset ≡ a.offset = ap (λ (x : NoteParts). x.offset) e ∙ if_offset passing packet in
+      let end : end_of m ≡ end_of packet = ap end_of e ∙ noted_end_if passing packet in
+      let size = read_count h.byte value (covered_end a) (end_of a) refl in
+      let covered = covered_head a head in
+      let from : m.offset ≤ s.0 = s.1.from in
+      let before : s.0 + 1 ≤ end_of m = s.1.before in (
+        s.0,
+        record { from = omega (arith, offset, from); before = omega (arith, end, size, covered, before) },
+        s.2,
+      )
 
   made_by_apart : (h : HandBytes) (end : Option ℕ) (heads : List NoteParts) (m : NoteParts)
       → ((a : NoteParts) → In a heads → In a notes × (a.whole ≡ false)) → In m (made_by h end heads)

@@ -15,6 +15,7 @@ use Rattle.mxf_klv.specs.Piece.{BeginsWithNone}
 use Rattle.mxf_klv.specs.PieceReading.{packets_in as packets_of_piece}
 use Rattle.mxf_klv.proofs.KeyAndLengthLaws.{head_in}
 use Rattle.mxf_klv.proofs.PieceLaws.{one_piece}
+use Rattle.mxf_hand.specs.Given.{bytes_between}
 use Rattle.mxf_hand.specs.Noting.{cut_heads, packet_notes}
 use Rattle.mxf_read.proofs.Pieces.{heads_few}
 use Rattle.mxf_places.proofs.AtHandLaws.{has_offsets-says}
@@ -28,8 +29,10 @@ use Rattle.mxf_hand.specs.Rounds.{heads_taken, is_taken, made_in, packets_in, pu
 use Rattle.mxf_hand.specs.Rounds.{read_heads_of, read_in, round, rounds, taken_in}
 use Rattle.mxf_hand.specs.Sections.{ends_within, from_of, heads_of, made_by, made_of, packets_of, read_from}
 use Rattle.mxf_hand.specs.declared.found.CutHead.{CutHead}
+use Rattle.mxf_skim.specs.declared.scan.Scan.TheVariants.{Full}
 use Rattle.mxf_hand.proofs.ClearLaws.{cut_head}
 use Rattle.mxf_hand.proofs.HandLaws.{at_fits, read_lies}
+use Rattle.mxf_hand.proofs.ScanLaws.{full_notes, full_packet}
 use Rattle.std.proofs.lemmas.Bool.{not-true}
 use Rattle.mxf_hand.proofs.PacketPlaces.{behind_place, first_below, front_of, laid_size}
 use Rattle.mxf_places.proofs.LaidPlaces.{ends_below}
@@ -232,7 +235,11 @@ end_more o [] p = refl
 end_more o (k ∷ front) p = end_more (o + size_of k) front p
 
 module _ (l : List PacketParts) (bytes : List ℕ) (h : HandBytes) (laid : AreLaid 0 bytes l []) (cover : IsCover h.runs)
-    (is_file : (x : ℕ) → LiesIn h.runs x → slice_get bytes x ≡ Some (h.byte x)) where
+    (is_file : (x : ℕ) → LiesIn h.runs x → slice_get bytes x ≡ Some (h.byte x)) (full : h.scan ≡ Full) where
+  -- All values are read.
+  all_read : (end : Option ℕ) (q : ℕ) → read_packets h end q ≡ packet_notes q (read_bytes h end q)
+  all_read end q = full_notes h.scan (packet_notes q (read_bytes h end q)) full
+
   pub laid_from : (front back : List PacketParts) → l ≡ front ++ back → LaidBehind 0 bytes front back
   laid_from front back e = laid_behind 0 bytes front back (subst (λ l. AreLaid 0 bytes l []) e laid)
 
@@ -256,12 +263,12 @@ module _ (l : List PacketParts) (bytes : List ℕ) (h : HandBytes) (laid : AreLa
       ((In-append m (notes_from 0 front) (notes_from (end_after 0 front) back)).1 (inr i)))
 
   packet_of_file : (end : Option ℕ) (q : ℕ) (n : NoteParts) → IsBoundary l q
-      → In n (packet_notes q (read_bytes h end q)) → IsOfFile l n
+      → In n (read_packets h end q) → IsOfFile l n
   packet_of_file end q n (front, back, e, at) i =
       let b = laid_from front back e in
       let behind = subst (λ q. AreLaid q b.behind back []) at b.laid in
       let j = read_packet q (read_bytes h end q) (drop (read_to h.runs end q - q) b.behind) b.behind back
-      (reads_front front back e end q at) behind n i in
+      (reads_front front back e end q at) behind n (subst (In n) (all_read end q) i) in
       inl (among_file front back n e (subst (λ q. In n (notes_from q back)) (sym at) j))
 
   head_of_file : (end : Option ℕ) (q : ℕ) (n : NoteParts) → IsBoundary l q → In n (cut_heads q (read_bytes h end q))
@@ -280,9 +287,10 @@ module _ (l : List PacketParts) (bytes : List ℕ) (h : HandBytes) (laid : AreLa
       let b = laid_from front back e in
       let behind = subst (λ q. AreLaid q b.behind back []) at b.laid in
       let size = length-map-range_with_len h.byte q (read_to h.runs end q - q) in
-      read_whole q (read_bytes h end q) (drop (read_to h.runs end q - q) b.behind) b.behind back
+      subst (In m) (sym (all_read end q))
+      (read_whole q (read_bytes h end q) (drop (read_to h.runs end q - q) b.behind) b.behind back
       (reads_front front back e end q at) behind m (behind_place l q front back m e at i from)
-      (omega (arith, size, from, reached))
+      (omega (arith, size, from, reached)))
 
   -- Where the file's bytes are at hand, the head of each of its packets fits.
   pub head_fits : IsAllAtHand l h → (m : NoteParts) → In m (notes_from 0 l) → fits h (head_note m) ≡ true
@@ -390,7 +398,9 @@ module _ (l : List PacketParts) (bytes : List ℕ) (h : HandBytes) (laid : AreLa
           ∙ ap (λ (t : List ℕ). slice_get t (start + i)) (sym whole)
           ∙ is_file (start + i) (lies (start + i) (omega arith) (omega (arith, less)))) in
           let count : start + length p.value - start ≡ length p.value = omega arith in
-          ap (λ (k : ℕ). note_of q (packet_parts p.key p.width (map h.byte (range_with_len start k)))) count
+          full_packet h.scan p.key (length p.value)
+          (note_of q (packet_parts p.key p.width (bytes_between h.byte start (start + length p.value)))) full
+          ∙ ap (λ (k : ℕ). note_of q (packet_parts p.key p.width (map h.byte (range_with_len start k)))) count
           ∙ ap (λ (v : List ℕ). note_of q (packet_parts p.key p.width v)) (sym value ∙ take-append_seam p.value after)
 
   -- ---- a round
@@ -507,4 +517,4 @@ module _ (l : List PacketParts) (bytes : List ℕ) (h : HandBytes) (laid : AreLa
 pub of_one_file : (packets : List PacketParts) (h : HandBytes) (notes : List NoteParts) → AreBytesOfFile packets h
     → AreOfFile packets notes → ((k : ℕ) → BeginAtPackets packets (rounds k h notes))
     → AreOfFile packets (put_together h notes)
-of_one_file packets h notes f of begin = all_of_file packets f.bytes h f.laid f.cover f.alike notes of begin
+of_one_file packets h notes f of begin = all_of_file packets f.bytes h f.laid f.cover f.alike f.read notes of begin

@@ -14,6 +14,7 @@ use Rattle.mxf_hand.specs.Places.{GivenParts}
 use Rattle.mxf_hand.specs.declared.given.Extent.{Extent}
 use Rattle.mxf_hand.specs.Hand.{AreOf, AreToldIn, HandBytes, HandParts, read_to, run_end}
 use Rattle.mxf_hand.specs.Heads.{fits}
+use Rattle.mxf_skim.specs.declared.scan.Scan.{Scan}
 use Rattle.mxf_places.specs.Heads.{key_and_length}
 
 -- The first run that ends above an offset is the first of those that lie behind it.
@@ -130,10 +131,10 @@ at_fits h n all =
     ] refl)
 
 -- What was told before and is told still.
-pub told_after : {old new : Option (List SourceParts)} {extents : List Extent} {runs : List Run} {h : HandBytes}
-    → new ≡ old → AreToldIn old extents runs h → AreToldIn new extents runs h
-told_after {extents = extents} {runs = runs} {h = h} e t =
-    subst (λ (o : Option (List SourceParts)). AreToldIn o extents runs h) (sym e) t
+pub told_after : {old new : Option (List SourceParts)} {extents : List Extent} {runs : List Run} {scan : Scan}
+    {h : HandBytes} → new ≡ old → AreToldIn old extents runs scan h → AreToldIn new extents runs scan h
+told_after {extents = extents} {runs = runs} {scan = scan} {h = h} e t =
+    subst (λ (o : Option (List SourceParts)). AreToldIn o extents runs scan h) (sym e) t
 
 -- There is one list of the runs at hand.
 pub one_hand : (given : List SourceParts) (runs : List Run) (h : HandBytes) → AreAtHand given runs → AreOf given h
@@ -146,12 +147,13 @@ one_hand given runs h a is =
 
 -- The bytes at hand of sources are told in the runs that were found.
 pub are_told : {told : Option (List SourceParts)} (given : List SourceParts) (h : HandBytes)
-    {hand : HandParts} {parts : GivenParts} → AreTold told parts.extents given → AreOf given h → hand.given ≡ parts
-    → AreAtHand given hand.runs → AreToldIn told hand.given.extents hand.runs h
-are_told {told = told} given h {hand = hand} {parts = parts} t is e a = record {
+    {hand : HandParts} {parts : GivenParts} → AreTold told parts.extents given → AreOf given h → h.scan ≡ hand.scan
+    → hand.given ≡ parts → AreAtHand given hand.runs → AreToldIn told hand.given.extents hand.runs hand.scan h
+are_told {told = told} given h {hand = hand} {parts = parts} t is same e a = record {
   sources = given;
   are_told = subst (λ (p : GivenParts). AreTold told p.extents given) (sym e) t;
   lie = sym (one_hand given hand.runs h a is);
+  scanned = same;
   bytes = λ x b lies gives. is.bytes x b
       (subst (λ (l : List Run). LiesIn l x) (one_hand given hand.runs h a is) lies) gives;
 }

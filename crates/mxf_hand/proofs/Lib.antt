@@ -1,3 +1,4 @@
+pub mod ScanLaws
 pub mod BarrenLaws
 pub mod RoundLaws
 pub mod FindingLaws

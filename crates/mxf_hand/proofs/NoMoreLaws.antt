@@ -17,6 +17,7 @@ use Rattle.mxf_hand.specs.Rounds.{is_taken, read_heads_of, read_in, round, taken
 use Rattle.mxf_hand.specs.Sections.{from_of, made_by, made_of, packets_of, read_from}
 use Rattle.mxf_hand.specs.declared.found.CutHead.{CutHead}
 use Rattle.mxf_hand.proofs.HandLaws.{read_lies}
+use Rattle.mxf_hand.proofs.ScanLaws.{none_noted}
 use Rattle.std.proofs.lemmas.Bool.{not-true}
 use Rattle.mxf_hand.proofs.PacketPlaces.{laid_size}
 use Rattle.mxf_places.proofs.LaidPlaces.{held_all}
@@ -88,7 +89,7 @@ module _ (l : List PacketParts) (h : HandBytes) (file : AreBytesOfFile l h) wher
       )
 
   packets_none : (p : Section) → In p (sections_of whole) → packets_of h whole p ≡ []
-  packets_none p k = grind (arith, from_there, no_bytes, no_packets)
+  packets_none p k = grind (arith, from_there, no_bytes, no_packets, none_noted)
 
   heads_none : (p : Section) → In p (sections_of whole) → read_heads_of h whole p ≡ []
   heads_none p k = grind (arith, from_there, no_bytes, no_heads)

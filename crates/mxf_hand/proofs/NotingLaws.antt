@@ -9,6 +9,7 @@ use Rattle.mxf_read.specs.Feeding.{Tells, begun_heads, option_list}
 use Rattle.mxf_hand.specs.Noting.{IsReading}
 use Rattle.mxf_read.specs.declared.coming.ComingValue.{ComingValue}
 use Rattle.mxf_read.specs.declared.piece.Piece.{Piece}
+use Rattle.mxf_skim.specs.declared.scan.Scan.{Scan}
 
 -- of a value so many bytes less are to come
 pub left_less : (v w : ComingValue) (done part : List ℕ) (n : ℕ) → IsSamePacket v w → HasTaken v done
@@ -35,9 +36,10 @@ pub taken_note : (head n : NoteParts) (v : ComingValue) (m : List ℕ) → v.off
 taken_note head n v m at key width is = grind arith
 
 -- what a piece tells of the bytes is their reading
-pub reading_told : (o : ℕ) (m : List ℕ) (p : Piece) (notes : List NoteParts) (head : Option NoteParts) → Tells o m p
-    → notes ≡ p.notes → option_list head ≡ begun_heads p.stop p.value → IsReading o m notes head
-reading_told o m p notes head tells e f = grind arith
+pub reading_told : (scan : Scan) (o : ℕ) (m : List ℕ) (p : Piece) (notes : List NoteParts) (head : Option NoteParts)
+    → Tells scan o m p → notes ≡ p.notes → option_list head ≡ begun_heads p.stop p.value
+    → IsReading scan o m notes head
+reading_told scan o m p notes head tells e f = grind arith
 
 -- the numbers of a note's length can be spelled
 pub can_spell : (n : NoteParts) (w l : ℕ) → IsNote n → w ≡ n.width → l ≡ n.length → CanSpell w l

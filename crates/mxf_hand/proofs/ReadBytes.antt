@@ -131,6 +131,12 @@ between_more byte from at to h k =
     ap (λ (j : ℕ). bytes_between byte from at ++ map byte (range_with_len j (to - at))) here
     ∙ range_more byte from (at - from) (to - at) ∙ ap (λ (j : ℕ). map byte (range_with_len from j)) all
 
+-- none up to where they begin
+pub between_none : (byte : ℕ → ℕ) (at : ℕ) → bytes_between byte at at ≡ []
+between_none byte at =
+    let none : at - at ≡ 0 = omega arith in
+    ap (λ (n : ℕ). map byte (range_with_len at n)) none
+
 -- as many as there are offsets
 pub between_len : (byte : ℕ → ℕ) (from to : ℕ) → length (bytes_between byte from to) ≡ to - from
 between_len byte from to = length-map-range_with_len byte from (to - from)
@@ -141,12 +147,6 @@ pub between_size : (byte : ℕ → ℕ) (from to n : ℕ) → n ≡ to - from
 between_size byte from to n e =
     let same : from + n - from ≡ to - from = omega arith in
     ap (λ (k : ℕ). map byte (range_with_len from k)) same
-
--- the others follow what was read
-pub so_far_all : (byte : ℕ → ℕ) (from at to : ℕ) (done : List ℕ) → from ≤ at → at ≤ to
-    → done ≡ bytes_between byte from at → done ++ bytes_between byte at to ≡ bytes_between byte from to
-so_far_all byte from at to done h k is =
-    ap (λ (t : List ℕ). t ++ bytes_between byte at to) is ∙ between_more byte from at to h k
 
 -- What a read gives at an offset, so many bytes, for all that is told.
 abbrev pub ReadHere : Option (List SourceParts) → List Extent → ℕ → ℕ → List ℕ → Type 0

@@ -20,6 +20,7 @@ use Rattle.mxf_hand.specs.Sections.{ends_within, from_of, heads_of, made_by, mad
 use Rattle.mxf_hand.specs.Sections.{read_from}
 use Rattle.mxf_hand.specs.declared.found.CutHead.{CutHead}
 use Rattle.mxf_hand.proofs.HandLaws.{one_hand, read_lies}
+use Rattle.mxf_read.specs.ValueSoFar.{noted_if, passes}
 
 -- ---- lists
 
@@ -58,7 +59,7 @@ lasts false b c d e = absurd cc
 
 -- Other bytes in the same runs.
 abbrev with_byte : HandBytes → (ℕ → ℕ) → HandBytes
-with_byte h f = record { runs = h.runs; byte = f }
+with_byte h f = record { scan = h.scan; runs = h.runs; byte = f }
 
 module _ (h : HandBytes) (f : ℕ → ℕ) (cover : IsCover h.runs) (agree : (x : ℕ) → LiesIn h.runs x → h.byte x ≡ f x) where
   same_bytes : (from to : ℕ) → ((x : ℕ) → from ≤ x → x < to → LiesIn h.runs x)
@@ -92,7 +93,8 @@ module _ (h : HandBytes) (f : ℕ → ℕ) (cover : IsCover h.runs) (agree : (x 
             let all = lasts (not n.whole) (nat_lt 0 n.length) (has_offsets h.runs (covered_end n) (end_of n))
             (ends_within end n) e in
             let lies = (has_offsets-says h.runs (covered_end n) (end_of n) cover).0 all in
-            ap (λ (l : List ℕ). note_of n.offset (packet_parts n.key n.width l) ∷ [])
+            ap (λ (l : List ℕ). noted_if (passes h.scan n.key n.length)
+            (note_of n.offset (packet_parts n.key n.width l)) ∷ [])
             (same_bytes (covered_end n) (end_of n) lies)
         | false ↦ λ e. refl
       ] refl
@@ -125,14 +127,14 @@ module _ (h : HandBytes) (f : ℕ → ℕ) (cover : IsCover h.runs) (agree : (x 
 -- ---- sources
 
 pub one_together : (sources : List SourceParts) (h k : HandBytes) (notes : List NoteParts) → AreOf sources h
-    → AreOf sources k → put_together h notes ≡ put_together k notes
-one_together sources h k notes a b =
+    → AreOf sources k → h.scan ≡ k.scan → put_together h notes ≡ put_together k notes
+one_together sources h k notes a b same =
     let runs : h.runs ≡ k.runs = one_hand sources h.runs k a.offsets b in
     same_together h k.byte a.offsets.cover (λ x lies.
     let given = ((a.offsets.offsets x).0 lies).given in
     a.bytes x given.0 lies given.1
     ∙ sym (b.bytes x given.0 (subst (λ (l : List Run). LiesIn l x) runs lies) given.1)) notes
-    ∙ (λ i. put_together (record { runs = runs i; byte = k.byte }) notes)
+    ∙ (λ i. put_together (record { scan = same i; runs = runs i; byte = k.byte }) notes)
 
 -- The same bytes are given by sources in another order.
 given_also : (some others : List SourceParts) (x b : ℕ) → SameMembers some others → IsGivenAs some x b

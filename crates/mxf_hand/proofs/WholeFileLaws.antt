@@ -3,7 +3,8 @@ use Rattle.mxf_views.proofs.Common.{◌≡◌, ◌∙◌, ◌⊎◌, ◌≤◌, 
 use Rattle.mxf_views.proofs.Common.{◌∷◌, Option, None, Some, ap, arith, cond, eqb-true, find, inl, inr, lt-ltb, nat_le}
 use Rattle.mxf_views.proofs.Common.{nat_lt, refl, subst, sym, Bool, and_from, and_parts, cases_lt, ltb-false}
 use Rattle.mxf_views.proofs.Common.{tied_itself, same_Some, option_map_or, NoteParts, PacketParts, covered_end, end_of}
-use Rattle.mxf_views.proofs.Common.{head_note, note_cmp, note_total, end_after, notes_from, In, In-append, In-filter}
+use Rattle.mxf_views.proofs.Common.{head_note, note_of, packet_parts, note_cmp, note_total, end_after, notes_from, In}
+use Rattle.mxf_views.proofs.Common.{In-append, In-filter}
 use Rattle.mxf_views.proofs.Common.{In-flat_map, find-none, find-only, equals_itself, AreReduced, IsContent, has_note}
 use Rattle.mxf_views.proofs.Common.{reduced_union, AreMaximal, LiesIn, apart, is_whole, same_content, IsContent-filter}
 use Rattle.mxf_views.proofs.Common.{SharesByte-same_offset, has-reduced_union, one_reduced, IsContent-laid}
@@ -35,6 +36,9 @@ use Rattle.mxf_hand.proofs.NoMoreLaws.{no_more}
 use Rattle.mxf_hand.proofs.PacketPlaces.{has_packet, is_head, is_or_head, not_cut}
 use Rattle.mxf_places.proofs.LaidPlaces.{ends_below}
 use Rattle.mxf_hand.proofs.RoundLaws.{all_rounds, round_more, rounds_end}
+use Rattle.mxf_hand.proofs.ScanLaws.{if_offset}
+use Rattle.mxf_read.specs.ValueSoFar.{passes}
+use Rattle.mxf_hand.specs.Given.{bytes_between}
 
 -- ---- ranges
 
@@ -229,7 +233,7 @@ module _ (l : List PacketParts) (h : HandBytes) (well : IsWellFormed l) (file : 
         let ends = there.2 in (
           end_of n,
           ap (read_from (start_of notes p.first)) e,
-          behind_note l file.bytes h file.laid file.cover file.alike notes of begin n (of n there.0),
+          behind_note l file.bytes h file.laid file.cover file.alike file.read notes of begin n (of n there.0),
           λ m i above. elim (cases_lt m.offset (end_of n)) [
             | inr high ↦ high
             | inl less ↦ absurd (elim (is_or_head l m n m.offset i (of n there.0) (omega arith) (omega arith)
@@ -276,7 +280,7 @@ module _ (l : List PacketParts) (h : HandBytes) (well : IsWellFormed l) (file : 
         let p = s.0 in
         let start = start_at p (fitting h notes p.first) s.1 refl in
         let from = start.3 m i s.3.0 in
-        let read = packet_read l file.bytes h file.laid file.cover file.alike p.end start.0 m start.2 i from
+        let read = packet_read l file.bytes h file.laid file.cover file.alike file.read p.end start.0 m start.2 i from
         (goes_past p start.0 m s.1 i s.3 from) in
         let there : In m (packets_of h notes p) =
         subst (λ (o : Option ℕ). In m (option_map_or (read_packets h p.end) o [])) (sym start.1) read in
@@ -306,7 +310,7 @@ module _ (l : List PacketParts) (h : HandBytes) (well : IsWellFormed l) (file : 
           let passes : fit (head_note m) ≡ true =
           and_from (m.offset == start_of notes behind) (fits h (head_note m))
           ((equals_itself m.offset (start_of notes behind)).1 (sym start))
-          (head_fits l file.bytes h file.laid file.cover file.alike all m i) in
+          (head_fits l file.bytes h file.laid file.cover file.alike file.read all m i) in
           let ends = (In-filter (is_head_to behind) notes (head_note m)).1 (held, test) in
           let there : In (head_note m) (fitting h notes behind) =
           (In-filter fit (heads_to behind notes) (head_note m)).1 (ends, passes) in
@@ -372,9 +376,11 @@ module _ (l : List PacketParts) (h : HandBytes) (well : IsWellFormed l) (file : 
           ((has_offsets-says h.runs behind (end_of m) file.cover).1 lies) in
           let test : (is_value_at_hand h n && ends_within p.hole.end n) ≡ true =
           and_from (is_value_at_hand h n) (ends_within p.hole.end n) at_hand (ends_in p s.1 s.3) in
-          let made = made_of_file l file.bytes h file.laid file.cover file.alike n (of n held) refl lies in
+          let made = made_of_file l file.bytes h file.laid file.cover file.alike file.read n (of n held) refl lies in
           let is : packet_of h n ≡ m =
-          apart 0 l (packet_of h n) m made i (SharesByte-same_offset (packet_of h n) m refl) in
+          apart 0 l (packet_of h n) m made i (SharesByte-same_offset (packet_of h n) m
+          (if_offset (passes h.scan m.key m.length)
+          (note_of m.offset (packet_parts m.key m.width (bytes_between h.byte behind (end_of m)))))) in
           let there : In m (made_of h notes p) =
           subst (λ (t : List NoteParts). In m (made_by h p.hole.end t)) (sym heads)
           (subst (λ (b : Bool). In m (cond b (packet_of h n ∷ []) [])) (sym test) (inl (sym is))) in
@@ -439,8 +445,8 @@ module _ (l : List PacketParts) (h : HandBytes) (well : IsWellFormed l) (file : 
         let packet = is_whole 0 l x i in
         let head = ap (λ (n : NoteParts). n.whole) told.3 in cc (packet, head))
         (λ n. (
-          has_of_file l file.bytes h file.laid file.cover file.alike notes of begin (round h notes) n
-              (round_of_file l file.bytes h file.laid file.cover file.alike notes of begin),
+          has_of_file l file.bytes h file.laid file.cover file.alike file.read notes of begin (round h notes) n
+              (round_of_file l file.bytes h file.laid file.cover file.alike file.read notes of begin),
           has_all n,
         ))
 

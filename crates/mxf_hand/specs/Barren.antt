@@ -8,7 +8,7 @@ use Rattle.mxf_hand.specs.declared.barren.BarrenReadings.{BarrenReadings}
 
 -- A reading from an offset on, up to an end if there is one, finds no packet, and this head.
 abbrev pub IsBarren : HandBytes → (ℕ × Option ℕ) × Option NoteParts → Type 0
-IsBarren h e = IsReading e.0.0 (read_bytes h e.0.1 e.0.0) [] e.1
+IsBarren h e = IsReading h.scan e.0.0 (read_bytes h e.0.1 e.0.0) [] e.1
 
 -- Each of a table does.
 abbrev pub AreAllBarren : HandBytes → List ((ℕ × Option ℕ) × Option NoteParts) → Type 0

@@ -10,13 +10,16 @@ use Rattle.mxf_places.specs.Heads.{start_of}
 use Rattle.mxf_restore.specs.Sections.{sections_of}
 use Rattle.mxf_restore.specs.declared.section.Section.{Section}
 use Rattle.mxf_hand.specs.Hand.{HandBytes}
+use Rattle.mxf_skim.specs.declared.scan.Scan.TheVariants.{Full}
 
--- The bytes of the file are these packets, one after another, and the bytes at hand are the file's.
+-- The bytes of the file are these packets, one after another, and the bytes at hand are the file's, all of which are
+-- read.
 pub record AreBytesOfFile (packets : List PacketParts) (h : HandBytes) : Type 0 where
   pub bytes : List ℕ
   pub laid : AreLaid 0 bytes packets []
   pub cover : IsCover h.runs
   pub alike : (x : ℕ) → LiesIn h.runs x → slice_get bytes x ≡ Some (h.byte x)
+  pub read : h.scan ≡ Full
 
 -- The note is that of a packet of the file, or its head.
 abbrev pub IsOfFile : List PacketParts → NoteParts → Type 0

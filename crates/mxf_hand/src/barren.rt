@@ -52,9 +52,11 @@ impl BarrenReadings {
         end: Option<u64>,
     ) -> Result<Reading, SourceFault>
         ensures told { S.told sources.new ≡ S.told sources.old }
-        ensures reading { (h : HandBytes) → AreToldIn (S.told sources.old) hand.now.given.extents hand.now.runs h
-            → AreBarren h self.old → IfOk result (λ r. IsReading from (read_bytes h end from) r.notes r.head) }
-        ensures barren { (h : HandBytes) → AreToldIn (S.told sources.old) hand.now.given.extents hand.now.runs h
+        ensures reading { (h : HandBytes)
+            → AreToldIn (S.told sources.old) hand.now.given.extents hand.now.runs hand.now.scan h
+            → AreBarren h self.old → IfOk result (λ r. IsReading h.scan from (read_bytes h end from) r.notes r.head) }
+        ensures barren { (h : HandBytes)
+            → AreToldIn (S.told sources.old) hand.now.given.extents hand.now.runs hand.now.scan h
             → AreBarren h self.old → OnOk result (AreBarren h self.new) }
     {
         let reading = self.find(alloc, hand, sources, from, end)?;
@@ -72,8 +74,9 @@ impl BarrenReadings {
         end: Option<u64>,
     ) -> Result<Reading, SourceFault>
         ensures told { S.told sources.new ≡ S.told sources.old }
-        ensures reading { (h : HandBytes) → AreToldIn (S.told sources.old) hand.now.given.extents hand.now.runs h
-            → AreBarren h self.now → IfOk result (λ r. IsReading from (read_bytes h end from) r.notes r.head) }
+        ensures reading { (h : HandBytes)
+            → AreToldIn (S.told sources.old) hand.now.given.extents hand.now.runs hand.now.scan h
+            → AreBarren h self.now → IfOk result (λ r. IsReading h.scan from (read_bytes h end from) r.notes r.head) }
     {
         match self.remembered(alloc, from, end)? {
             Some(reading) => Ok(reading),
@@ -89,7 +92,7 @@ impl BarrenReadings {
         end: Option<u64>,
     ) -> Result<Option<Reading>, OutOfMemory>
         ensures { (h : HandBytes) → AreBarren h self.now
-            → IfOk result (λ o. IfSome o (λ r. IsReading from (read_bytes h end from) r.notes r.head)) }
+            → IfOk result (λ o. IfSome o (λ r. IsReading h.scan from (read_bytes h end from) r.notes r.head)) }
     {
         let Some(head) = self.before.get(&(from, end)) else {
             return Ok(None);
@@ -108,7 +111,7 @@ impl BarrenReadings {
         reading: &Reading,
     ) -> Result<(), OutOfMemory>
         ensures { (h : HandBytes) → AreBarren h self.old
-            → IsReading from (read_bytes h end from) reading.now.notes reading.now.head
+            → IsReading h.scan from (read_bytes h end from) reading.now.notes reading.now.head
             → OnOk result (AreBarren h self.new) }
     {
         if !reading.notes.is_empty() {

@@ -12,12 +12,15 @@ use crate::head::{key_and_length, stand_at};
 use mxf_catalogue::Cover;
 use mxf_klv::Note;
 use mxf_places::{AtHand, up_to_bound};
+use mxf_skim::Scan;
 use std::alloc::Global;
 use std::marker::Model;
 
-/// The extents of sources, and which of their offsets are at hand.
+/// The extents of sources, and which of their offsets are at hand; and whether the values of a container's packets are
+/// read there.
 #[derive(Debug, Drop)]
 pub(crate) struct Hand {
+    scan: Scan,
     given: Given,
     runs: Cover,
 }
@@ -30,21 +33,27 @@ impl Model for Hand {
 
     ghost Value = { HandParts };
 
-    ghost view = { λ h. record { given = h.given; runs = h.runs } };
+    ghost view = { λ h. record { scan = h.scan; given = h.given; runs = h.runs } };
 
     ghost invariant = { λ h. IsCover h.runs × ((x : ℕ) → LiesIn h.runs x → LiesIn h.given.given x) };
 }
 
 impl Hand {
     /// Compares the sources where they overlap.
-    pub fn of<S: Sources>(alloc: Global, given: Given, sources: &mut S) -> Result<Hand, SourceFault>
+    pub fn of<S: Sources>(
+        alloc: Global,
+        scan: Scan,
+        given: Given,
+        sources: &mut S,
+    ) -> Result<Hand, SourceFault>
         ensures told { S.told sources.new ≡ S.told sources.old }
+        ensures scan { IfOk result (λ hand. hand.scan ≡ scan) }
         ensures given { IfOk result (λ hand. hand.given ≡ given) }
         ensures runs { (told : List SourceParts) → AreTold (S.told sources.old) given.extents told
             → IfOk result (λ hand. AreAtHand told hand.runs) }
     {
         let runs = given.hand(alloc, sources)?;
-        Ok(Hand { given, runs })
+        Ok(Hand { scan, given, runs })
     }
 
     /// The offsets that are given, and those at hand.
@@ -52,7 +61,7 @@ impl Hand {
         ensures given { result.given ≡ self.given.given }
         ensures hand { result.hand ≡ self.runs }
     {
-        let Hand { given, runs } = self;
+        let Hand { given, runs, .. } = self;
         AtHand::of(given.into_given(), runs)
     }
 
@@ -78,7 +87,7 @@ impl Hand {
         }
     }
 
-    /// Reads the bytes at hand from an offset on, up to an end if there is one, both in bytes.
+    /// Scans the bytes at hand from an offset on, up to an end if there is one, both in bytes.
     pub fn read<S: Sources>(
         &self,
         alloc: Global,
@@ -87,11 +96,12 @@ impl Hand {
         end: Option<u64>,
     ) -> Result<Reading, SourceFault>
         ensures told { S.told sources.new ≡ S.told sources.old }
-        ensures reading { (h : HandBytes) → AreToldIn (S.told sources.old) self.now.given.extents self.now.runs h
-            → IfOk result (λ r. IsReading from (read_bytes h end from) r.notes r.head) }
+        ensures reading { (h : HandBytes)
+            → AreToldIn (S.told sources.old) self.now.given.extents self.now.runs self.now.scan h
+            → IfOk result (λ r. IsReading h.scan from (read_bytes h end from) r.notes r.head) }
     {
         let to = self.read_to(from, end);
-        self.given.reading(alloc, sources, from, to)
+        self.given.reading(alloc, self.scan, sources, from, to)
     }
 
     /// Whether no byte at hand of a head's key and length differs from what the head says.
@@ -103,7 +113,8 @@ impl Hand {
         head: &Note,
     ) -> Result<bool, SourceFault>
         ensures told { S.told sources.new ≡ S.told sources.old }
-        ensures fits { (h : HandBytes) → AreToldIn (S.told sources.old) self.now.given.extents self.now.runs h
+        ensures fits { (h : HandBytes)
+            → AreToldIn (S.told sources.old) self.now.given.extents self.now.runs self.now.scan h
             → IfOk result (λ it. it ≡ fits h head.now) }
     {
         let spelled = key_and_length(alloc, head)?;
@@ -135,7 +146,7 @@ impl Hand {
         self.runs.has_all(head.covered_end(), head.end())
     }
 
-    /// The note of a head's packet, whose value is at hand.
+    /// The note of a head's packet, whose value is at hand. A skim doesn't read a value that it passes over.
     pub fn packet_of<S: Sources>(
         &self,
         alloc: Global,
@@ -145,9 +156,10 @@ impl Hand {
         requires head { head.now.whole ≡ false }
         requires value { (x : ℕ) → covered_end head.now ≤ x → x < end_of head.now → LiesIn self.now.runs x }
         ensures told { S.told sources.new ≡ S.told sources.old }
-        ensures note { (h : HandBytes) → AreToldIn (S.told sources.old) self.now.given.extents self.now.runs h
+        ensures note { (h : HandBytes)
+            → AreToldIn (S.told sources.old) self.now.given.extents self.now.runs self.now.scan h
             → IfOk result (λ n. n ≡ packet_of h head.now) }
     {
-        self.given.packet_of(alloc, sources, head)
+        self.given.packet_of(alloc, self.scan, sources, head)
     }
 }

@@ -14,13 +14,13 @@ ghost use Rattle.mxf_hand.specs.Rounds.{put_together, round, rounds};
 
 pub use crate::settling::whole_stops_by_definition;
 
-/// A law of [`put_together`](crate::put_together): it is a function of the content and of the set of sources. The order
-/// and the repeats of sources don't matter, nor does it which of those that give a byte is read.
+/// A law of [`put_together`](crate::put_together): it is a function of the content, of the set of sources and of the
+/// scan. The order and the repeats of sources don't matter, nor does it which of those that give a byte is read.
 pub fn one_content_of_sources()
     ensures order { (some others : List SourceParts) (h : HandBytes) → SameMembers some others → AreOf some h
         → AreOf others h }
     ensures one { (sources : List SourceParts) (h k : HandBytes) (notes : List NoteParts) → AreOf sources h
-        → AreOf sources k → put_together h notes ≡ put_together k notes }
+        → AreOf sources k → h.scan ≡ k.scan → put_together h notes ≡ put_together k notes }
 {}
 
 /// A law of [`put_together`](crate::put_together): all that is held stays, a head unless its packet takes its place.
@@ -36,17 +36,18 @@ pub fn what_is_clear_stays_clear()
         → IsClear n notes → IsClear n (put_together h notes) }
 {}
 
-/// A law of [`put_together`](crate::put_together): if what is held and the bytes at hand are a file's, and what packs
-/// say of places is right in each round, what is put together is of that file.
+/// A law of [`put_together`](crate::put_together): if what is held and the bytes at hand are a file's, all values are
+/// read, and what packs say of places is right in each round, what is put together is of that file.
 pub fn only_packets_of_the_file()
     ensures { (packets : List PacketParts) (h : HandBytes) (notes : List NoteParts) → AreBytesOfFile packets h
         → AreOfFile packets notes → ((count : ℕ) → BeginAtPackets packets (rounds count h notes))
         → AreOfFile packets (put_together h notes) }
 {}
 
-/// A law of [`put_together`](crate::put_together): if what is held and the bytes at hand are a well-formed file's, each
-/// of its bytes is at hand, and what packs say of places is right, the whole file is put together: what is held then
-/// are the notes of all its packets. Heads that are held are of packets with a value: no reading notes others.
+/// A law of [`put_together`](crate::put_together): if what is held and the bytes at hand are a well-formed file's, all
+/// values are read, each of its bytes is at hand, and what packs say of places is right, the whole file is put
+/// together: what is held then are the notes of all its packets. Heads that are held are of packets with a value: no
+/// reading notes others.
 pub fn the_whole_file_is_put_together()
     ensures { (packets : List PacketParts) (h : HandBytes) (notes : List NoteParts) → IsWellFormed packets
         → AreBytesOfFile packets h → IsAllAtHand packets h → IsContent notes → AreReduced notes

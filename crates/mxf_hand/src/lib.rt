@@ -6,16 +6,17 @@
 //! where a packet begins, and the value of a head. It goes on in rounds, since what is put together names further
 //! places.
 //!
-//! What sources give of the file is a [`Given`], and [`Sources`] are read again at its offsets.
+//! What sources give of the file is a [`Given`], and [`Sources`] are read again at its offsets. [`put_together_by`]
+//! does the same by a scan: a skim passes over the values of a container's packets and doesn't read them.
 //!
-//! What is proved: the answer is its function of the content and of the bytes at hand, whichever source they are read
-//! of. Laws: the order of sources doesn't matter ([`laws::one_content_of_sources`]), what is held stays
+//! What is proved: the answer is its function of the content, of the scan and of the bytes at hand, whichever source
+//! they are read of. Laws: the order of sources doesn't matter ([`laws::one_content_of_sources`]), what is held stays
 //! ([`laws::what_is_held_stays`]), and what is clear stays clear ([`laws::what_is_clear_stays_clear`]). If what packs
 //! say of places is right in each round, only packets of a file are made of that file's bytes
 //! ([`laws::only_packets_of_the_file`]). If all bytes of a well-formed file are at hand as well, all of its packets are
-//! ([`laws::the_whole_file_is_put_together`]). If one more round changes nothing, what was saved changes nothing beside
-//! the same sources ([`laws::saved_beside_its_sources`]). What is said of histories of calls is said of it
-//! ([`laws::put_together_is_a_history`]).
+//! ([`laws::the_whole_file_is_put_together`]). These two say it of a scan that reads all values. If one more round
+//! changes nothing, what was saved changes nothing beside the same sources ([`laws::saved_beside_its_sources`]). What is
+//! said of histories of calls is said of it ([`laws::put_together_is_a_history`]).
 //!
 //! A range that ends inside a packet, or lies in one, then has nothing missing: [`settle`] takes such a piece for whole
 //! ([`laws::whole_stops_by_definition`]).
@@ -41,5 +42,5 @@ mod section;
 mod settling;
 
 pub use given::{BytesAt, Extent, Given, InMemory, Reading, SourceFault, Sources};
-pub use putting::{PutTogether, put_together};
+pub use putting::{PutTogether, put_together, put_together_by};
 pub use settling::settle;

@@ -9,6 +9,7 @@ ghost use Rattle.mxf_hand.specs.Finding.{Finds};
 ghost use Rattle.mxf_hand.specs.Hand.{AreOf, AreToldIn, HandBytes};
 ghost use Rattle.mxf_hand.specs.Rounds.{made_in, packets_in, put_together, read_heads_in, round};
 ghost use Rattle.mxf_restore.specs.Sections.{sections_of};
+ghost use Rattle.mxf_skim.specs.declared.scan.Scan.TheVariants.{Full};
 
 use crate::barren::BarrenReadings;
 use crate::found::Found;
@@ -19,6 +20,7 @@ use mxf_catalogue::Catalogue;
 use mxf_klv::OutOfMemory;
 use mxf_places::{AtHand, Heads, Holdings, claims};
 use mxf_restore::{Section, sections};
+use mxf_skim::Scan;
 use mxf_views::Views;
 use std::alloc::Global;
 
@@ -50,11 +52,13 @@ fn found_in<S: Sources>(
     views: &Views,
 ) -> Result<Found, SourceFault>
     ensures told { S.told sources.new ≡ S.told sources.old }
-    ensures found { (h : HandBytes) → AreToldIn (S.told sources.old) hand.now.given.extents hand.now.runs h
+    ensures found { (h : HandBytes)
+        → AreToldIn (S.told sources.old) hand.now.given.extents hand.now.runs hand.now.scan h
         → AreBarren h barren.old
         → IfOk result (λ found. Finds found (packets_in h views.now (sections_of views.now))
         (made_in h views.now (sections_of views.now)) (read_heads_in h views.now (sections_of views.now))) }
-    ensures barren { (h : HandBytes) → AreToldIn (S.told sources.old) hand.now.given.extents hand.now.runs h
+    ensures barren { (h : HandBytes)
+        → AreToldIn (S.told sources.old) hand.now.given.extents hand.now.runs hand.now.scan h
         → AreBarren h barren.old → OnOk result (AreBarren h barren.new) }
 {
     let sections = sections_in(alloc, views)?;
@@ -77,10 +81,12 @@ fn round<S: Sources>(
     views: &mut Views,
 ) -> Result<bool, SourceFault>
     ensures told { S.told sources.new ≡ S.told sources.old }
-    ensures round { (h : HandBytes) → AreToldIn (S.told sources.old) hand.now.given.extents hand.now.runs h
+    ensures round { (h : HandBytes)
+        → AreToldIn (S.told sources.old) hand.now.given.extents hand.now.runs hand.now.scan h
         → AreBarren h barren.old → OnOk result (views.new ≡ round h views.old) }
     ensures none { IfOk result (λ is_more. (is_more ≡ true) ⊎ (views.new ≡ views.old)) }
-    ensures barren { (h : HandBytes) → AreToldIn (S.told sources.old) hand.now.given.extents hand.now.runs h
+    ensures barren { (h : HandBytes)
+        → AreToldIn (S.told sources.old) hand.now.given.extents hand.now.runs hand.now.scan h
         → AreBarren h barren.old → OnOk result (AreBarren h barren.new) }
 {
     views.catalogue().laws();
@@ -123,7 +129,8 @@ fn rounds<S: Sources>(
     held: Views,
 ) -> Result<Views, SourceFault>
     ensures told { S.told sources.new ≡ S.told sources.old }
-    ensures rounds { (h : HandBytes) → AreToldIn (S.told sources.old) hand.now.given.extents hand.now.runs h
+    ensures rounds { (h : HandBytes)
+        → AreToldIn (S.told sources.old) hand.now.given.extents hand.now.runs hand.now.scan h
         → IfOk result (λ views. views ≡ put_together h held) }
 {
     let mut views = held;
@@ -149,12 +156,31 @@ pub fn put_together<S: Sources>(
 ) -> Result<PutTogether, SourceFault>
     ensures told { S.told sources.new ≡ S.told sources.old }
     ensures views { (told : List SourceParts) (h : HandBytes) → AreTold (S.told sources.old) given.extents told
-        → AreOf told h → IfOk result (λ p. p.views ≡ put_together h views) }
+        → AreOf told h → h.scan ≡ Full → IfOk result (λ p. p.views ≡ put_together h views) }
     ensures hand { (told : List SourceParts) (h : HandBytes) → AreTold (S.told sources.old) given.extents told
         → AreOf told h → IfOk result (λ p. p.at_hand.hand ≡ h.runs) }
     ensures given { IfOk result (λ p. p.at_hand.given ≡ given.given) }
 {
-    let hand = Hand::of(alloc, given, sources)?;
+    put_together_by(alloc, Scan::Full, views, given, sources)
+}
+
+/// The same by a scan: a skim doesn't read the values of a container's packets. It passes over them, also where it
+/// makes the packet of a head.
+pub fn put_together_by<S: Sources>(
+    alloc: Global,
+    scan: Scan,
+    views: Views,
+    given: Given,
+    sources: &mut S,
+) -> Result<PutTogether, SourceFault>
+    ensures told { S.told sources.new ≡ S.told sources.old }
+    ensures views { (told : List SourceParts) (h : HandBytes) → AreTold (S.told sources.old) given.extents told
+        → AreOf told h → h.scan ≡ scan → IfOk result (λ p. p.views ≡ put_together h views) }
+    ensures hand { (told : List SourceParts) (h : HandBytes) → AreTold (S.told sources.old) given.extents told
+        → AreOf told h → IfOk result (λ p. p.at_hand.hand ≡ h.runs) }
+    ensures given { IfOk result (λ p. p.at_hand.given ≡ given.given) }
+{
+    let hand = Hand::of(alloc, scan, given, sources)?;
     let views = rounds(alloc, &hand, sources, views)?;
     let at_hand = hand.into_at_hand();
     Ok(PutTogether { views, at_hand })

@@ -25,7 +25,8 @@ fn fitting<'a, S: Sources>(
     start: u64,
 ) -> Result<Vec<&'a Note>, SourceFault>
     ensures told { S.told sources.new ≡ S.told sources.old }
-    ensures fitting { (h : HandBytes) → AreToldIn (S.told sources.old) hand.now.given.extents hand.now.runs h
+    ensures fitting { (h : HandBytes)
+        → AreToldIn (S.told sources.old) hand.now.given.extents hand.now.runs hand.now.scan h
         → IfOk result (λ v. map (λ x. x.now) v.items
         ≡ filter (λ n. (n.offset == start) && fits h n) (map (λ x. x.now) heads.now)) }
 {
@@ -46,7 +47,8 @@ fn push_fitting<'a, S: Sources>(
     start: u64,
 ) -> Result<(), SourceFault>
     ensures told { S.told sources.new ≡ S.told sources.old }
-    ensures pushed { (h : HandBytes) → AreToldIn (S.told sources.old) hand.now.given.extents hand.now.runs h
+    ensures pushed { (h : HandBytes)
+        → AreToldIn (S.told sources.old) hand.now.given.extents hand.now.runs hand.now.scan h
         → OnOk result (map (λ x. x.now) fitting.new.items ≡ map (λ x. x.now) fitting.old.items
         ++ filter (λ n. (n.offset == start) && fits h n) (head.entry.now ∷ [])) }
 {
@@ -75,7 +77,8 @@ fn add_made<S: Sources>(
     found: &mut Found,
 ) -> Result<(), SourceFault>
     ensures told { S.told sources.new ≡ S.told sources.old }
-    ensures added { (h : HandBytes) → AreToldIn (S.told sources.old) hand.now.given.extents hand.now.runs h
+    ensures added { (h : HandBytes)
+        → AreToldIn (S.told sources.old) hand.now.given.extents hand.now.runs hand.now.scan h
         → OnOk result (Grows found.old found.new [] (made_by h hole_end (map (λ x. x.now) fitting.now)) []) }
 {
     let Some(head) = only(fitting) else {
@@ -110,9 +113,11 @@ pub(crate) fn add_section<S: Sources>(
     found: &mut Found,
 ) -> Result<(), SourceFault>
     ensures told { S.told sources.new ≡ S.told sources.old }
-    ensures added { (h : HandBytes) → AreToldIn (S.told sources.old) hand.now.given.extents hand.now.runs h
+    ensures added { (h : HandBytes)
+        → AreToldIn (S.told sources.old) hand.now.given.extents hand.now.runs hand.now.scan h
         → AreBarren h barren.old → OnOk result (GrowsBySection h heads.now section found.old found.new) }
-    ensures barren { (h : HandBytes) → AreToldIn (S.told sources.old) hand.now.given.extents hand.now.runs h
+    ensures barren { (h : HandBytes)
+        → AreToldIn (S.told sources.old) hand.now.given.extents hand.now.runs hand.now.scan h
         → AreBarren h barren.old → OnOk result (AreBarren h barren.new) }
 {
     let ending = heads.ending_at(alloc, section.first)?;

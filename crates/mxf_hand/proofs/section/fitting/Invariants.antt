@@ -6,6 +6,6 @@ use Rattle.mxf_hand.proofs.section.fitting.Given as goal
 
 abbrev pub invariant-loop-head : goal.invariant-loop-head
 invariant-loop-head g l = (g.S.Sources.told l.sources ≡ g.S.Sources.told l.initial.sources) × ((h : HandBytes)
-    → AreToldIn (g.S.Sources.told l.initial.sources) l.hand.given.extents l.hand.runs h
+    → AreToldIn (g.S.Sources.told l.initial.sources) l.hand.given.extents l.hand.runs l.hand.scan h
     → map (λ x. x.now) l.fitting.items ++ flat_map (λ x. filter (λ n. (n.offset == l.start) && fits h n) (x.now ∷ []))
     (drop l.head-index l.heads) ≡ flat_map (λ x. filter (λ n. (n.offset == l.start) && fits h n) (x.now ∷ [])) l.heads)

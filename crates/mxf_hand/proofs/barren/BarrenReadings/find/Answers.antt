@@ -8,5 +8,5 @@ pub returns-in-Some-clause-reading : goal.returns-in-Some-clause-reading
 returns-in-Some-clause-reading g c = λ h t b.
     let from = c.args.from in
     let bytes = read_bytes h c.args.end from in
-    subst (λ (o : Option Reading). IfSome o (λ r. IsReading from bytes r.notes r.head)) c.in-Some.is
+    subst (λ (o : Option Reading). IfSome o (λ r. IsReading h.scan from bytes r.notes r.head)) c.in-Some.is
     (c.in_ok-reading.ensures h b)

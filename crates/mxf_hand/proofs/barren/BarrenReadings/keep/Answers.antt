@@ -12,8 +12,8 @@ returns c = λ h b is.
     let none : c.args.reading.now.notes ≡ [] = c.is_empty.ensures.0 c.if-not-is_empty.false in
     let bytes = read_bytes h end from in
     let barren : IsBarren h ((from, end), c.in_ok-head.head) =
-    subst (IsReading from bytes []) (sym c.in_ok-head.ensures)
-    (subst (λ (notes : List NoteParts). IsReading from bytes notes c.args.reading.now.head) none is) in
+    subst (IsReading h.scan from bytes []) (sym c.in_ok-head.ensures)
+    (subst (λ (notes : List NoteParts). IsReading h.scan from bytes notes c.args.reading.now.head) none is) in
     record {
       before = b.before;
       current = subst (AreAllBarren h) (sym c.in_ok-insert.ensures.entries)

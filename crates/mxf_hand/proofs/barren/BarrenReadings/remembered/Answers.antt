@@ -9,8 +9,8 @@ returns c = λ h b.
     let from = c.args.from in
     let end = c.args.end in
     let bytes = read_bytes h end from in
-    let found : IsReading from bytes [] c.in-Some.head.now =
-    subst (λ (o : Option (Option NoteParts)). IfSome o (IsReading from bytes [])) (sym c.in-Some.ensures.value)
+    let found : IsReading h.scan from bytes [] c.in-Some.head.now =
+    subst (λ (o : Option (Option NoteParts)). IfSome o (IsReading h.scan from bytes [])) (sym c.in-Some.ensures.value)
     (found_barren h c.args.self.now.before.entries from end b.before) in
-    subst (λ (notes : List NoteParts). IsReading from bytes notes c.in_ok-head.head) (sym c.new-notes.ensures)
-    (subst (IsReading from bytes []) (sym c.in_ok-head.ensures) found)
+    subst (λ (notes : List NoteParts). IsReading h.scan from bytes notes c.in_ok-head.head) (sym c.new-notes.ensures)
+    (subst (IsReading h.scan from bytes []) (sym c.in_ok-head.ensures) found)

@@ -1,34 +1,26 @@
-use Rattle.mxf_views.proofs.Common.{◌≡◌, ◌+◌, ◌∙◌, ℕ, ap, arith, subst, covered_end, end_of, LengthParts}
-use Rattle.mxf_read.specs.Coming.{HasTaken}
+use Rattle.mxf_views.proofs.Common.{◌≡◌, ◌∙◌, Bool, true, false, arith, subst, sym, covered_end, end_of, note_of}
+use Rattle.mxf_views.proofs.Common.{packet_parts}
+use Rattle.std.specs.Result.{IfOk}
+use Rattle.mxf_read.specs.ValueSoFar.{noted_if, passes}
 use Rattle.mxf_hand.specs.Given.{bytes_between}
-use Rattle.mxf_read.proofs.ComingLaws.{some_where}
-use Rattle.mxf_hand.proofs.NotingLaws.{can_spell, covered_head, head_length, taken_note}
+use Rattle.mxf_hand.proofs.NotingLaws.{covered_head}
+use Rattle.mxf_hand.proofs.ReadBytes.{between_len}
+use Rattle.mxf_hand.proofs.ScanLaws.{passed_packet}
 use Rattle.mxf_hand.proofs.given.Given.packet_of.Goals as goal
 
-pub unwrap-ber-requires : goal.unwrap-ber-requires
-unwrap-ber-requires g c = some_where c.new.result _ _ c.new.ensures
-    (can_spell c.args.head.now c.width.result c.length.result c.offset-offset.ensures.note c.width.ensures
-    c.length.ensures)
+pub returns-then-passes-clause-note : goal.returns-then-passes-clause-note
+returns-then-passes-clause-note g c = λ given byte are of.
+    let n = c.args.head.now in
+    let passing : passes c.args.scan n.key n.length ≡ true = sym c.passes.ensures ∙ c.if-passes.true in
+    let from = covered_head n c.requires.head in
+    let size = between_len byte (covered_end n) (end_of n) in
+    passed_packet c.args.scan n.offset n.key n.width n.length (bytes_between byte (covered_end n) (end_of n))
+    c.passed_packet_of.result passing (omega (arith, size, from)) c.passed_packet_of.ensures
 
 pub returns-clause-note : goal.returns-clause-note
 returns-clause-note g c = λ given byte are of.
-    let head = c.args.head.now in
-    let v = c.in_ok-value.value in
-    let w = c.take_from.new.value in
-    let made = c.in_ok-value.ensures in
-    let same = c.take_from.ensures.same in
-    let length = head_length c.width.result c.length.result c.new.result c.unwrap-ber.result c.unwrap-ber.ensures
-    c.new.ensures in
-    let size : v.ber.value ≡ c.length.result = ap (λ (l : LengthParts). l.value) made.length ∙ length.1 in
-    let count = made.none.counted in
-    let at = c.covered_end.ensures.covered in
-    let from = covered_head head c.requires.head in
-    let end : c.covered_end.result + v.left ≡ end_of head = omega (arith, size, count, at, from, c.length.ensures) in
-    let all : HasTaken w (bytes_between byte (covered_end head) (end_of head)) =
-    subst (λ (k : ℕ). HasTaken w (bytes_between byte k (end_of head))) at
-    (subst (λ (k : ℕ). HasTaken w (bytes_between byte c.covered_end.result k)) end
-    (c.in_ok-take_from.ensures.taken given byte are (λ x b l m. of x b (omega (arith, at)) (omega (arith, end))))) in
-    taken_note head c.into_note.result w _ (same.offset ∙ made.offset ∙ c.offset-offset.ensures.offset)
-    (same.key ∙ made.key ∙ c.key.ensures)
-    (ap (λ (l : LengthParts). l.width) (same.spelled ∙ made.length) ∙ length.0 ∙ c.width.ensures)
-    (c.into_note.ensures (bytes_between byte (covered_end head) (end_of head)) all)
+    let n = c.args.head.now in
+    let packet = note_of n.offset (packet_parts n.key n.width (bytes_between byte (covered_end n) (end_of n))) in
+    let read : passes c.args.scan n.key n.length ≡ false = sym c.passes.ensures ∙ c.if-passes.false in
+    subst (λ (b : Bool). IfOk c.read_packet_of.result (λ m. m ≡ noted_if b packet)) (sym read)
+    (c.read_packet_of.ensures.note given byte are of)

@@ -1,6 +1,7 @@
-use Rattle.std.proofs.Common.{◌≡◌, ◌+◌, ◌≤◌, ◌++◌, ◌∙◌, ℕ, List, take, arith, subst}
+use Rattle.std.proofs.Common.{◌≡◌, ◌+◌, ◌≤◌, ◌++◌, ◌∙◌, ℕ, List, take, ap, arith, subst}
 use Rattle.std.proofs.lemmas.List.{take-append-le}
 use Rattle.mxf_read.specs.Coming.{HasTaken}
+use Rattle.mxf_hand.specs.Given.{bytes_between}
 use Rattle.mxf_hand.proofs.NotingLaws.{left_less, same_packet}
 use Rattle.mxf_hand.proofs.ReadBytes.{front_len, so_far_more}
 use Rattle.mxf_hand.proofs.given.Given.take_from.Goals as goal
@@ -28,3 +29,11 @@ reads-preserved g c =
           c.args.at (c.args.at + c.args.value.now.left) c.reads.at n done part told from end so_far
           c.in_ok-count.ensures.bytes,
     )
+
+pub returns-clause-taken : goal.returns-clause-taken
+returns-clause-taken g c = λ given byte are of.
+    let (done, told, from, count, same, taken, so_far) = c.reads.invariant in
+    let left = c.left.ensures in
+    let none = c.reads-test.false in
+    let end : c.reads.at ≡ c.args.at + c.args.value.now.left = omega (arith, count, left, none) in
+    subst (HasTaken c.reads.value) (so_far given byte are of ∙ ap (bytes_between byte c.args.at) end) taken

@@ -7,6 +7,6 @@ use Rattle.mxf_hand.proofs.hand.Hand.fits.Given as goal
 abbrev pub invariant-loop-run : goal.invariant-loop-run
 invariant-loop-run g l = (g.S.Sources.told l.sources ≡ g.S.Sources.told l.initial.sources)
     × ((r : Run) → In r l.run-iterator → In r l.self.runs × (r.start < l.end)) × ((h : HandBytes)
-    → AreToldIn (g.S.Sources.told l.initial.sources) l.self.given.extents l.self.runs h
+    → AreToldIn (g.S.Sources.told l.initial.sources) l.self.given.extents l.self.runs l.self.scan h
     → (x : ℕ) → l.start ≤ x → x < l.end → LiesIn l.self.runs x
     → LiesIn l.run-iterator x ⊎ (h.byte x ≡ get_or l.spelled.items (x - l.start) 0))
