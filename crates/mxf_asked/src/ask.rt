@@ -1,9 +1,11 @@
 //! What a run is asked for of what sources hold together.
+use mxf_skim::Scan;
+
 /// What a run is asked for.
 #[derive(Clone, Copy, Debug, PartialEq, Eq)]
 pub enum Ask {
-    /// What was noted of each piece, and all that is known of the recording.
-    Show,
+    /// What was noted of each piece, and all that is known of the recording, by a reading or a skim.
+    Show { scan: Scan },
     /// What is found wrong or missing.
     Check,
     /// What the recording is, by its header metadata.

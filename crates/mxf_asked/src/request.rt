@@ -3,11 +3,14 @@ use crate::ask::Ask;
 use crate::grid::Grid;
 use crate::units::IndexedUnits;
 use mxf_forms::Form;
+use mxf_skim::Scan;
 
 /// What the command line asks for, and in which form, of the sources that words name and a list after them.
 #[derive(Clone, Copy)]
 pub struct Request<'m, 'a> {
     pub task: Task<'a>,
+    /// Whether the values of a container's packets are read.
+    pub scan: Scan,
     pub form: Form,
     pub named: NamedSources<'m, 'a>,
     /// The sources beside these: the earlier ones of a renewal, those of a reference, or the recordings in which

@@ -5,6 +5,7 @@ use mxf_asked::{
     Task, Told, Verifying,
 };
 use mxf_forms::Form;
+use mxf_skim::Scan;
 use mxf_timed::{TimecodeWord, UnitBound};
 use mxf_units::UnitRange;
 
@@ -17,6 +18,7 @@ pub fn request_of<'m, 'a>(
 ) -> Option<Request<'m, 'a>> {
     Some(Request {
         task: task_of(name, inner, units)?,
+        scan: scan_of(inner),
         form: form_of(inner),
         named: NamedSources {
             words: inner.get_strs("SRC"),
@@ -38,6 +40,15 @@ fn words_beside<'m, 'a>(inner: &'m ArgMatches<'a>) -> Option<&'m [&'a str]> {
 /// When hints are to be printed.
 pub fn hints_of(inner: &ArgMatches<'_>) -> Hints {
     Hints::named(inner.get_str("hints").unwrap_or("auto"))
+}
+
+/// Whether the values of a container's packets are to be read.
+fn scan_of(inner: &ArgMatches<'_>) -> Scan {
+    if inner.get_flag("skim") {
+        Scan::Skim
+    } else {
+        Scan::Full
+    }
 }
 
 /// The form in which lines are to be printed.
@@ -71,7 +82,9 @@ fn task_of<'a>(name: &str, inner: &ArgMatches<'a>, units: AskedUnits<'a>) -> Opt
 fn told_of<'a>(name: &str, inner: &ArgMatches<'a>, units: AskedUnits<'a>) -> Option<Told<'a>> {
     match name {
         "describe" => Some(Told::Answer(Ask::Describe)),
-        "show" => Some(Told::Answer(Ask::Show)),
+        "show" => Some(Told::Answer(Ask::Show {
+            scan: scan_of(inner),
+        })),
         "check" => Some(Told::Answer(Ask::Check)),
         "locate" => Some(Told::Answer(Ask::Locate {
             index: inner.get_one("index")?,

@@ -68,6 +68,10 @@ impl fmt::Display for Hint<'_, '_> {
     }
 }
 
+/// What to do after a check that read no essence.
+pub const SKIM_HINT: &str =
+    "hint: essence wasn't read: check without --skim reads it, and verify says whether it is as it was";
+
 /// What a word was meant for that is no edit unit.
 fn advice_on_unit(word: &str) -> &'static str {
     if word.contains(".") && word.contains(":") {

@@ -42,6 +42,7 @@ pub use disputing::tell_together;
 pub use exit::Exit;
 pub use fault::{IndexSids, RunFault, ToldClock};
 pub use found::{FoundUnits, found_units};
+pub use hint::SKIM_HINT;
 pub use offsets::{is_contradicted, tell_offsets};
 pub use part::part_of;
 pub use refusal::RefusalHint;

@@ -57,7 +57,7 @@ join_lines content = join_line (length content) (length (disputed_notes content)
 
 -- The lines that are asked for, of pieces with these reports, of what is at hand, and of a content.
 abbrev pub answer_lines : Ask → List PieceReport → AtHandParts → List NoteParts → List PrintedLine
-answer_lines Show reports at content = report_lines reports ++ content_lines content
+answer_lines (Show scan) reports at content = report_lines reports ++ content_lines scan content
 answer_lines Check reports at content = check_lines reports content
 answer_lines Describe reports at content = description_lines content
 answer_lines (Locate index unit) reports at content = place_line (place_of (segments_of content) index unit) ∷ []
@@ -79,7 +79,7 @@ plan_status disputes p = if length p.orders == 0 && is_none disputes then 0 else
 
 -- The status of what is asked for.
 abbrev pub answer_status : Ask → List PieceReport → AtHandParts → List NoteParts → ℕ
-answer_status Show reports at content = 0
+answer_status (Show scan) reports at content = 0
 answer_status Check reports at content = check_status reports (findings_of content)
 answer_status Describe reports at content = description_status content
 answer_status (Locate index unit) reports at content = place_status (place_of (segments_of content) index unit)
@@ -88,7 +88,7 @@ answer_status Plan reports at content = plan_status (disputes_of content) (plan_
 
 -- An edit unit above the greatest is asked for.
 abbrev pub IsBadAsk : Ask → Type 0
-IsBadAsk Show = ⊥
+IsBadAsk (Show scan) = ⊥
 IsBadAsk Check = ⊥
 IsBadAsk Describe = ⊥
 IsBadAsk (Locate index unit) = greatest_unit < unit

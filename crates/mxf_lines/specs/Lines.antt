@@ -1,6 +1,9 @@
 -- The lines that are printed (this project's profile). Numbers are decimal.
 use Rattle.std.specs.Prelude.{ℕ, ◌+◌, ◌-◌, Bool, true, false, List, [], ◌∷◌, ◌++◌, codes, not, Option, None, Some}
 use Rattle.std.specs.Prelude.{option_map}
+use Rattle.mxf_skim.specs.Saving.{saved_note}
+use Rattle.mxf_skim.specs.declared.scan.Scan.{Scan}
+use Rattle.mxf_skim.specs.declared.scan.Scan.TheVariants.{Full, Skim}
 use Rattle.mxf_klv.specs.Kind.{kind_of}
 use Rattle.mxf_klv.specs.Note.{end_of}
 use Rattle.mxf_klv.specs.Parts.{NoteParts}
@@ -51,6 +54,11 @@ abbrev pub note_fields : NoteParts → List Field
 note_fields n =
     number " " "offset" n.offset ∷ word " " "kind" (kind_name (kind_of n.key)) ∷ number " " "width" n.width
     ∷ number " " "length" n.length ∷ word " " "key" (hex_of n.key) ∷ flag " head" "head" (not n.whole) ∷ []
+
+-- What is shown of a note by a scan: by a skim the head of a packet that was passed over.
+abbrev pub shown_by : Scan → NoteParts → NoteParts
+shown_by Full n = n
+shown_by Skim n = saved_note n
 
 -- The line of a note: what it says, whether it is disputed, and in JSON the offset after its last byte.
 unfoldable pub note_line : NoteParts → Bool → PrintedLine

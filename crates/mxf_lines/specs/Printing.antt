@@ -10,11 +10,12 @@ use Rattle.mxf_views.specs.Partitions.{chain_of, partitions_of}
 use Rattle.mxf_views.specs.Places.{segments_of}
 use Rattle.mxf_views.specs.RandomIndexView.{rip_view_of}
 use Rattle.mxf_references.specs.Resolved.{resolved_of}
+use Rattle.mxf_skim.specs.declared.scan.Scan.{Scan}
 use Rattle.mxf_lines.specs.declared.printing.AnswerFault.{AnswerFault}
 use Rattle.mxf_lines.specs.declared.printing.AnswerFault.TheVariants.{OutOfMemory, Write, BadUnit}
 use Rattle.mxf_forms.specs.declared.form.Form.{Form}
 use Rattle.mxf_forms.specs.Forms.{PrintedLine, lines_in}
-use Rattle.mxf_lines.specs.Lines.{chain_line, copy_line, gap_line, note_line, preferred_line}
+use Rattle.mxf_lines.specs.Lines.{chain_line, copy_line, gap_line, note_line, preferred_line, shown_by}
 use Rattle.mxf_lines.specs.IndexLines.{rip_lines, segment_line}
 use Rattle.mxf_lines.specs.ItemLines.{set_lines}
 use Rattle.mxf_lines.specs.PartitionLines.{partition_lines}
@@ -32,10 +33,10 @@ metadata_lines content =
     ++ (flat_map (λ s. segment_line s ∷ []) (segments_of content)
     ++ rip_lines (rip_view_of content)))))
 
--- The lines of a content: of each note, gap and partition, of the chain, and then those above.
-abbrev pub content_lines : List NoteParts → List PrintedLine
-content_lines content =
-    flat_map (λ n. note_line n (is_disputed n content) ∷ []) content
+-- The lines of a content, by a scan: of each note, gap and partition, of the chain, and then those above.
+abbrev pub content_lines : Scan → List NoteParts → List PrintedLine
+content_lines scan content =
+    flat_map (λ n. note_line (shown_by scan n) (is_disputed n content) ∷ []) content
     ++ (flat_map (λ gap. gap_line gap ∷ []) (gaps_of content)
     ++ (flat_map (partition_lines (partitions_of content)) (partitions_of content)
     ++ (chain_line (chain_of content) ∷ metadata_lines content)))

@@ -15,7 +15,7 @@
 //! ```
 //! let gathered = gather(alloc, parts)?;
 //! let at_hand = AtHand::nothing(alloc);
-//! let status = answer(alloc, &Ask::Show, Form::Text, &gathered, &at_hand, &mut writer)?;
+//! let status = answer(alloc, &Ask::Show { scan: Scan::Full }, Form::Text, &gathered, &at_hand, &mut writer)?;
 //! ```
 #![tactic(auto)]
 

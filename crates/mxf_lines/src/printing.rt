@@ -25,6 +25,7 @@ mod units;
 mod verification;
 
 use check::print_checked;
+use content::Shown;
 use description::print_description;
 pub use found::{Searched, print_found};
 use line::JoinLine;
@@ -114,7 +115,10 @@ fn print_asked<W: Write>(
         result (answer_lines ask.now gathered.now.reports at_hand.now gathered.now.views) }
 {
     match *ask {
-        Ask::Show => print_with_status(printer, writer, gathered, 0),
+        Ask::Show { scan } => {
+            let shown = Shown { gathered, scan };
+            print_with_status(printer, writer, shown, 0)
+        }
         Ask::Check => print_checked(printer, writer, gathered),
         Ask::Describe => print_description(printer, writer, &gathered.views),
         Ask::Locate { index, unit } => {

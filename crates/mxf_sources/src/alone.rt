@@ -5,6 +5,7 @@ use crate::system::System;
 use mxf_catalogue::Catalogue;
 use mxf_hints::{Contents, RunFault, gather_each, gather_one, line_on_screen, part_of};
 use mxf_saving::{LastFault, Source};
+use mxf_skim::Scan;
 use mxf_watching::{Screen, Watched};
 use std::alloc::{AllocError, Global};
 use std::fs;
@@ -25,7 +26,7 @@ pub fn read_each<'a, R: System>(
     sources: &[Source<'a>],
 ) -> Result<Contents, RunFault<'a>> {
     let last = LastFault::new();
-    let opened = open_sources(rt, screen, sources, &last)?;
+    let opened = open_sources(rt, screen, Scan::Full, sources, &last)?;
     match gather_each(rt.alloc(), opened.parts) {
         Ok(contents) => Ok(contents),
         Err(fault) => Err(ungathered(&fault, sources, &last)),

@@ -2,15 +2,15 @@
 use crate::opened::{Opened, open_sources, ungathered};
 use crate::reopened::Reopened;
 use crate::system::System;
-use mxf_hand::{Extent, Given, PutTogether, SourceFault, put_together, settle};
+use mxf_hand::{Extent, Given, PutTogether, SourceFault, put_together_by, settle};
 use mxf_hints::RunFault;
 use mxf_places::AtHand;
-use mxf_read::{GatherFault, Gathered, PartFault, PieceReports, gather};
+use mxf_read::{GatherFault, Gathered, PartFault, PassOver, PieceReports, gather, gather_skim};
 use mxf_saving::{LastFault, Source};
+use mxf_skim::Scan;
 use mxf_views::Views;
 use mxf_watching::Screen;
 use std::alloc::Global;
-use std::io::Read;
 
 /// What sources hold together, which of their bytes are at hand, and where they lie.
 #[derive(Drop)]
@@ -20,27 +20,33 @@ pub struct HeldBySources {
     pub extents: Vec<Extent>,
 }
 
-/// What the sources hold together. All are opened before the first is read.
+/// What the sources hold together, by a reading or a skim. All are opened before the first is read.
 pub fn hold_sources<'a, R: System>(
     rt: &R,
     screen: Screen,
+    scan: Scan,
     sources: &[Source<'a>],
 ) -> Result<HeldBySources, RunFault<'a>> {
     let last = LastFault::new();
-    let opened = open_sources(rt, screen, sources, &last)?;
-    hold_opened(rt, opened, sources, &last)
+    let opened = open_sources(rt, screen, scan, sources, &last)?;
+    hold_opened(rt, scan, opened, sources, &last)
 }
 
 /// What sources hold together that were opened. If one of them is a range, packets are put together of bytes at hand.
-pub fn hold_opened<'r, 'a, R: System, F: Read + Drop>(
+pub fn hold_opened<'r, 'a, R: System, F: PassOver + Drop>(
     rt: &'r R,
+    scan: Scan,
     opened: Opened<F>,
     sources: &[Source<'a>],
     last: &'r LastFault,
 ) -> Result<HeldBySources, RunFault<'a>> {
     let Opened { parts, extents } = opened;
-    match gather(rt.alloc(), parts) {
-        Ok(gathered) => complete(rt, gathered, extents, sources, last),
+    let gathered = match scan {
+        Scan::Full => gather(rt.alloc(), parts),
+        Scan::Skim => gather_skim(rt.alloc(), parts),
+    };
+    match gathered {
+        Ok(gathered) => complete(rt, scan, gathered, extents, sources, last),
         Err(fault) => Err(ungathered(&fault, sources, last)),
     }
 }
@@ -90,13 +96,14 @@ fn has_range(sources: &[Source<'_>]) -> bool {
 /// Puts packets together of bytes at hand.
 fn complete<'r, 'a, R: System>(
     rt: &'r R,
+    scan: Scan,
     gathered: Gathered,
     extents: Vec<Extent>,
     sources: &[Source<'a>],
     last: &'r LastFault,
 ) -> Result<HeldBySources, RunFault<'a>> {
     let Gathered { views, reports } = gathered;
-    let PutTogether { views, at_hand } = completed(rt, views, &extents, sources, last)?;
+    let PutTogether { views, at_hand } = completed(rt, scan, views, &extents, sources, last)?;
     let gathered = Gathered { views, reports };
     Ok(HeldBySources {
         gathered,
@@ -108,6 +115,7 @@ fn complete<'r, 'a, R: System>(
 /// Puts packets together of bytes at hand, if one of the sources is a range.
 pub fn completed<'r, 'a, R: System>(
     rt: &'r R,
+    scan: Scan,
     views: Views,
     extents: &[Extent],
     sources: &[Source<'a>],
@@ -117,7 +125,7 @@ pub fn completed<'r, 'a, R: System>(
         let at_hand = AtHand::nothing(rt.alloc());
         return Ok(PutTogether { views, at_hand });
     }
-    match put_views_together(rt, views, extents, sources, last) {
+    match put_views_together(rt, scan, views, extents, sources, last) {
         Ok(together) => Ok(together),
         Err(fault) => Err(unread_again(fault, sources, last)),
     }
@@ -127,6 +135,7 @@ pub fn completed<'r, 'a, R: System>(
 /// for.
 fn put_views_together<R: System>(
     rt: &R,
+    scan: Scan,
     views: Views,
     extents: &[Extent],
     sources: &[Source<'_>],
@@ -134,7 +143,7 @@ fn put_views_together<R: System>(
 ) -> Result<PutTogether, SourceFault> {
     let given = Given::of(rt.alloc(), Vec::from_slice(rt.alloc(), extents)?)?;
     let mut reopened = Reopened::new(rt, sources, last);
-    put_together(rt.alloc(), views, given, &mut reopened)
+    put_together_by(rt.alloc(), scan, views, given, &mut reopened)
 }
 
 /// Why bytes of the sources weren't read again.

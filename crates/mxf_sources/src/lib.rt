@@ -9,7 +9,8 @@
 //! | what earlier and later sources hold | [`hold_both`] |
 //! | what each holds by itself | [`read_each`], [`read_all_alone`], [`read_alone`] |
 //!
-//! All that a run takes of the system is a [`System`]. What is proved: what later sources hold together are all their
+//! A skim takes the file of a source as a [`SourceFile`] does: no byte that was appended since it was opened, and by
+//! seeking. All that a run takes of the system is a [`System`]. What is proved: what later sources hold together are all their
 //! notes. What is read of files is tested.
 #![tactic(auto)]
 
@@ -19,6 +20,7 @@ mod lists;
 mod opened;
 mod reopened;
 mod sides;
+mod source_file;
 mod system;
 
 pub use alone::{names_of, read_all_alone, read_alone, read_each};
@@ -26,4 +28,5 @@ pub use held::{HeldBySources, hold_opened, hold_sources, settled};
 pub use lists::{Lists, read_lists, sources_of};
 pub use opened::{Opened, open_sources, ungathered};
 pub use sides::{Later, Sides, hold_both};
+pub use source_file::SourceFile;
 pub use system::System;

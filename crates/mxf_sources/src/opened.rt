@@ -1,11 +1,13 @@
 //! Sources that are open.
 use crate::lists::unread;
 use crate::reopened::extent_of;
+use crate::source_file::SourceFile;
 use crate::system::System;
 use mxf_hand::Extent;
 use mxf_hints::{RunFault, part_of};
 use mxf_read::{GatherFault, Part};
 use mxf_saving::{LastFault, Source};
+use mxf_skim::Scan;
 use mxf_watching::{Screen, Watched};
 use std::fs::{self, File};
 use std::io;
@@ -17,13 +19,14 @@ pub struct Opened<F> {
     pub extents: Vec<Extent>,
 }
 
-/// The sources, opened in their order.
+/// The sources, opened in their order, to be read or skimmed.
 pub fn open_sources<'r, 'a, R: System>(
     rt: &'r R,
     screen: Screen,
+    scan: Scan,
     sources: &[Source<'a>],
     last: &'r LastFault,
-) -> Result<Opened<Watched<'r, R, R::File>>, RunFault<'a>> {
+) -> Result<Opened<SourceFile<Watched<'r, R, R::File>>>, RunFault<'a>> {
     let mut opened = Opened {
         parts: Vec::new(rt.alloc()),
         extents: Vec::new(rt.alloc()),
@@ -34,7 +37,13 @@ pub fn open_sources<'r, 'a, R: System>(
             Err(fault) => return Err(unread(source.path(), &fault)),
         };
         let extent = extent_of(source, size);
-        let part = part_of(source, Watched::new(rt, screen, source, file, last));
+        let scan = if source.place().is_some() {
+            scan
+        } else {
+            Scan::Full
+        };
+        let watched = Watched::new(rt, screen, source, file, last);
+        let part = part_of(source, SourceFile::new(watched, scan, size));
         if opened.parts.push(part).is_err() || opened.extents.push(extent).is_err() {
             return Err(RunFault::OutOfMemory);
         }

@@ -12,6 +12,7 @@ use mxf_klv::OutOfMemory;
 use mxf_read::PieceReports;
 use mxf_readings::joined;
 use mxf_saving::{LastFault, Source};
+use mxf_skim::Scan;
 use mxf_views::Views;
 use mxf_watching::Screen;
 use std::alloc::Global;
@@ -40,9 +41,9 @@ pub fn hold_both<'a, R: System>(
     later_sources: &[Source<'a>],
 ) -> Result<Sides, RunFault<'a>> {
     let last = LastFault::new();
-    let earlier = open_sources(rt, screen, earlier_sources, &last)?;
-    let later = open_sources(rt, screen, later_sources, &last)?;
-    let earlier = hold_opened(rt, earlier, earlier_sources, &last)?;
+    let earlier = open_sources(rt, screen, Scan::Full, earlier_sources, &last)?;
+    let later = open_sources(rt, screen, Scan::Full, later_sources, &last)?;
+    let earlier = hold_opened(rt, Scan::Full, earlier, earlier_sources, &last)?;
     let earlier = settled(rt.alloc(), earlier, earlier_sources)?;
     let later = hold_later(rt, later, later_sources, &last)?;
     Ok(Sides { earlier, later })
@@ -80,7 +81,7 @@ fn later_of<'r, 'a, R: System>(
         return Err(RunFault::OutOfMemory);
     };
     drop(contents);
-    let PutTogether { views, .. } = completed(rt, views, &extents, sources, last)?;
+    let PutTogether { views, .. } = completed(rt, Scan::Full, views, &extents, sources, last)?;
     let reports = PieceReports::of(reports);
     let reports = settled_reports(rt.alloc(), &views, &extents, reports, sources)?;
     Ok(Later {

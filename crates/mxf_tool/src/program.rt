@@ -12,14 +12,17 @@ use clap::error::ErrorKind;
 use edit_units::{print_unit_plan, print_units};
 use finding::print_found_in;
 use mxf_asked::{Ask, Grid, Hints, Request, Saving, Task, Told};
+use mxf_catalogue::Catalogue;
 use mxf_clocks::Clocks;
 use mxf_commands::{
     UnitRefusal, command, hints_of, request_of, signed_number, units_of, unreadable_argument,
 };
 use mxf_forms::Form;
 use mxf_hints::{
-    Exit, RefusalHint, RunFault, Telling, tell, tell_on_screen, tell_stops, tell_together,
+    Exit, RefusalHint, RunFault, SKIM_HINT, Telling, tell, tell_on_screen, tell_stops,
+    tell_together,
 };
+use mxf_klv::OutOfMemory;
 use mxf_lines::{
     AnswerFault, Searched, Verified, answer, print_edit_units, print_found, print_many_plan,
     print_map, print_metadata_plan, print_renewed, print_sources, print_verification,
@@ -30,6 +33,7 @@ use mxf_readings::Readings;
 use mxf_saving::{
     BUFFER_BYTES, LastFault, Reservation, SaveFault, Source, SystemFault, WatchedWriter, refusal_of,
 };
+use mxf_skim::{Scan, with_heads};
 use mxf_sources::{HeldBySources, Lists, System, hold_sources, read_lists, settled, sources_of};
 use mxf_units::{UnitRange, Units};
 use mxf_verify::Renewed;
@@ -44,6 +48,7 @@ use verifying::print_verified;
 #[derive(Clone, Copy)]
 pub struct Inputs<'s, 'a> {
     pub telling: Telling,
+    pub scan: Scan,
     pub form: Form,
     /// The sources beside these: the earlier ones of a renewal, those of a reference, or the recordings in which
     /// fragments are looked for.
@@ -175,6 +180,7 @@ fn perform_with<R: System>(
     };
     let inputs = Inputs {
         telling,
+        scan: request.scan,
         form: request.form,
         beside: &beside,
         sources: &sources,
@@ -207,12 +213,29 @@ fn print_told<'a, R: System>(
     inputs: Inputs<'_, 'a>,
     asked: Told<'a>,
 ) -> Result<Exit, RunFault<'a>> {
-    let held = hold_sources(rt, inputs.telling.screen, inputs.sources)?;
+    let held = hold_sources(rt, inputs.telling.screen, inputs.scan, inputs.sources)?;
     let held = match asked {
-        Told::Answer(Ask::Show) => held,
+        Told::Answer(Ask::Show { .. }) => held,
         _ => settled(rt.alloc(), held, inputs.sources)?,
     };
-    print_held(rt, inputs, asked, &held)
+    let exit = print_held(rt, inputs, asked, &held)?;
+    match asked {
+        Told::Answer(Ask::Check) => told_skim(rt, inputs, exit),
+        _ => Ok(exit),
+    }
+}
+
+/// Ends a run that checked: if hints are told, it tells of a skim that essence wasn't read.
+fn told_skim<'a, R: System>(
+    rt: &R,
+    inputs: Inputs<'_, 'a>,
+    exit: Exit,
+) -> Result<Exit, RunFault<'a>> {
+    let is_told = inputs.telling.has_hints && inputs.scan == Scan::Skim;
+    if is_told && tell_on_screen(rt, &SKIM_HINT).is_err() {
+        return Err(RunFault::OutOfMemory);
+    }
+    Ok(exit)
 }
 
 /// Prints what is asked for of what is held of the sources.
@@ -313,11 +336,27 @@ fn join_at<'a, 'r, R: System>(
     out: &'a str,
     place: Reservation<'r, R>,
 ) -> Result<HeldBySources, RunFault<'a>> {
-    let held = hold_sources(rt, inputs.telling.screen, inputs.sources)?;
+    let held = hold_sources(rt, inputs.telling.screen, inputs.scan, inputs.sources)?;
     let held = settled(rt.alloc(), held, inputs.sources)?;
-    match place.save(rt, held.gathered.views.catalogue()) {
+    match save(rt, inputs.scan, held.gathered.views.catalogue(), place) {
         Ok(()) => Ok(held),
         Err(fault) => Err(unsaved(out, fault)),
+    }
+}
+
+/// Saves a catalogue to a place that is held: of a skim the heads of packets that were passed over.
+fn save<'r, R: System>(
+    rt: &'r R,
+    scan: Scan,
+    catalogue: &Catalogue,
+    place: Reservation<'r, R>,
+) -> Result<(), SaveFault> {
+    match scan {
+        Scan::Full => place.save(rt, catalogue),
+        Scan::Skim => match with_heads(rt.alloc(), catalogue) {
+            Ok(saved) => place.save(rt, &saved),
+            Err(OutOfMemory) => Err(SaveFault::OutOfMemory),
+        },
     }
 }
 

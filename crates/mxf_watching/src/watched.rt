@@ -6,7 +6,7 @@ use crate::screen::Screen;
 use crate::shown::text_on_screen;
 use mxf_saving::{LastFault, Source};
 use std::fs::OpenFile;
-use std::io::{self, Read};
+use std::io::{self, Read, Seek, SeekFrom};
 use std::rt::{Clock, Files};
 
 /// Reads a file, and keeps what the system says of a read that fails. If the reading is told, the line is gone once
@@ -79,5 +79,22 @@ impl<R: Eprint + Clock, F: Read + Drop> Read for Watched<'_, R, F> {
             Err(fault) => self.last.keep(fault),
         }
         read
+    }
+}
+
+/// Bytes that are passed over by a seek count as read.
+impl<R: Eprint + Clock, F: Seek + Drop> Seek for Watched<'_, R, F> {
+    fn seek(&mut self, to: SeekFrom) -> io::Result<u64> {
+        let sought = self.from.seek(to);
+        match (&sought, to) {
+            (Ok(_), SeekFrom::Current(passed)) => {
+                if let Some(progress) = &mut self.progress {
+                    progress.count(passed.unsigned_abs() as usize);
+                }
+            }
+            (Ok(_), _) => {}
+            (Err(fault), _) => self.last.keep(fault),
+        }
+        sought
     }
 }

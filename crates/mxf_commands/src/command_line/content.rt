@@ -1,6 +1,6 @@
 //! The subcommands that print what the recording is, what sources hold, and what is wrong in it: `describe`, `show` and
 //! `check`.
-use super::options::{named, with_sources};
+use super::options::{named, skim, with_sources};
 use clap::Command;
 use std::alloc::{AllocError, Global};
 
@@ -19,17 +19,20 @@ const CHECK_HELP: &str = source_help!(
 pub fn describe<'a>(alloc: Global) -> Result<Command<'a>, AllocError> {
     let about =
         "Prints what the recording is: packages, tracks, durations, timecodes, picture and sound";
-    with_sources(alloc, named(alloc, "describe", about, DESCRIBE_HELP))
+    let describe = named(alloc, "describe", about, DESCRIBE_HELP);
+    with_sources(alloc, describe.arg(skim(alloc))?)
 }
 
 /// The subcommand that prints what sources hold.
 pub fn show<'a>(alloc: Global) -> Result<Command<'a>, AllocError> {
     let about = "Prints what the sources hold together";
-    with_sources(alloc, named(alloc, "show", about, SHOW_HELP))
+    let show = named(alloc, "show", about, SHOW_HELP);
+    with_sources(alloc, show.arg(skim(alloc))?)
 }
 
 /// The subcommand that prints what is wrong or missing.
 pub fn check<'a>(alloc: Global) -> Result<Command<'a>, AllocError> {
     let about = "Prints what is wrong or missing in what the sources hold together";
-    with_sources(alloc, named(alloc, "check", about, CHECK_HELP))
+    let check = named(alloc, "check", about, CHECK_HELP);
+    with_sources(alloc, check.arg(skim(alloc))?)
 }

@@ -1,6 +1,6 @@
 //! The subcommands that print where edit units lie: `locate` and `units`.
 use super::options::{
-    index_of_units, named, number, timecode, with_args, with_sources, with_units,
+    index_of_units, named, number, skim, timecode, with_args, with_sources, with_units,
 };
 use clap::{Arg, Command, value_parser};
 use std::alloc::{AllocError, Global};
@@ -35,7 +35,8 @@ Examples: mxf_tool units --from 250 --to 274 cat:clip.cat
 pub fn locate<'a>(alloc: Global) -> Result<Command<'a>, AllocError> {
     let about = "Prints where an edit unit begins in its essence stream";
     let locate = named(alloc, "locate", about, LOCATE_HELP);
-    with_sources(alloc, with_args(locate, index(alloc), unit(alloc))?)
+    let locate = with_args(locate, index(alloc), unit(alloc))?;
+    with_sources(alloc, locate.arg(skim(alloc))?)
 }
 
 /// The subcommand that prints where edit units lie in the file.
@@ -43,7 +44,7 @@ pub fn units<'a>(alloc: Global) -> Result<Command<'a>, AllocError> {
     let about = "Prints where edit units lie in the file, and which of them are held";
     let units = named(alloc, "units", about, UNITS_HELP);
     let units = with_units(alloc, units.arg(index_of_units(alloc))?)?;
-    with_sources(alloc, units.arg(timecode(alloc))?)
+    with_sources(alloc, with_args(units, timecode(alloc), skim(alloc))?)
 }
 
 fn index<'a>(alloc: Global) -> Arg<'a> {

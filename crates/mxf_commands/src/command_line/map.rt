@@ -1,5 +1,5 @@
 //! The subcommand that draws what is held: `map`.
-use super::options::{flag, named, number, with_args, with_sources};
+use super::options::{flag, named, number, skim, with_args, with_sources};
 use clap::{Arg, Command, value_parser};
 use std::alloc::{AllocError, Global};
 
@@ -19,7 +19,8 @@ disputed, held, hand or missing.";
 /// The subcommand that draws what is held.
 pub fn map<'a>(alloc: Global) -> Result<Command<'a>, AllocError> {
     let about = "Prints what is held of the recording, as a picture";
-    let map = named(alloc, "map", about, MAP_HELP).arg(extents(alloc))?;
+    let map = named(alloc, "map", about, MAP_HELP);
+    let map = with_args(map, extents(alloc), skim(alloc))?;
     with_sources(alloc, with_args(map, columns(alloc), rows(alloc))?)
 }
 

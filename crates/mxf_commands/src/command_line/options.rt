@@ -65,6 +65,12 @@ fn to<'a>(alloc: Global) -> Arg<'a> {
     option(alloc, "to", "N", help)
 }
 
+/// The option that passes over what the container holds.
+pub fn skim<'a>(alloc: Global) -> Arg<'a> {
+    let help = "Reads no essence: what a container holds is passed over, and not digested";
+    flag(alloc, "skim", help)
+}
+
 /// The option that names the index table whose edit units are asked for.
 pub fn index_of_units<'a>(alloc: Global) -> Arg<'a> {
     let help =

@@ -1,5 +1,5 @@
 //! The subcommand that prints what to restore: `plan`.
-use super::options::{index_of_units, named, with_sources, with_units};
+use super::options::{index_of_units, named, skim, with_args, with_sources, with_units};
 use clap::Command;
 use std::alloc::{AllocError, Global};
 
@@ -23,6 +23,7 @@ Examples: mxf_tool plan range:62914560:part.bin cat:earlier.cat
 /// The subcommand that prints what to restore.
 pub fn plan<'a>(alloc: Global) -> Result<Command<'a>, AllocError> {
     let about = "Prints which bytes to restore next, what helps most first";
-    let plan = named(alloc, "plan", about, PLAN_HELP).arg(index_of_units(alloc))?;
+    let plan = named(alloc, "plan", about, PLAN_HELP);
+    let plan = with_args(plan, index_of_units(alloc), skim(alloc))?;
     with_sources(alloc, with_units(alloc, plan)?)
 }

@@ -1,5 +1,5 @@
 //! The subcommands that save a catalogue: `join` and `renew`.
-use super::options::{besides, flag, named, option, with_args, with_sources};
+use super::options::{besides, flag, named, option, skim, with_args, with_sources};
 use clap::{Arg, Command};
 use std::alloc::{AllocError, Global};
 
@@ -26,7 +26,7 @@ all the same.";
 pub fn join<'a>(alloc: Global) -> Result<Command<'a>, AllocError> {
     let about = "Writes the catalogue of what the sources hold together to a file";
     let join = with_saving(alloc, named(alloc, "join", about, JOIN_HELP));
-    with_sources(alloc, join?)
+    with_sources(alloc, join?.arg(skim(alloc))?)
 }
 
 /// The subcommand that saves what is renewed.

@@ -10,40 +10,60 @@ use super::references::ReferenceLines;
 use super::sets::SetLines;
 use mxf_read::Gathered;
 use mxf_references::resolved;
+use mxf_skim::Scan;
 use mxf_views::Views;
 use std::io::Write;
 
+/// What was gathered, by a scan.
+#[derive(Clone, Copy)]
+pub struct Shown<'g> {
+    pub gathered: &'g Gathered,
+    pub scan: Scan,
+}
+
 /// A line for each piece, and what the views show.
-impl<'a> Lines for &'a Gathered {
-    ghost lines = { λ g. report_lines g.now.reports ++ content_lines g.now.views };
+impl Lines for Shown<'_> {
+    ghost lines = { λ s. report_lines s.gathered.now.reports ++ content_lines s.scan s.gathered.now.views };
 
     fn print_to<W: Write>(self, printer: &mut Printer, writer: &mut W) -> Result<(), AnswerFault> {
-        Then(Each(self.reports.as_slice()), &self.views).print_to(printer, writer)
+        let content = ShownContent {
+            views: &self.gathered.views,
+            scan: self.scan,
+        };
+        Then(Each(self.gathered.reports.as_slice()), content).print_to(printer, writer)
     }
 }
 
+/// What views show, by a scan.
+#[derive(Clone, Copy)]
+struct ShownContent<'v> {
+    views: &'v Views,
+    scan: Scan,
+}
+
 /// What the views show, in this order.
-impl<'a> Lines for &'a Views {
-    ghost lines = { λ v. content_lines v.now };
+impl Lines for ShownContent<'_> {
+    ghost lines = { λ s. content_lines s.scan s.views.now };
 
     fn print_to<W: Write>(self, printer: &mut Printer, writer: &mut W) -> Result<(), AnswerFault> {
+        let views = self.views;
         // Out of memory comes here before the first line.
-        let resolved = resolved(printer.alloc(), self)?;
-        let catalogue = self.catalogue();
+        let resolved = resolved(printer.alloc(), views)?;
+        let catalogue = views.catalogue();
         let references = ReferenceLines {
             catalogue,
             resolved: &resolved,
         };
-        let index = Then(Each(self.segments()), self.rip());
-        let metadata = Then(SetLines(self), Then(references, index));
-        let preferred = PreferredLine(self.preferred());
-        let copies = Then(Each(self.copies()), Then(preferred, metadata));
+        let index = Then(Each(views.segments()), views.rip());
+        let metadata = Then(SetLines(views), Then(references, index));
+        let preferred = PreferredLine(views.preferred());
+        let copies = Then(Each(views.copies()), Then(preferred, metadata));
         let partitions = PartitionLines {
-            views: self,
-            left: self.partitions(),
+            views,
+            left: views.partitions(),
         };
-        let partitions = Then(Each(partitions), Then(self.chain(), copies));
-        let notes = Each(NoteLines::of(catalogue));
-        Then(notes, Then(Each(self.gaps()), partitions)).print_to(printer, writer)
+        let partitions = Then(Each(partitions), Then(views.chain(), copies));
+        let notes = Each(NoteLines::of(catalogue, self.scan));
+        Then(notes, Then(Each(views.gaps()), partitions)).print_to(printer, writer)
     }
 }

@@ -14,6 +14,7 @@ use mxf_lines::{Verified, timecodes_shown};
 use mxf_places::AtHand;
 use mxf_read::{Gathered, Part};
 use mxf_saving::LastFault;
+use mxf_skim::Scan;
 use mxf_sources::{HeldBySources, System, hold_opened, open_sources, ungathered};
 use mxf_timed::ShownTimecodes;
 use mxf_units::{UnitRange, Units};
@@ -31,9 +32,15 @@ pub fn print_verified<'a, R: System>(
     asked: Verifying<'a>,
 ) -> Result<Exit, RunFault<'a>> {
     let last = LastFault::new();
-    let reference = open_sources(rt, inputs.telling.screen, inputs.beside, &last)?;
-    let opened = open_sources(rt, inputs.telling.screen, inputs.sources, &last)?;
-    let HeldBySources { gathered, .. } = hold_opened(rt, reference, inputs.beside, &last)?;
+    let reference = open_sources(rt, inputs.telling.screen, Scan::Full, inputs.beside, &last)?;
+    let opened = open_sources(rt, inputs.telling.screen, Scan::Full, inputs.sources, &last)?;
+    let HeldBySources { gathered, .. } = hold_opened(
+        rt,
+        Scan::Full,
+        reference,
+        inputs.beside,
+        &last,
+    )?;
     verify_by(rt, inputs, asked, &gathered, opened.parts, &last)
 }
 

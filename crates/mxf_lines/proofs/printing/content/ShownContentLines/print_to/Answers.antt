@@ -1,6 +1,6 @@
 use Rattle.mxf_views.proofs.Common.{◌<◌, arith, length, length-append, refl, rules, subst, err_from_is_err_and, Puts}
 use Rattle.mxf_lines.specs.Printing.{Prints, content_lines}
-use Rattle.mxf_lines.proofs.printing.content.RefViewsLines.print_to.Goals as goal
+use Rattle.mxf_lines.proofs.printing.content.ShownContentLines.print_to.Goals as goal
 
 pub returns-clause-lines : goal.returns-clause-lines
 returns-clause-lines g c =
@@ -21,7 +21,7 @@ returns-clause-lines g c =
 
 pub returns-in_err-resolved-clause-lines : goal.returns-in_err-resolved-clause-lines
 returns-in_err-resolved-clause-lines g c =
-    let lines = content_lines c.args.self.now in
+    let lines = content_lines c.args.self.scan c.args.self.views.now in
     let some : 0 < length lines = simp length-append (omega arith) in
     let p = err_from_is_err_and c.from_residual.result c.from_residual.ensures.1 in
     rw (p.1, p.2) (0, some, search rules)
