@@ -43,7 +43,7 @@ _mxf_report() {
       ;;
     at:* | range:*) return ;;
   esac
-  local options='at: range: cat: --out --title --index --from --to --against --sources --index-of --help'
+  local options='at: range: cat: --out --title --index --from --to --against --skim --sources --index-of --help'
   [ "$before" != --against ] || options='at: range: cat:'
   mapfile -t COMPREPLY < <(compgen -W "$options" -- "$word")
   case ${COMPREPLY[0]-} in at: | range: | cat:) compopt -o nospace 2>/dev/null ;; esac

@@ -52,14 +52,15 @@ _mxf_tool() {
   case $command in
     '') options='describe show check locate units plan map verify sources find join renew help --help --version' ;;
     help) options='describe show check locate units plan map verify sources find join renew' ;;
-    describe | show | check | sources) options='at: range: cat: --json --hints --sources --help' ;;
-    map) options='at: range: cat: --columns --rows --extents --json --hints --sources --help' ;;
-    locate) options='at: range: cat: --index --unit --json --hints --sources --help' ;;
-    units) options='at: range: cat: --index --from --to --timecode --json --hints --sources --help' ;;
-    plan) options='at: range: cat: --index --from --to --json --hints --sources --help' ;;
+    describe | show | check) options='at: range: cat: --skim --json --hints --sources --help' ;;
+    sources) options='at: range: cat: --json --hints --sources --help' ;;
+    map) options='at: range: cat: --columns --rows --extents --skim --json --hints --sources --help' ;;
+    locate) options='at: range: cat: --index --unit --skim --json --hints --sources --help' ;;
+    units) options='at: range: cat: --index --from --to --timecode --skim --json --hints --sources --help' ;;
+    plan) options='at: range: cat: --index --from --to --skim --json --hints --sources --help' ;;
     verify) options='at: range: cat: --against --whole --index --from --to --timecode --json --hints --sources --help' ;;
     find) options='at: range: cat: --in --recordings --json --hints --sources --help' ;;
-    join) options='at: range: cat: --out --strict --dry-run --json --hints --sources --help' ;;
+    join) options='at: range: cat: --out --strict --dry-run --skim --json --hints --sources --help' ;;
     renew) options='at: range: cat: --out --old --strict --drop --dry-run --json --hints --sources --help' ;;
   esac
   mapfile -t COMPREPLY < <(compgen -W "$options" -- "$word")

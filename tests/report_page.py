@@ -1,7 +1,8 @@
 #!/usr/bin/env python3
 """Reads a page of report/mxf_report and compares it with what the program prints.
 
-    tests/report_page.py TOOL PAGE WORDS..    a page of one recording: WORDS name its sources, and --against a reference
+    tests/report_page.py TOOL PAGE WORDS..    a page of one recording: WORDS name its sources, and --against a reference; of
+                                              one with --skim too the lines are those of calls without
     tests/report_page.py --form PAGE          the form of a page alone: its tags are balanced, and it loads nothing
     tests/report_page.py --text PAGE          the text of a page that is seen, a word a line
     tests/report_page.py --rows PAGE [TABLE]  the rows of its first table, or of that of this caption, a line each
@@ -318,7 +319,17 @@ def order_cells(line):
     return [*cells({**line, "length": length}, "start", "end", "length"), *cells(line, "source"), form]
 
 
-def differences_of_orders(page, told, span):
+def sources_lines(told, is_skimmed):
+    """What `sources` prints, and of a page for which essence wasn't read what is known of that: no digests, and of several
+    sources not what each has."""
+    lines = told.lines("sources")
+    unknown = {"digest", "head"} if is_skimmed else set()
+    if is_skimmed and lines[-1]["sources"] > 1:
+        unknown |= {"notes", "alone", "disputed", "sources"}
+    return [{name: value for name, value in line.items() if name not in unknown} for line in lines]
+
+
+def differences_of_orders(page, told, span, is_skimmed):
     """How the orders and the disputes differ."""
     for caption, orders in plans_of(told, span).items():
         kept = [[*row[:3], *row[4:]] for row in page.all_rows(caption)]
@@ -327,12 +338,14 @@ def differences_of_orders(page, told, span):
             yield f"{caption} are {kept}, not {want}"
     readings = []
     names = names_of(told)
-    for line in told.lines("sources", name="disputed"):
-        sources = sources_text(line["sources"], names)
-        named = {**line, "kind": line["kind"] + ", head" * line["head"], "sources": sources}
-        readings.append(cells(named, "offset", "kind", "length", "key", "digest", "sources"))
+    lines = sources_lines(told, is_skimmed)
+    for line in lines:
+        if line["line"] == "disputed":
+            sources = sources_text(line["sources"], names) if "sources" in line else None
+            named = {**line, "kind": line["kind"] + ", head" * line.get("head", False), "sources": sources}
+            readings.append(cells(named, "offset", "kind", "length", "key", "digest", "sources"))
     yield from differences_of_rows(page, "Readings", readings, "disputes")
-    sources = [cells(line, "source", "word", "notes", "alone", "disputed") for line in told.lines("sources", name="source")]
+    sources = [cells(line, "source", "word", "notes", "alone", "disputed") for line in lines if line["line"] == "source"]
     yield from differences_of_rows(page, "What each has", sources, "sources")
 
 
@@ -464,6 +477,13 @@ def differences_of_reference(page, told, against):
     yield from differences_of_rows(page, "Bytes of the reference that weren't verified", unverified, "reference")
 
 
+def differences_of_skim(page, is_skimmed, against):
+    """How what is said of essence that wasn't read differs."""
+    said = "Essence was read to compare it with the reference, and for nothing else. " if against else "Essence wasn't read. "
+    if (said in page.text["top"]) != is_skimmed:
+        yield f"it {'is not' if is_skimmed else 'is'} told: {said}"
+
+
 def taken_from(words, names):
     """The options of these names with their values, and the other words."""
     taken, others = [], []
@@ -480,6 +500,8 @@ def differences_of_page(tool, path, words):
     """How the page of a recording differs from what the program prints."""
     page = page_of(path)
     yield from page.faults
+    is_skimmed = "--skim" in words
+    words = [word for word in words if word != "--skim"]
     against, words = taken_from(words, ("--against",))
     span, words = taken_from(words, ("--from", "--to"))
     told = Told(tool, words)
@@ -487,7 +509,8 @@ def differences_of_page(tool, path, words):
     yield from differences_of_bar(page, told)
     yield from differences_of_recording(page, told)
     yield from differences_of_findings(page, told)
-    yield from differences_of_orders(page, told, span)
+    yield from differences_of_orders(page, told, span, is_skimmed)
+    yield from differences_of_skim(page, is_skimmed, against)
     yield from differences_of_units(page, told, span, against)
     yield from differences_of_reference(page, told, against)
     yield from differences_of_metadata(page, told)
