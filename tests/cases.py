@@ -33,6 +33,8 @@ A case is some lines of a text file in tests/cases. A number sign begins a comme
         LINE                           that stands there, and with the units of an index
     json show [WORD ..]                the same with `--json`; a WORD is the name of a line's form. Each command may
         LINE                           stand so
+    skim show [WORD ..]                the same with `--skim`, of the pieces alone, since a catalogue has the digests that
+        LINE                           a skim doesn't know. Each command but `verify` may stand so
     status N                           the status of the command above, if it isn't 0
     told LINE                          what it says on standard error, if anything, a line each
 
@@ -71,6 +73,8 @@ OPTIONS = {
 FLAGS = {"verify": "whole", "map": "extents"}
 # What is said of bytes at hand too, which a saved catalogue hasn't.
 OF_BYTES = ("plan", "map", "units")
+# What may stand before a command, the option of that name.
+FORMS = ("json", "skim")
 NAME = re.compile(r'\{"line":"([^"]*)"')
 
 # A worked file in a crate of tests: its name and its bytes, as hexadecimal digits with comments.
@@ -96,9 +100,9 @@ def with_characters(line):
 class Command:
     """A command, the words that choose among its lines, the lines that are wanted, what it says, and its status."""
 
-    def __init__(self, words, is_json):
+    def __init__(self, words, form):
         self.name = words[0]
-        self.form = ["--json"] if is_json else []
+        self.form = [f"--{form}"] if form in FORMS else []
         self.chosen = words[1:] if self.name == "show" else []
         options = OPTIONS.get(self.name, ())
         flags = [f"--{word}" for word in words[1:2] if word == FLAGS.get(self.name)]
@@ -222,10 +226,10 @@ def case_of(name, lines, files):
                 takes_packets = False
                 file, _, offsets = rest.removeprefix("of ").partition(": ")
                 case.pieces += packets_at(files[file], map(int, offsets.split()))
-            elif word in COMMANDS or word == "json":
+            elif word in COMMANDS or word in FORMS:
                 takes_packets = False
-                words = text.removeprefix("json ").split()
-                case.commands.append(Command(words, word == "json"))
+                words = text.split()[word in FORMS :]
+                case.commands.append(Command(words, word))
             elif word == "status":
                 case.commands[-1].status = int(rest)
             elif word == "told":
@@ -350,7 +354,7 @@ class Run:
         """The same for a saved catalogue, of which no line of a piece is printed."""
         lines = []
         for command in commands_of(case):
-            if case.at_hand and command.name in OF_BYTES:
+            if case.at_hand and command.name in OF_BYTES or "--skim" in command.form:
                 continue
             wanted = [line for line in command.lines if name_of(line) not in ("piece", "stop")]
             found = wanted not in (["findings 0"], ['{"line":"findings","findings":0}'])
