@@ -15,6 +15,8 @@ macro_rules! source_help {
             $($begin, "\n\n",)? "A source ", $words, " is one of
   at:OFFSET:PATH     a piece: the bytes of the file PATH, whose first byte lies at byte OFFSET of the recording
   range:OFFSET:PATH  the same, but the first byte may lie inside a packet: ", $read, " is read from the next one on
+  slice:OFFSET:LENGTH:PATH
+                     a piece: LENGTH bytes of the file PATH from byte OFFSET on, which lie there in the recording too
   cat:PATH           a catalogue that ", $writers, " wrote
 
 ", $end

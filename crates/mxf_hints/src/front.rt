@@ -1,13 +1,13 @@
-//! What the front of a file has.
+//! What the front of a source has.
 use crate::contents::gather_one;
 use mxf_klv::{Kind, Stop};
 use mxf_read::{GREATEST_WINDOW, Gathered, Part};
-use mxf_saving::Beginning;
+use mxf_saving::{Beginning, Source};
 use std::fs;
-use std::io::Read;
+use std::io::{Read, Seek, SeekFrom, Take};
 use std::rt::Files;
 
-/// What the front of a file has.
+/// What the front of a source has.
 #[derive(Clone, Copy)]
 pub enum Front {
     /// It is empty.
@@ -23,12 +23,12 @@ pub enum Front {
 }
 
 impl Front {
-    /// What the regular file at the path has. Of anything else nothing is read.
-    pub fn of<R: Files + AllocGlobal>(rt: &R, path: &str) -> Front {
-        match Beginning::of(rt, path) {
+    /// What the source in a regular file has. Of anything else nothing is read.
+    pub fn of<R: Files + AllocGlobal>(rt: &R, source: &Source<'_>) -> Front {
+        match Beginning::of(rt, source.path()) {
             Ok(Some(Beginning::Nothing)) => Front::Empty,
-            Ok(Some(Beginning::Catalogue)) => Front::Catalogue,
-            Ok(Some(_)) => match gathered_front(rt, path) {
+            Ok(Some(Beginning::Catalogue)) if source.size().is_none() => Front::Catalogue,
+            Ok(Some(_)) => match gathered_front(rt, source) {
                 Some(gathered) => Front::of_gathered(&gathered),
                 None => Front::Midst,
             },
@@ -53,8 +53,18 @@ impl Front {
     }
 }
 
-/// What the front of the file holds, read as a range from 0 on.
-fn gathered_front<R: Files + AllocGlobal>(rt: &R, path: &str) -> Option<Gathered> {
-    let from = fs::open(rt, path).ok()?.take(GREATEST_WINDOW);
+/// What the front of the source holds, read as a range from 0 on.
+fn gathered_front<R: Files + AllocGlobal>(rt: &R, source: &Source<'_>) -> Option<Gathered> {
+    let from = open_front(rt, source, GREATEST_WINDOW)?;
     gather_one(rt.alloc(), Part::Range { offset: 0, from }).ok()
+}
+
+/// The first bytes of the source, `most` at most.
+pub fn open_front<R: Files>(rt: &R, source: &Source<'_>, most: u64) -> Option<Take<R::File>> {
+    let mut file = fs::open(rt, source.path()).ok()?;
+    let Source::Slice { offset, length, .. } = *source else {
+        return Some(file.take(most));
+    };
+    file.seek(SeekFrom::Start(offset)).ok()?;
+    Some(file.take(most.min(length)))
 }

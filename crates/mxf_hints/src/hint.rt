@@ -146,16 +146,20 @@ fn write_shift<W: fmt::Write>(
     shift: Shift,
 ) -> fmt::Result {
     let right = word.place().and_then(|(offset, _)| shift.right(offset));
-    match right {
-        Some(right) => {
-            let moved = word.at(right);
-            write!(
-                f,
-                "by its partition packs it is {moved}; --drop saves it at this OFFSET all the same"
-            )
-        }
-        None => f.write_str(
+    let Some(right) = right else {
+        return f.write_str(
             "its partition packs say that it begins below 0: is there something before its first packet?",
+        );
+    };
+    match word.at(right) {
+        Some(moved) => write!(
+            f,
+            "by its partition packs it is {moved}; --drop saves it at this OFFSET all the same"
+        ),
+        // a slice lies in the recording where it lies in its file, so another OFFSET names other bytes of the file
+        None => write!(
+            f,
+            "by its partition packs it begins at {right}: name a copy of these bytes at:{right}:PATH; --drop saves them at this OFFSET all the same"
         ),
     }
 }
@@ -183,7 +187,7 @@ fn write_source<W: fmt::Write>(
             "the lines of the list end with a carriage return: end them with a line feed alone",
         ),
         _ => f.write_str(
-            "a source is at:OFFSET:PATH or range:OFFSET:PATH, with OFFSET in decimal digits alone, or cat:PATH",
+            "a source is at:OFFSET:PATH, range:OFFSET:PATH or slice:OFFSET:LENGTH:PATH, with numbers in decimal digits alone, or cat:PATH",
         ),
     }
 }

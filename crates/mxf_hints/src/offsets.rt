@@ -1,5 +1,6 @@
 //! Telling of sources that begin elsewhere than their OFFSET says, by their partition packs.
 use crate::contents::gather_one;
+use crate::front::open_front;
 use crate::shift::{Shift, are_shifted, shift_of};
 use crate::telling::tell_on_screen;
 use mxf_catalogue::Catalogue;
@@ -9,7 +10,6 @@ use mxf_saving::Source;
 use mxf_sets::PartitionPack;
 use mxf_views::Views;
 use std::alloc::AllocError;
-use std::io::Read;
 use std::rt::Files;
 use std::{fmt, fs};
 
@@ -19,23 +19,29 @@ const FRONT: u64 = 268_435_456;
 /// That a source begins at another offset than the one that is named. It prints as its line.
 #[derive(Clone, Copy)]
 struct WrongOffset<'a> {
-    path: &'a str,
+    source: Source<'a>,
     right: u64,
     shift: Shift,
 }
 
 impl fmt::Display for WrongOffset<'_> {
     fn fmt<W: fmt::Write>(&self, f: &mut fmt::Formatter<W>) -> fmt::Result {
-        let WrongOffset { path, right, shift } = *self;
-        write!(
-            f,
-            "hint: by its partition packs {path} begins at {right}: OFFSET is {shift}"
-        )
+        let WrongOffset {
+            source,
+            right,
+            shift,
+        } = *self;
+        f.write_str("hint: by its partition packs ")?;
+        match source {
+            Source::Slice { .. } => write!(f, "{source}")?,
+            _ => f.write_str(source.path())?,
+        }
+        write!(f, " begins at {right}: OFFSET is {shift}")
     }
 }
 
-/// Tells of each piece and range that begins at another offset by its partition packs. Their fronts are read once more,
-/// those of regular files alone. Of one that isn't read nothing is told. Whether something is told.
+/// Tells of each piece, range and slice that begins at another offset by its partition packs. Their fronts are read once
+/// more, those of regular files alone. Of one that isn't read nothing is told. Whether something is told.
 pub fn tell_offsets<R: Files + Eprint + AllocGlobal>(
     rt: &R,
     sources: &[Source<'_>],
@@ -72,31 +78,33 @@ fn stated_offset(note: &Note) -> Option<u64> {
     Some(pack.numbers().this_partition)
 }
 
-/// Where a piece or range begins by its partition packs, if elsewhere.
+/// Where a piece, range or slice begins by its partition packs, if elsewhere.
 fn wrong_offset<'a, R: Files + AllocGlobal>(
     rt: &R,
     source: &Source<'a>,
 ) -> Option<WrongOffset<'a>> {
-    let (offset, path) = source.place()?;
+    let (offset, _) = source.place()?;
     let shift = shift_of(&views_of(rt, source)?)?;
     let right = shift.right(offset)?;
-    Some(WrongOffset { path, right, shift })
+    Some(WrongOffset {
+        source: *source,
+        right,
+        shift,
+    })
 }
 
-/// What a source in a regular file has: the front of a piece, read as a range, or of a range; all of a catalogue.
+/// What a source in a regular file has: the front of a piece or slice, read as a range, or of a range; all of a catalogue.
 pub fn views_of<R: Files + AllocGlobal>(rt: &R, source: &Source<'_>) -> Option<Views> {
-    let path = source.path();
-    if !fs::metadata(rt, path).ok()?.is_file() {
+    if !fs::metadata(rt, source.path()).ok()?.is_file() {
         return None;
     }
-    let file = fs::open(rt, path).ok()?;
     let part = match source.place() {
         Some((offset, _)) => Part::Range {
             offset,
-            from: file.take(FRONT),
+            from: open_front(rt, source, FRONT)?,
         },
         None => Part::Saved {
-            from: file.take(u64::MAX),
+            from: open_front(rt, source, u64::MAX)?,
         },
     };
     Some(gather_one(rt.alloc(), part).ok()?.views)

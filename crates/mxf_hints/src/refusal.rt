@@ -1,4 +1,5 @@
 //! What to do about arguments that `clap` refused, told on a terminal.
+use mxf_saving::begins_with_scheme;
 use std::fmt;
 
 /// What an argument may have been meant for that was refused.
@@ -63,11 +64,6 @@ fn is_path(word: &str) -> bool {
     !word.starts_with("-") && (word.contains(".") || word.contains("/"))
 }
 
-/// Whether the word names a source, and not a file alone.
-fn is_source(word: &str) -> bool {
-    word.starts_with("at:") || word.starts_with("range:") || word.starts_with("cat:")
-}
-
 /// Whether the word is an option of one dash.
 fn is_short(word: &str) -> bool {
     word.starts_with("-") && !word.starts_with("--") && word.len() > 1
@@ -87,7 +83,7 @@ impl fmt::Display for RefusalHint<'_> {
             RefusalHint::Info => {
                 f.write_str("hint: what a recording is says: mxf_tool describe at:0:FILE")
             }
-            RefusalHint::Recording(word) if is_source(word) => {
+            RefusalHint::Recording(word) if begins_with_scheme(*word) => {
                 write!(
                     f,
                     "hint: what a recording is says: mxf_tool describe {word}"

@@ -1,4 +1,4 @@
-//! Telling of pieces and ranges that end before their bytes do, or have none.
+//! Telling of pieces, ranges and slices that end before their bytes do, or have none.
 use crate::front::Front;
 use crate::telling::tell_on_screen;
 use mxf_klv::Stop;
@@ -27,7 +27,7 @@ impl fmt::Display for StoppedSource<'_> {
     }
 }
 
-/// What to do about a piece that doesn't begin at a packet, or a range without a start.
+/// What to do about a piece or slice that doesn't begin at a packet, or a range without a start.
 #[derive(Clone, Copy)]
 struct FrontHint<'a> {
     source: Source<'a>,
@@ -43,7 +43,10 @@ impl fmt::Display for FrontHint<'_> {
                 f,
                 "hint: {path} looks like a catalogue: name it cat:{path}"
             ),
-            (Front::RunIn(bytes), Source::Piece { offset: 0, .. }) => {
+            (
+                Front::RunIn(bytes),
+                Source::Piece { offset: 0, .. } | Source::Slice { offset: 0, .. },
+            ) => {
                 let first = bytes.saturating_add(1);
                 write!(
                     f,
@@ -62,6 +65,17 @@ impl fmt::Display for FrontHint<'_> {
                 f,
                 "hint: {path} doesn't begin at a packet: if it begins inside one, name it range:{offset}:{path}"
             ),
+            (Front::RunIn(_) | Front::Midst, Source::Slice { offset, .. }) => write!(
+                f,
+                "hint: no packet begins at byte {offset} of {path}: name a slice from the beginning of a packet on"
+            ),
+            (_, Source::Slice { .. }) => {
+                let source = self.source;
+                write!(
+                    f,
+                    "hint: no packet begins in {source}, or its first {GREATEST_WINDOW} bytes"
+                )
+            }
             _ => write!(
                 f,
                 "hint: no packet begins in {path}, or its first {GREATEST_WINDOW} bytes"
@@ -89,8 +103,8 @@ fn is_without_packets(report: &PieceReport) -> bool {
     }
 }
 
-/// Tells on a terminal of each piece and range whose packets weren't all noted, if stops are asked for, and what to
-/// do about one that has none.
+/// Tells on a terminal of each piece, range and slice whose packets weren't all noted, if stops are asked for, and what
+/// to do about one that has none.
 pub fn tell_stops<R: Files + Eprint + AllocGlobal>(
     rt: &R,
     sources: &[Source<'_>],
@@ -105,7 +119,7 @@ pub fn tell_stops<R: Files + Eprint + AllocGlobal>(
     Ok(())
 }
 
-/// Tells on a terminal of each piece and range that has no packet, a run-in, or is a catalogue. Whether one is.
+/// Tells on a terminal of each piece, range and slice that has no packet, a run-in, or is a catalogue. Whether one is.
 pub fn tell_foreign<R: Files + Eprint + AllocGlobal>(
     rt: &R,
     sources: &[Source<'_>],
@@ -116,10 +130,13 @@ pub fn tell_foreign<R: Files + Eprint + AllocGlobal>(
         if let Source::Saved { .. } = source {
             continue;
         }
-        let front = Front::of(rt, source.path());
+        let front = Front::of(rt, &source);
         match (front, source) {
             (Front::Nothing | Front::Empty | Front::Catalogue, _)
-            | (Front::RunIn(_), Source::Piece { offset: 0, .. }) => {
+            | (
+                Front::RunIn(_),
+                Source::Piece { offset: 0, .. } | Source::Slice { offset: 0, .. },
+            ) => {
                 tell_on_screen(rt, &FrontHint { source, front })?;
                 is_told = true;
             }
@@ -138,7 +155,7 @@ fn tell_empty<R: Files + Eprint + AllocGlobal>(
     if report.report.noted > 0 {
         return Ok(());
     }
-    match Front::of(rt, source.path()) {
+    match Front::of(rt, &source) {
         Front::Empty => {
             let front = Front::Empty;
             tell_on_screen(rt, &FrontHint { source, front })
@@ -147,7 +164,7 @@ fn tell_empty<R: Files + Eprint + AllocGlobal>(
     }
 }
 
-/// Tells of one piece or range.
+/// Tells of one piece, range or slice.
 fn tell_stop<R: Files + Eprint + AllocGlobal>(
     rt: &R,
     source: Source<'_>,
@@ -169,7 +186,7 @@ fn tell_stop<R: Files + Eprint + AllocGlobal>(
         )?;
     }
     if is_without_packets(report) {
-        let front = Front::of(rt, source.path());
+        let front = Front::of(rt, &source);
         tell_on_screen(rt, &FrontHint { source, front })?;
     }
     Ok(())

@@ -1,9 +1,9 @@
 //! The files that a run names: its sources, what a file begins with, and saving a catalogue so that what stood there
 //! before is never lost (this project's profile).
 //!
-//! A [`Source`] is a word that names a file and says what its bytes are. A [`Reservation`] is the place of a catalogue,
-//! held from before the sources are read until it is saved. [`refusal_of`] says where none is saved: into standard
-//! output, over a file of a source, and over what is neither empty nor a catalogue.
+//! A [`Source`] is a word that names a file, or a slice of one, and says what its bytes are. A [`Reservation`] is the
+//! place of a catalogue, held from before the sources are read until it is saved. [`refusal_of`] says where none is
+//! saved: into standard output, over a file of a source, and over what is neither empty nor a catalogue.
 //!
 //! What is proved: [`parse_source`] reads just the words that name a source, and answers the fault of each other
 //! ([`laws::one_source`]). A file that begins with a label is never replaced, nor is any other but a catalogue and an

@@ -63,7 +63,7 @@ fn refusal_by(beginning: Beginning) -> Option<OutputRefusal>
     }
 }
 
-/// Whether the file is that of a piece or range among the sources, by whatever name.
+/// Whether the file is that of a piece, range or slice among the sources, by whatever name.
 fn is_piece<R: Files>(rt: &R, found: &Metadata, sources: &[Source<'_>]) -> bool {
     for source in sources {
         if let Some((_, path)) = source.place() {

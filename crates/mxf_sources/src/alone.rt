@@ -1,14 +1,12 @@
 //! What sources hold, each by itself.
-use crate::lists::unread;
-use crate::opened::{open_sources, ungathered};
+use crate::opened::{open_source, open_sources, ungathered};
 use crate::system::System;
 use mxf_catalogue::Catalogue;
-use mxf_hints::{Contents, RunFault, gather_each, gather_one, line_on_screen, part_of};
+use mxf_hints::{Contents, RunFault, gather_each, gather_one, line_on_screen};
 use mxf_saving::{LastFault, Source};
 use mxf_skim::Scan;
-use mxf_watching::{Screen, Watched};
+use mxf_watching::Screen;
 use std::alloc::{AllocError, Global};
-use std::fs;
 
 /// The words that name the sources, as a terminal shows them.
 pub fn names_of(alloc: Global, sources: &[Source<'_>]) -> Result<Vec<String>, AllocError> {
@@ -56,14 +54,9 @@ pub fn read_alone<'a, R: System>(
     source: &Source<'a>,
 ) -> Result<Catalogue, RunFault<'a>> {
     let last = LastFault::new();
-    let path = source.path();
-    let file = match fs::open(rt, path) {
-        Ok(file) => file,
-        Err(fault) => return Err(unread(path, &fault)),
-    };
-    let part = part_of(source, Watched::new(rt, screen, source, file, &last));
+    let (part, _) = open_source(rt, screen, Scan::Full, source, &last)?;
     match gather_one(rt.alloc(), part) {
         Ok(gathered) => Ok(gathered.views.into_catalogue()),
-        Err(fault) => Err(RunFault::of_part(path, fault, last.get())),
+        Err(fault) => Err(RunFault::of_part(source.path(), fault, last.get())),
     }
 }

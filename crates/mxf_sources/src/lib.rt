@@ -10,8 +10,8 @@
 //! | what each holds by itself | [`read_each`], [`read_all_alone`], [`read_alone`] |
 //!
 //! A skim takes the file of a source as a [`SourceFile`] does: no byte that was appended since it was opened, and by
-//! seeking. All that a run takes of the system is a [`System`]. What is proved: what later sources hold together are all their
-//! notes. What is read of files is tested.
+//! seeking. A slice is taken so by a reading too. All that a run takes of the system is a [`System`]. What is proved: what
+//! later sources hold together are all their notes. What is read of files is tested.
 #![tactic(auto)]
 
 mod alone;

@@ -32,23 +32,30 @@ pub fn open_sources<'r, 'a, R: System>(
         extents: Vec::new(rt.alloc()),
     };
     for source in sources {
-        let (file, size) = match open_sized(rt, source.path()) {
-            Ok(opened) => opened,
-            Err(fault) => return Err(unread(source.path(), &fault)),
-        };
-        let extent = extent_of(source, size);
-        let scan = if source.place().is_some() {
-            scan
-        } else {
-            Scan::Full
-        };
-        let watched = Watched::new(rt, screen, source, file, last);
-        let part = part_of(source, SourceFile::new(watched, scan, size));
+        let (part, extent) = open_source(rt, screen, scan, source, last)?;
         if opened.parts.push(part).is_err() || opened.extents.push(extent).is_err() {
             return Err(RunFault::OutOfMemory);
         }
     }
     Ok(opened)
+}
+
+/// The part that a source names, opened to be read or skimmed, and where its bytes lie in the recording.
+pub fn open_source<'r, 'a, R: System>(
+    rt: &'r R,
+    screen: Screen,
+    scan: Scan,
+    source: &Source<'a>,
+    last: &'r LastFault,
+) -> Result<(Part<SourceFile<Watched<'r, R, R::File>>>, Extent), RunFault<'a>> {
+    let path = source.path();
+    let (file, size) = match open_sized(rt, path) {
+        Ok(opened) => opened,
+        Err(fault) => return Err(unread(path, &fault)),
+    };
+    let watched = Watched::new(rt, screen, source, file, last);
+    let part = part_of(source, SourceFile::new(source, watched, scan, size));
+    Ok((part, extent_of(source, size)))
 }
 
 /// The file at the path, opened, and the number of its bytes; 0 of what is no regular file.

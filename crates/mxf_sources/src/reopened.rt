@@ -16,6 +16,29 @@ struct OpenFile {
     file: File,
 }
 
+/// The bytes of a source in its file after some of them: where they begin, and how many there are at most.
+#[derive(Clone, Copy)]
+struct Rest {
+    start: u64,
+    size: u64,
+}
+
+impl Rest {
+    /// Of the source, after that many of its bytes.
+    fn of(source: &Source<'_>, position: u64) -> Rest {
+        match *source {
+            Source::Slice { offset, length, .. } => Rest {
+                start: offset.saturating_add(position),
+                size: length.saturating_sub(position),
+            },
+            Source::Piece { .. } | Source::Range { .. } | Source::Saved { .. } => Rest {
+                start: position,
+                size: u64::MAX,
+            },
+        }
+    }
+}
+
 /// The sources of a run, whose files are opened again where their bytes are asked for. One at most is open.
 #[derive(Drop)]
 pub struct Reopened<'r, 's, R: Files<File = File>> {
@@ -36,26 +59,28 @@ impl<'r, 's, R: Files<File = File>> Reopened<'r, 's, R> {
         }
     }
 
-    /// The file of a source, which is opened unless it is open.
-    fn take_file(&mut self, source: usize) -> io::Result<File> {
+    /// The file of the source with that number, which is opened unless it is open.
+    fn take_file(&mut self, source: usize, path: &str) -> io::Result<File> {
         if let Some(open) = self.open.take() {
             if open.source == source {
                 return Ok(open.file);
             }
         }
-        match self.sources.get(source) {
-            Some(named) => fs::open(self.rt, named.path()),
-            None => Err(io::Error::from(ErrorKind::NotFound)),
-        }
+        fs::open(self.rt, path)
     }
 
-    /// Reads once of the file of a source, after that many of its bytes.
+    /// Reads once of the bytes of a source, after that many of them.
     fn read_behind(&mut self, source: usize, position: u64, room: &mut [u8]) -> io::Result<usize>
         ensures { IfOk result (λ count. count ≤ length room.new) }
     {
-        let mut file = self.take_file(source)?;
-        file.seek(SeekFrom::Start(position))?;
-        let count = file.read(room)?;
+        let Some(named) = self.sources.get(source) else {
+            return Err(io::Error::from(ErrorKind::NotFound));
+        };
+        let rest = Rest::of(named, position);
+        let mut file = self.take_file(source, named.path())?;
+        file.seek(SeekFrom::Start(rest.start))?;
+        let wanted = rest.size.min(room.len() as u64) as usize;
+        let count = file.read(&mut room[..wanted])?;
         self.open = Some(OpenFile { source, file });
         Ok(count)
     }
@@ -75,12 +100,14 @@ impl<R: Files<File = File>> Sources for Reopened<'_, '_, R> {
     }
 }
 
-/// Where the bytes of a source lie whose file has this size, in bytes: none of a catalogue.
+/// Where the bytes of a source lie whose file has this size, in bytes: none of a catalogue. A slice has the bytes that it
+/// names.
 pub fn extent_of(source: &Source<'_>, size: u64) -> Extent {
     match *source {
         Source::Piece { offset, .. } | Source::Range { offset, .. } => {
             Extent::new(offset.min(MAX), size)
         }
+        Source::Slice { offset, length, .. } => Extent::new(offset.min(MAX), length),
         Source::Saved { .. } => Extent::new(0, 0),
     }
 }

@@ -1,7 +1,8 @@
-//! The file of a source, read or skimmed.
+//! The file of a source, or the slice of one, read or skimmed.
 ghost use Rattle.std.specs.Prelude.{◌≤◌, IfOk};
 
 use mxf_read::PassOver;
+use mxf_saving::Source;
 use mxf_skim::Scan;
 use std::io::{self, ErrorKind, Read, Seek, SeekFrom};
 
@@ -9,32 +10,59 @@ use std::io::{self, ErrorKind, Read, Seek, SeekFrom};
 const ROOM: usize = 65_536;
 
 /// A file that is open. A skim takes no more of a regular file than it had when it was opened, and seeks in it; any
-/// other is read through.
+/// other is read through. A slice is sought, read or skimmed, and no byte behind it is taken.
 #[derive(Drop)]
 pub struct SourceFile<F: Drop> {
     from: F,
-    /// How many bytes it had when it was opened.
-    size: u64,
-    /// How many of them are left, if it is a regular file that is skimmed.
+    /// Where a slice begins in the file, in bytes, until it has been sought.
+    start: Option<u64>,
+    /// Where in the file the bytes end that are taken, if they are counted.
+    end: u64,
+    /// How many of them are left, if it is a regular file that is skimmed, or a slice.
     left: Option<u64>,
 }
 
 impl<F: Drop> SourceFile<F> {
-    /// A file that had this size when it was opened, in bytes; 0 of what is no regular file.
-    pub fn new(from: F, scan: Scan, size: u64) -> SourceFile<F> {
-        let left = match scan {
-            Scan::Skim if size > 0 => Some(size),
-            Scan::Full | Scan::Skim => None,
-        };
-        SourceFile { from, size, left }
+    /// The file of the source, which had this size when it was opened, in bytes; 0 of what is no regular file. A catalogue
+    /// is read through.
+    pub fn new(source: &Source<'_>, from: F, scan: Scan, size: u64) -> SourceFile<F> {
+        match (*source, scan) {
+            (Source::Slice { offset, length, .. }, _) => SourceFile {
+                from,
+                start: Some(offset),
+                end: offset.saturating_add(length),
+                left: Some(length),
+            },
+            (Source::Piece { .. } | Source::Range { .. }, Scan::Skim) if size > 0 => SourceFile {
+                from,
+                start: None,
+                end: size,
+                left: Some(size),
+            },
+            _ => SourceFile {
+                from,
+                start: None,
+                end: size,
+                left: None,
+            },
+        }
     }
 }
 
 impl<F: Seek + Drop> SourceFile<F> {
-    /// Looks at the end of a file that is skimmed: a fault if the file has become shorter.
+    /// Seeks the first byte of a slice, before anything of it is taken. What can't be sought is a fault of the first read.
+    fn seek_start(&mut self) -> io::Result<()> {
+        if let Some(start) = self.start {
+            self.from.seek(SeekFrom::Start(start))?;
+            self.start = None;
+        }
+        Ok(())
+    }
+
+    /// Looks at the end of a file whose bytes are counted: a fault if it is shorter than they are, or has become so.
     fn look_at_end(&mut self) -> io::Result<()> {
         let end = self.from.seek(SeekFrom::End(0))?;
-        if end < self.size {
+        if end < self.end {
             return Err(io::Error::from(ErrorKind::UnexpectedEof));
         }
         Ok(())
@@ -43,6 +71,7 @@ impl<F: Seek + Drop> SourceFile<F> {
 
 impl<F: Read + Seek + Drop> Read for SourceFile<F> {
     fn read(&mut self, buf: &mut [u8]) -> io::Result<usize> {
+        self.seek_start()?;
         let Some(left) = self.left else {
             return self.from.read(buf);
         };
@@ -62,6 +91,7 @@ impl<F: Read + Seek + Drop> Read for SourceFile<F> {
 
 impl<F: Read + Seek + Drop> PassOver for SourceFile<F> {
     fn pass_over(&mut self, count: u64) -> io::Result<u64> {
+        self.seek_start()?;
         let Some(left) = self.left else {
             let passed = read_over(&mut self.from, count)?;
             return Ok(passed);

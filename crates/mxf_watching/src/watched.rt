@@ -19,8 +19,8 @@ pub struct Watched<'a, R: Eprint + Clock, F: Drop> {
 }
 
 impl<'a, R: Files + Eprint + Clock + AllocGlobal> Watched<'a, R, R::File> {
-    /// The file of the source. Its reading is told if standard error is a terminal and the source is a long piece
-    /// or range in a regular file.
+    /// The file of the source. Its reading is told if standard error is a terminal and the source is a long piece,
+    /// range or slice in a regular file.
     pub fn new(
         rt: &'a R,
         screen: Screen,
@@ -30,10 +30,8 @@ impl<'a, R: Files + Eprint + Clock + AllocGlobal> Watched<'a, R, R::File> {
     ) -> Watched<'a, R, R::File>
         ensures { result.from ≡ from }
     {
-        let progress = match (screen, source) {
-            (Screen::Terminal, Source::Piece { path, .. } | Source::Range { path, .. }) => {
-                progress_of(rt, *path, &from)
-            }
+        let progress = match (screen, source.place()) {
+            (Screen::Terminal, Some((_, path))) => progress_of(rt, path, source.size(), &from),
             _ => None,
         };
         Watched {
@@ -44,15 +42,16 @@ impl<'a, R: Files + Eprint + Clock + AllocGlobal> Watched<'a, R, R::File> {
     }
 }
 
-/// What is told of the reading of the file at the path: nothing of a short one, nor of what isn't a regular file. Nor
-/// is it shown if there is no memory for the line.
+/// What is told of the reading of the file at the path, or of a slice of it with this size: nothing of a short one, nor
+/// of what isn't a regular file. Nor is it shown if there is no memory for the line.
 fn progress_of<'a, R: Files + Eprint + Clock + AllocGlobal>(
     rt: &'a R,
     path: &str,
+    slice: Option<u64>,
     from: &R::File,
 ) -> Option<ReadProgress<'a, R>> {
     let size = match from.metadata() {
-        Ok(found) if found.is_file() => found.len(),
+        Ok(found) if found.is_file() => slice.unwrap_or(found.len()),
         _ => return None,
     };
     if !is_long(size) {

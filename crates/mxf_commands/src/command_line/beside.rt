@@ -17,8 +17,8 @@ const SOURCES_HELP: &str = source_help!(
 
 /// What the help of `verify` ends with.
 const VERIFY_HELP: &str = source_help!(
-    "What the sources of --against hold is the reference. The bytes of at: and range: among SRC.. are read by its packets,
-and those of a catalogue among them are set beside them.
+    "What the sources of --against hold is the reference. The bytes of at:, range: and slice: among SRC.. are read by its
+packets, and those of a catalogue among them are set beside them.
 
 Lines:
   stop OFFSET STOP  a piece of --against doesn't end with a packet

@@ -27,7 +27,7 @@ fn sources<'a>(alloc: Global) -> Result<Arg<'a>, AllocError> {
     Arg::new(alloc, "SRC")
         .num_args(1..)
         .action(ArgAction::Append)
-        .help("A piece at:OFFSET:PATH, a range range:OFFSET:PATH, or a catalogue cat:PATH")
+        .help("A source: at:OFFSET:PATH, range:OFFSET:PATH, slice:OFFSET:LENGTH:PATH or cat:PATH")
         .required_unless_present("sources")
 }
 
