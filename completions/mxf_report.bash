@@ -33,20 +33,21 @@ _mxf_report() {
   local behind=''
   case $COMP_WORDBREAKS in *:*) ;; *) behind=${word%:*}: ;; esac
   case $word in
-    cat:* | at:*:* | range:*:*)
+    cat:* | at:*:* | range:*:* | slice:*:*:*)
       case $word in
         cat:*) path=${word#cat:} ;;
+        slice:*) path=${word#*:*:*:} ;;
         *) path=${word#*:*:} ;;
       esac
       _mxf_report_paths "${behind:+${word%"$path"}}" "$path"
       return
       ;;
-    at:* | range:*) return ;;
+    at:* | range:* | slice:*) return ;;
   esac
-  local options='at: range: cat: --out --title --index --from --to --against --skim --sources --index-of --help'
-  [ "$before" != --against ] || options='at: range: cat:'
+  local options='at: range: slice: cat: --out --title --index --from --to --against --skim --sources --index-of --help'
+  [ "$before" != --against ] || options='at: range: slice: cat:'
   mapfile -t COMPREPLY < <(compgen -W "$options" -- "$word")
-  case ${COMPREPLY[0]-} in at: | range: | cat:) compopt -o nospace 2>/dev/null ;; esac
+  case ${COMPREPLY[0]-} in at: | range: | slice: | cat:) compopt -o nospace 2>/dev/null ;; esac
 }
 
 complete -F _mxf_report mxf_report

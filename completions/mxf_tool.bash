@@ -38,33 +38,34 @@ _mxf_tool() {
   local behind=''
   case $COMP_WORDBREAKS in *:*) ;; *) behind=${word%:*}: ;; esac
   case $word in
-    cat:* | at:*:* | range:*:*)
+    cat:* | at:*:* | range:*:* | slice:*:*:*)
       case $word in
         cat:*) local path=${word#cat:} ;;
+        slice:*) local path=${word#*:*:*:} ;;
         *) local path=${word#*:*:} ;;
       esac
       _mxf_tool_paths "${behind:+${word%"$path"}}" "$path"
       return
       ;;
-    at:* | range:*) return ;;
+    at:* | range:* | slice:*) return ;;
   esac
   local options='--help'
   case $command in
     '') options='describe show check locate units plan map verify sources find join renew help --help --version' ;;
     help) options='describe show check locate units plan map verify sources find join renew' ;;
-    describe | show | check) options='at: range: cat: --skim --json --hints --sources --help' ;;
-    sources) options='at: range: cat: --json --hints --sources --help' ;;
-    map) options='at: range: cat: --columns --rows --extents --skim --json --hints --sources --help' ;;
-    locate) options='at: range: cat: --index --unit --skim --json --hints --sources --help' ;;
-    units) options='at: range: cat: --index --from --to --timecode --skim --json --hints --sources --help' ;;
-    plan) options='at: range: cat: --index --from --to --skim --json --hints --sources --help' ;;
-    verify) options='at: range: cat: --against --whole --index --from --to --timecode --json --hints --sources --help' ;;
-    find) options='at: range: cat: --in --recordings --json --hints --sources --help' ;;
-    join) options='at: range: cat: --out --strict --dry-run --skim --json --hints --sources --help' ;;
-    renew) options='at: range: cat: --out --old --strict --drop --dry-run --json --hints --sources --help' ;;
+    describe | show | check) options='at: range: slice: cat: --skim --json --hints --sources --help' ;;
+    sources) options='at: range: slice: cat: --json --hints --sources --help' ;;
+    map) options='at: range: slice: cat: --columns --rows --extents --skim --json --hints --sources --help' ;;
+    locate) options='at: range: slice: cat: --index --unit --skim --json --hints --sources --help' ;;
+    units) options='at: range: slice: cat: --index --from --to --timecode --skim --json --hints --sources --help' ;;
+    plan) options='at: range: slice: cat: --index --from --to --skim --json --hints --sources --help' ;;
+    verify) options='at: range: slice: cat: --against --whole --index --from --to --timecode --json --hints --sources --help' ;;
+    find) options='at: range: slice: cat: --in --recordings --json --hints --sources --help' ;;
+    join) options='at: range: slice: cat: --out --strict --dry-run --skim --json --hints --sources --help' ;;
+    renew) options='at: range: slice: cat: --out --old --strict --drop --dry-run --json --hints --sources --help' ;;
   esac
   mapfile -t COMPREPLY < <(compgen -W "$options" -- "$word")
-  case ${COMPREPLY[0]-} in at: | range: | cat:) compopt -o nospace 2>/dev/null ;; esac
+  case ${COMPREPLY[0]-} in at: | range: | slice: | cat:) compopt -o nospace 2>/dev/null ;; esac
 }
 
 complete -F _mxf_tool mxf_tool
