@@ -39,7 +39,8 @@ const GREATEST_KEPT: u64 = 4_194_304;
 /// What is known of a packet at an offset: its key, its length, and its value or the value's SHA-256. A head is the
 /// note of a packet of which key and length alone were read.
 ///
-/// A structural packet's value of at most 4,194,304 bytes is kept whole; of every other value the digest is kept.
+/// A structural packet's value of at most 4,194,304 bytes is kept whole; of every other value the digest is kept, or 32
+/// zero bytes, which stand for a value that was passed over.
 /// Notes go by offset, then key, then width, then length; a head goes before the notes of whole packets with the same
 /// four, which go by held bytes.
 #[derive(Debug, Drop)]
