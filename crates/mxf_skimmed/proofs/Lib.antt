@@ -1,0 +1,2 @@
+pub mod SkimmedNotes
+pub mod HeldLaws

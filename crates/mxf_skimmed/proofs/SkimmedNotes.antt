@@ -1,0 +1,87 @@
+-- What a skim makes of a note: all stays but the bytes held of a container's packet, which nothing reads.
+use Rattle.mxf_views.proofs.Common.{◌≡◌, ◌≢◌, ℕ, Bool, true, false, ◌&&◌, if◌then◌else◌, List, Option, None, Result, refl, sym}
+use Rattle.mxf_views.proofs.Common.{ap, subst, ◌∙◌, rules, NoteParts, and_parts, head_note, keeps, keeps_value, kind_of}
+use Rattle.mxf_views.proofs.Common.{read_as, filter, map, [], ◌∷◌, cond, length, In, IsNote}
+use Rattle.std.specs.Result.{result_ok}
+use Rattle.mxf_klv.specs.Note.{held_length}
+use Rattle.mxf_klv.specs.declared.kinds.Kind.{Kind}
+use Rattle.mxf_klv.specs.declared.kinds.Kind.TheVariants.{Essence, Other}
+use Rattle.mxf_skim.specs.PassedOver.{is_in_container, is_of_container, no_digest, passed_note, skimmed, stands_in_container}
+use Rattle.mxf_skim.proofs.ContainerLaws.{keeps_nothing}
+use Rattle.mxf_skimmed.specs.Skims.{NoneAlike}
+use Rattle.std.proofs.Common.{nat_lt}
+
+-- all stays but what is held
+pub skimmed_is : (n : NoteParts) → skimmed n ≡ record n { held = (skimmed n).held }
+skimmed_is n = elim (is_of_container n) as (λ b. is_of_container n ≡ b
+    → (if b then passed_note n else n) ≡ record n { held = (if b then passed_note n else n).held }) [
+      | true ↦ λ e.
+          let whole = (and_parts n.whole (is_in_container n.key n.length) e).0 in
+          λ i. record {
+            offset = n.offset;
+            key = n.key;
+            width = n.width;
+            length = n.length;
+            whole = sym whole i;
+            held = no_digest;
+          }
+      | false ↦ λ e. refl
+    ] refl
+
+pub passed_is : (n : NoteParts) → is_of_container n ≡ true → skimmed n ≡ passed_note n
+passed_is n e = ap (λ (b : Bool). if b then passed_note n else n) e
+
+pub stays : (n : NoteParts) → is_of_container n ≡ false → skimmed n ≡ n
+stays n e = ap (λ (b : Bool). if b then passed_note n else n) e
+
+-- what is said of a note without its bytes stays
+pub says_same : {A : Type 0} (f : NoteParts → A) (n : NoteParts)
+    → ((held : List ℕ) → f (record n { held = held }) ≡ f n) → f (skimmed n) ≡ f n
+says_same f n same = ap f (skimmed_is n) ∙ same (skimmed n).held
+
+-- ---- values that are kept
+
+-- a container's packet keeps none
+pub keeps_none : (n : NoteParts) → is_of_container n ≡ true → keeps_value n ≡ false
+keeps_none n e =
+    let p = and_parts n.whole (is_in_container n.key n.length) e in
+    let whole = p.0 in
+    let none = keeps_nothing n.key n.length p.1 in
+    λ i. whole i && none i
+
+-- what is read of a value that is kept stays
+pub value_same : {A : Type 0} (f : List ℕ → A) (d : A) (n : NoteParts)
+    → (if keeps_value n then f (skimmed n).held else d) ≡ (if keeps_value n then f n.held else d)
+value_same f d n =
+    elim (is_of_container n) as (λ b. is_of_container n ≡ b
+    → (if keeps_value n then f (if b then passed_note n else n).held else d)
+    ≡ (if keeps_value n then f n.held else d)) [
+      | true ↦ λ e.
+          let none = keeps_none n e in
+          ap (λ (b : Bool). if b then f no_digest else d) none ∙ sym (ap (λ (b : Bool). if b then f n.held else d) none)
+      | false ↦ λ e. refl
+    ] refl
+
+pub read_same : {A E : Type 0} (read : List ℕ → Result A E) (n : NoteParts)
+    → read_as read (record n { held = (skimmed n).held }) ≡ read_as read n
+read_same read n = value_same (λ (bytes : List ℕ). result_ok (read bytes)) None n
+
+-- ---- packets of other kinds
+
+no_container : (t : Kind → Bool) (kind : Kind) (key : List ℕ) → t Essence ≡ false → t Other ≡ false → t kind ≡ true
+    → stands_in_container kind key ≡ true → ⊥
+no_container t Essence key e o is stands = cc (e, is)
+no_container t Other key e o is stands = cc (o, is)
+no_container t kind key e o is stands = search rules
+
+-- a note of another kind is as it was
+pub other_stays : (t : Kind → Bool) (n : NoteParts) → t Essence ≡ false → t Other ≡ false → t (kind_of n.key) ≡ true
+    → skimmed n ≡ n
+other_stays t n e o is = elim (is_of_container n) as (λ b. is_of_container n ≡ b
+    → (if b then passed_note n else n) ≡ n) [
+      | true ↦ λ c.
+          let p = and_parts n.whole (is_in_container n.key n.length) c in
+          let q = and_parts (nat_lt 0 n.length) (stands_in_container (kind_of n.key) n.key) p.1 in
+          absurd (no_container t (kind_of n.key) n.key e o is q.1)
+      | false ↦ λ c. refl
+    ] refl
