@@ -1,21 +1,21 @@
 -- What a skim holds of what a reading holds, and which of it is disputed.
-use Rattle.mxf_views.proofs.Common.{◌≡◌, ◌≢◌, ◌↔◌, ℕ, Bool, true, false, ◌&&◌, ◌||◌, not, ◌==◌, List, [], ◌∷◌, refl, sym, ap}
-use Rattle.mxf_views.proofs.Common.{subst, ◌∙◌, inl, inr, rules, arith, NoteParts, In, In-map, all-In, all_from_In, IsTrue}
+use Rattle.mxf_views.proofs.Common.{◌≡◌, Bool, true, false, ◌&&◌, ◌||◌, not, ◌==◌, List, [], ◌∷◌, refl, sym, ap}
+use Rattle.mxf_views.proofs.Common.{subst, ◌∙◌, inl, inr, NoteParts, In, In-map, all-In, all_from_In}
 use Rattle.mxf_views.proofs.Common.{IsContent, IsCatalogue, IsNote, AreReduced, head_note, note_cmp, note_total, length, map}
 use Rattle.mxf_views.proofs.Common.{filter, filter_alike, In-filter, clear_notes, undisputed_notes, is_disputed, is_same_note}
-use Rattle.mxf_views.proofs.Common.{disputed_notes, same_bool, same_note-Decides, end_of, keeps, nat_lt, DisputedParts}
-use Rattle.mxf_views.proofs.Common.{all_push, and_parts, if◌then◌else◌, same_content}
+use Rattle.mxf_views.proofs.Common.{disputed_notes, same_bool, same_note-Decides}
+use Rattle.mxf_views.proofs.Common.{and_parts, if◌then◌else◌}
 use Rattle.std.specs.Ordering.{bool_cmp, nat_cmp, ordering_then}
 use Rattle.std.specs.Cmp.Lexicographic.{slice_cmp}
 use Rattle.std.specs.FinSet.{nat_cmp-IsAntisymmetric, slice_cmp-IsAntisymmetric}
-use Rattle.std.specs.List.{AllByRecursion, list_any}
+use Rattle.std.specs.List.{list_any}
 use Rattle.std.specs.declared.cmp.Ordering.{Ordering}
 use Rattle.std.specs.declared.cmp.Ordering.TheVariants.{Less, Equal, Greater}
 use Rattle.mxf_klv.specs.Note.{held_length}
 use Rattle.mxf_klv.specs.Rising.{not_less_itself}
 use Rattle.mxf_catalogue.specs.Disputes.{disputed_parts, is_byte_shared, is_offset_shared, is_overlapped}
 use Rattle.mxf_views.proofs.NumbersLaws.{any_mapped, filter_mapped}
-use Rattle.mxf_skim.specs.PassedOver.{is_in_container, is_of_container, no_digest, passed_note, skimmed}
+use Rattle.mxf_skim.specs.PassedOver.{is_in_container, is_of_container, passed_note, skimmed}
 use Rattle.mxf_skim.proofs.ContainerLaws.{keeps_nothing}
 use Rattle.mxf_skimmed.specs.Skims.{NoneAlike, skim_of, skimmed_dispute}
 use Rattle.mxf_skimmed.proofs.SkimmedNotes.{passed_is, says_same, skimmed_is, stays}
@@ -162,7 +162,7 @@ map_alike : {K L : Type 0} (f g : K → L) (xs : List K) → ((x : K) → In x x
 map_alike f g [] same = refl
 map_alike f g (x ∷ xs) same = λ i. same x (inl refl) i ∷ map_alike f g xs (λ y h. same y (inr h)) i
 
-map_twice : {A B C : Type 0} (f : A → B) (g : B → C) (xs : List A) → map g (map f xs) ≡ map (λ x. g (f x)) xs
+pub map_twice : {A B C : Type 0} (f : A → B) (g : B → C) (xs : List A) → map g (map f xs) ≡ map (λ x. g (f x)) xs
 map_twice f g [] = refl
 map_twice f g (x ∷ xs) = ap (λ l. g (f x) ∷ l) (map_twice f g xs)
 

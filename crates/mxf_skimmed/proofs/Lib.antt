@@ -1,2 +1,5 @@
 pub mod SkimmedNotes
 pub mod HeldLaws
+pub mod ViewLaws
+pub mod WholeFileLaws
+pub mod FindingLaws

@@ -1,14 +1,12 @@
 -- What a skim makes of a note: all stays but the bytes held of a container's packet, which nothing reads.
-use Rattle.mxf_views.proofs.Common.{◌≡◌, ◌≢◌, ℕ, Bool, true, false, ◌&&◌, if◌then◌else◌, List, Option, None, Result, refl, sym}
-use Rattle.mxf_views.proofs.Common.{ap, subst, ◌∙◌, rules, NoteParts, and_parts, head_note, keeps, keeps_value, kind_of}
-use Rattle.mxf_views.proofs.Common.{read_as, filter, map, [], ◌∷◌, cond, length, In, IsNote}
+use Rattle.mxf_views.proofs.Common.{◌≡◌, ℕ, Bool, true, false, ◌&&◌, if◌then◌else◌, List, None, Result, refl, sym}
+use Rattle.mxf_views.proofs.Common.{ap, ◌∙◌, rules, NoteParts, and_parts, keeps_value, kind_of}
+use Rattle.mxf_views.proofs.Common.{read_as}
 use Rattle.std.specs.Result.{result_ok}
-use Rattle.mxf_klv.specs.Note.{held_length}
 use Rattle.mxf_klv.specs.declared.kinds.Kind.{Kind}
 use Rattle.mxf_klv.specs.declared.kinds.Kind.TheVariants.{Essence, Other}
 use Rattle.mxf_skim.specs.PassedOver.{is_in_container, is_of_container, no_digest, passed_note, skimmed, stands_in_container}
 use Rattle.mxf_skim.proofs.ContainerLaws.{keeps_nothing}
-use Rattle.mxf_skimmed.specs.Skims.{NoneAlike}
 use Rattle.std.proofs.Common.{nat_lt}
 
 -- all stays but what is held

@@ -2,6 +2,7 @@ use Rattle.mxf_klv.proofs.Lists.{In-map}
 use Rattle.mxf_skim.specs.PassedOver.{skimmed}
 use Rattle.mxf_skimmed.proofs.HeldLaws.{AreReduced-skim_of, IsCatalogue-skim_of, IsContent-skim_of, clear_skim}
 use Rattle.mxf_skimmed.proofs.HeldLaws.{disputed_skim}
+use Rattle.mxf_skimmed.proofs.WholeFileLaws.{none_alike}
 use Rattle.mxf_skimmed.proofs.laws.skims_hold_what_was_read.Goals as goal
 
 pub returns-clause-members : goal.returns-clause-members
@@ -21,3 +22,6 @@ returns-clause-disputed c = disputed_skim
 
 pub returns-clause-clear : goal.returns-clause-clear
 returns-clause-clear c = clear_skim
+
+pub returns-clause-undisputed : goal.returns-clause-undisputed
+returns-clause-undisputed c = none_alike
