@@ -3,3 +3,4 @@ pub mod HeldLaws
 pub mod ViewLaws
 pub mod WholeFileLaws
 pub mod FindingLaws
+pub mod RunLaws

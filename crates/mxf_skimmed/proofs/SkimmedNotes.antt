@@ -1,4 +1,4 @@
--- What a skim makes of a note: all stays but the bytes held of a container's packet, which nothing reads.
+-- What a skim makes of a note: all stays but what is held of a container's packet, and no view reads that.
 use Rattle.mxf_views.proofs.Common.{◌≡◌, ℕ, Bool, true, false, ◌&&◌, if◌then◌else◌, List, None, Result, refl, sym}
 use Rattle.mxf_views.proofs.Common.{ap, ◌∙◌, rules, NoteParts, and_parts, keeps_value, kind_of}
 use Rattle.mxf_views.proofs.Common.{read_as}
@@ -7,10 +7,12 @@ use Rattle.mxf_klv.specs.declared.kinds.Kind.{Kind}
 use Rattle.mxf_klv.specs.declared.kinds.Kind.TheVariants.{Essence, Other}
 use Rattle.mxf_skim.specs.PassedOver.{is_in_container, is_of_container, no_digest, passed_note, skimmed, stands_in_container}
 use Rattle.mxf_skim.proofs.ContainerLaws.{keeps_nothing}
+use Rattle.mxf_readings.specs.Readings.{is_held}
+use Rattle.mxf_skimmed.specs.Skims.{noted_beside}
 use Rattle.std.proofs.Common.{nat_lt}
 
 -- all stays but what is held
-pub skimmed_is : (n : NoteParts) → skimmed n ≡ record n { held = (skimmed n).held }
+skimmed_is : (n : NoteParts) → skimmed n ≡ record n { held = (skimmed n).held }
 skimmed_is n = elim (is_of_container n) as (λ b. is_of_container n ≡ b
     → (if b then passed_note n else n) ≡ record n { held = (if b then passed_note n else n).held }) [
       | true ↦ λ e.
@@ -29,13 +31,8 @@ skimmed_is n = elim (is_of_container n) as (λ b. is_of_container n ≡ b
 pub passed_is : (n : NoteParts) → is_of_container n ≡ true → skimmed n ≡ passed_note n
 passed_is n e = ap (λ (b : Bool). if b then passed_note n else n) e
 
-pub stays : (n : NoteParts) → is_of_container n ≡ false → skimmed n ≡ n
-stays n e = ap (λ (b : Bool). if b then passed_note n else n) e
-
--- what is said of a note without its bytes stays
-pub says_same : {A : Type 0} (f : NoteParts → A) (n : NoteParts)
-    → ((held : List ℕ) → f (record n { held = held }) ≡ f n) → f (skimmed n) ≡ f n
-says_same f n same = ap f (skimmed_is n) ∙ same (skimmed n).held
+skim_stays : (n : NoteParts) → is_of_container n ≡ false → skimmed n ≡ n
+skim_stays n e = ap (λ (b : Bool). if b then passed_note n else n) e
 
 -- ---- values that are kept
 
@@ -48,9 +45,9 @@ keeps_none n e =
     λ i. whole i && none i
 
 -- what is read of a value that is kept stays
-pub value_same : {A : Type 0} (f : List ℕ → A) (d : A) (n : NoteParts)
+value_skimmed : {A : Type 0} (f : List ℕ → A) (d : A) (n : NoteParts)
     → (if keeps_value n then f (skimmed n).held else d) ≡ (if keeps_value n then f n.held else d)
-value_same f d n =
+value_skimmed f d n =
     elim (is_of_container n) as (λ b. is_of_container n ≡ b
     → (if keeps_value n then f (if b then passed_note n else n).held else d)
     ≡ (if keeps_value n then f n.held else d)) [
@@ -59,10 +56,6 @@ value_same f d n =
           ap (λ (b : Bool). if b then f no_digest else d) none ∙ sym (ap (λ (b : Bool). if b then f n.held else d) none)
       | false ↦ λ e. refl
     ] refl
-
-pub read_same : {A E : Type 0} (read : List ℕ → Result A E) (n : NoteParts)
-    → read_as read (record n { held = (skimmed n).held }) ≡ read_as read n
-read_same read n = value_same (λ (bytes : List ℕ). result_ok (read bytes)) None n
 
 -- ---- packets of other kinds
 
@@ -73,9 +66,9 @@ no_container t Other key e o is stands = cc (o, is)
 no_container t kind key e o is stands = search rules
 
 -- a note of another kind is as it was
-pub other_stays : (t : Kind → Bool) (n : NoteParts) → t Essence ≡ false → t Other ≡ false → t (kind_of n.key) ≡ true
+other_skimmed : (t : Kind → Bool) (n : NoteParts) → t Essence ≡ false → t Other ≡ false → t (kind_of n.key) ≡ true
     → skimmed n ≡ n
-other_stays t n e o is = elim (is_of_container n) as (λ b. is_of_container n ≡ b
+other_skimmed t n e o is = elim (is_of_container n) as (λ b. is_of_container n ≡ b
     → (if b then passed_note n else n) ≡ n) [
       | true ↦ λ c.
           let p = and_parts n.whole (is_in_container n.key n.length) c in
@@ -83,3 +76,40 @@ other_stays t n e o is = elim (is_of_container n) as (λ b. is_of_container n �
           absurd (no_container t (kind_of n.key) n.key e o is q.1)
       | false ↦ λ c. refl
     ] refl
+
+-- ---- beside catalogues
+
+module _ (saved : List NoteParts) where
+  -- a note is as it was, or as a skim makes it
+  pub either_note : (P : NoteParts → Type 0) (n : NoteParts) → P n → P (skimmed n) → P (noted_beside saved n)
+  either_note P n own passed = elim (is_held n saved) as (λ b. P (if b then n else skimmed n)) [
+    | true ↦ own
+    | false ↦ passed
+  ]
+
+  pub noted_is : (n : NoteParts) → noted_beside saved n ≡ record n { held = (noted_beside saved n).held }
+  noted_is n = either_note (λ m. m ≡ record n { held = m.held }) n refl (skimmed_is n)
+
+  -- what is said of a note without what is held stays
+  pub says_same : {A : Type 0} (f : NoteParts → A) (n : NoteParts)
+      → ((held : List ℕ) → f (record n { held = held }) ≡ f n) → f (noted_beside saved n) ≡ f n
+  says_same f n same = ap f (noted_is n) ∙ same (noted_beside saved n).held
+
+  pub stays : (n : NoteParts) → is_of_container n ≡ false → noted_beside saved n ≡ n
+  stays n e = either_note (λ m. m ≡ n) n refl (skim_stays n e)
+
+  -- what is read of a value that is kept stays
+  pub value_same : {A : Type 0} (f : List ℕ → A) (d : A) (n : NoteParts)
+      → (if keeps_value n then f (noted_beside saved n).held else d) ≡ (if keeps_value n then f n.held else d)
+  value_same f d n = either_note
+      (λ m. (if keeps_value n then f m.held else d) ≡ (if keeps_value n then f n.held else d)) n refl
+      (value_skimmed f d n)
+
+  pub read_same : {A E : Type 0} (read : List ℕ → Result A E) (n : NoteParts)
+      → read_as read (record n { held = (noted_beside saved n).held }) ≡ read_as read n
+  read_same read n = value_same (λ (bytes : List ℕ). result_ok (read bytes)) None n
+
+  -- a note of another kind is as it was
+  pub other_stays : (t : Kind → Bool) (n : NoteParts) → t Essence ≡ false → t Other ≡ false
+      → t (kind_of n.key) ≡ true → noted_beside saved n ≡ n
+  other_stays t n e o is = either_note (λ m. m ≡ n) n refl (other_skimmed t n e o is)

@@ -4,12 +4,12 @@ use Rattle.mxf_views.proofs.Common.{In-filter, SharesByte-same_offset, is_disput
 use Rattle.mxf_views.proofs.Common.{same_note-Decides, disputed_notes, notes-disputed_notes, map, filter, DisputedParts}
 use Rattle.mxf_views.proofs.Common.{IsWellFormed}
 use Rattle.mxf_views.specs.Headline.{IsReadFromFront}
-use Rattle.mxf_views.specs.WholeFile.{AreNotesOf, HasCopiesOf, HasIndexOf, HasPartitionsOf, HasRandomIndexOf}
+use Rattle.mxf_views.specs.WholeFile.{AreNotesOf}
 use Rattle.mxf_views.proofs.LaidCopies.{copies-laid}
 use Rattle.mxf_views.proofs.LaidIndex.{index-laid}
 use Rattle.mxf_views.proofs.LaidPartitions.{partitions-laid}
 use Rattle.mxf_views.proofs.LaidRandomIndex.{random_index-laid}
-use Rattle.mxf_skimmed.specs.Skims.{NoneAlike, skim_of, skimmed_dispute}
+use Rattle.mxf_skimmed.specs.Skims.{NoneAlike, disputed_beside, skim_beside}
 use Rattle.mxf_skimmed.proofs.HeldLaws.{clear_skim, disputed_skim}
 use Rattle.mxf_skimmed.proofs.ViewLaws.{skim_has_the_same_gaps, skim_has_the_same_views}
 
@@ -29,30 +29,39 @@ none_alike notes none m n i k c d e =
           absurd (subst (In m) empty held)
     ] refl
 
-pub skim_read_from_front : (notes : List NoteParts) (l : List PacketParts) → IsWellFormed l → AreNotesOf notes l
-    → IsReadFromFront (skim_of notes) l
-skim_read_from_front notes l w e =
-    let partitions = subst (λ ns. HasPartitionsOf ns l) (sym e) (partitions-laid l w) in
-    let copies = subst (λ ns. HasCopiesOf ns l) (sym e) (copies-laid l w) in
-    let index = subst (λ ns. HasIndexOf ns l) (sym e) (index-laid l w) in
-    let apart = none_alike notes partitions.disputes in
-    let same = skim_has_the_same_views notes (clear_skim notes apart) in
+-- the views of a skim are those of the front-to-back reading where those of the reading are
+pub front_of_skim : (saved notes : List NoteParts) (l : List PacketParts) → IsReadFromFront notes l
+    → IsReadFromFront (skim_beside saved notes) l
+front_of_skim saved notes l front =
+    let apart = none_alike notes front.partitions.disputes in
+    let same = skim_has_the_same_views saved notes (clear_skim saved notes apart) in
     record {
       partitions = record {
-        disputes = disputed_skim notes apart ∙ ap (map skimmed_dispute) partitions.disputes;
-        gaps = skim_has_the_same_gaps notes ∙ partitions.gaps;
-        partitions = same.partitions ∙ partitions.partitions;
-        links = λ offset. same.link offset ∙ partitions.links offset;
-        chain = same.chain ∙ partitions.chain;
+        disputes = disputed_skim saved notes apart ∙ ap (map (disputed_beside saved)) front.partitions.disputes;
+        gaps = skim_has_the_same_gaps saved notes ∙ front.partitions.gaps;
+        partitions = same.partitions ∙ front.partitions.partitions;
+        links = λ offset. same.link offset ∙ front.partitions.links offset;
+        chain = same.chain ∙ front.partitions.chain;
       };
       copies = record {
-        copies = same.copies ∙ copies.copies;
-        sets = λ offset. same.sets offset ∙ copies.sets offset;
-        preferred = same.preferred ∙ copies.preferred;
+        copies = same.copies ∙ front.copies.copies;
+        sets = λ offset. same.sets offset ∙ front.copies.sets offset;
+        preferred = same.preferred ∙ front.copies.preferred;
       };
       index = record {
-        segments = same.segments ∙ index.segments;
-        places = λ index_sid unit. same.locate index_sid unit ∙ index.places index_sid unit;
+        segments = same.segments ∙ front.index.segments;
+        places = λ index_sid unit. same.locate index_sid unit ∙ front.index.places index_sid unit;
       };
-      random_index = same.rip ∙ subst (λ ns. HasRandomIndexOf ns l) (sym e) (random_index-laid l w);
+      random_index = same.rip ∙ front.random_index;
     }
+
+-- the views of a whole file's skim
+pub whole_skim : (saved notes : List NoteParts) (l : List PacketParts) → IsWellFormed l → AreNotesOf notes l
+    → IsReadFromFront (skim_beside saved notes) l
+whole_skim saved notes l w e = front_of_skim saved notes l
+    (subst (λ (ns : List NoteParts). IsReadFromFront ns l) (sym e) (record {
+      partitions = partitions-laid l w;
+      copies = copies-laid l w;
+      index = index-laid l w;
+      random_index = random_index-laid l w;
+    }))

@@ -1,1 +1,2 @@
 pub mod Skims
+pub mod SkimmedRuns

@@ -1,8 +1,8 @@
 //! The laws of what skims hold and say: functions that do nothing, whose clauses hold of all values.
-ghost use Rattle.std.specs.Prelude.{◌≡◌, ◌↔◌, List, [], map};
+ghost use Rattle.std.specs.Prelude.{◌≡◌, ◌↔◌, ◌++◌, List, [], map};
 ghost use Rattle.mxf_klv.specs.Parts.{NoteParts, PacketParts};
 ghost use Rattle.mxf_klv.specs.Rising.{In};
-ghost use Rattle.mxf_catalogue.specs.Content.{AreReduced, IsCatalogue, IsContent};
+ghost use Rattle.mxf_catalogue.specs.Content.{AreReduced, IsCatalogue, IsContent, IsLocated};
 ghost use Rattle.mxf_catalogue.specs.Disputes.{clear_notes, disputed_notes};
 ghost use Rattle.mxf_views.specs.Gaps.{gaps_of};
 ghost use Rattle.mxf_views.specs.Headline.{IsReadFromFront};
@@ -10,40 +10,70 @@ ghost use Rattle.mxf_views.specs.WellFormed.{IsWellFormed};
 ghost use Rattle.mxf_views.specs.WholeFile.{AreNotesOf};
 ghost use Rattle.mxf_findings.specs.Findings.{findings_of};
 ghost use Rattle.mxf_findings.specs.SameViews.{SameViews};
-ghost use Rattle.mxf_skim.specs.PassedOver.{skimmed};
-ghost use Rattle.mxf_skimmed.specs.Skims.{NoneAlike, skim_of, skimmed_dispute};
+ghost use Rattle.mxf_read.specs.Gathering.{HandedBy};
+ghost use Rattle.mxf_read.specs.SkimGathering.{IsTheSkim};
+ghost use Rattle.mxf_read.specs.declared.gathering.part.Part.{Part};
+ghost use Rattle.mxf_skim.specs.PassedOver.{noted_by};
+ghost use Rattle.mxf_skim.specs.declared.scan.Scan.TheVariants.{Skim};
+ghost use Rattle.mxf_catalogue.specs.History.{HandsSame};
+ghost use Rattle.mxf_views.specs.Headline.{IsNoteOf};
+ghost use Rattle.mxf_skimmed.specs.SkimmedRuns.{AreReadAndSkimmed, IsSkimOf, SaysTheSame};
+ghost use Rattle.mxf_skimmed.specs.Skims.{NoneAlike, disputed_beside, noted_beside, skim_beside, skim_of};
+
+use std::io::Read;
 
 /// A law of skims: where no two notes of a container's packets are alike, the notes of a skim are a content as those of
 /// the reading are, note by note, and each is disputed or clear as the note of the reading is.
 pub fn skims_hold_what_was_read()
-    ensures members { (notes : List NoteParts) (n : NoteParts)
-        → In n (skim_of notes) ↔ ((m : NoteParts) × In m notes × (n ≡ skimmed m)) }
-    ensures rising { (notes : List NoteParts) → IsContent notes → NoneAlike notes → IsContent (skim_of notes) }
-    ensures notes { (notes : List NoteParts) → IsCatalogue notes → NoneAlike notes → IsCatalogue (skim_of notes) }
-    ensures reduced { (notes : List NoteParts) → AreReduced notes → AreReduced (skim_of notes) }
-    ensures disputed { (notes : List NoteParts)
-        → NoneAlike notes → disputed_notes (skim_of notes) ≡ map skimmed_dispute (disputed_notes notes) }
-    ensures clear { (notes : List NoteParts)
-        → NoneAlike notes → clear_notes (skim_of notes) ≡ skim_of (clear_notes notes) }
+    ensures held { (read saved notes : List NoteParts) → IsContent notes
+        → ((n : NoteParts) → In n notes ↔ IsLocated (λ m. In m (read ++ saved)) n) → NoneAlike notes
+        → IsTheSkim (λ m. In m (noted_by Skim read ++ saved)) (skim_beside saved notes) }
+    ensures alone { (notes : List NoteParts) → skim_beside [] notes ≡ skim_of notes }
+    ensures members { (saved notes : List NoteParts) (n : NoteParts)
+        → In n (skim_beside saved notes) ↔ ((m : NoteParts) × In m notes × (n ≡ noted_beside saved m)) }
+    ensures rising { (saved notes : List NoteParts)
+        → IsContent notes → NoneAlike notes → IsContent (skim_beside saved notes) }
+    ensures notes { (saved notes : List NoteParts)
+        → IsCatalogue notes → NoneAlike notes → IsCatalogue (skim_beside saved notes) }
+    ensures reduced { (saved notes : List NoteParts) → AreReduced notes → AreReduced (skim_beside saved notes) }
+    ensures disputed { (saved notes : List NoteParts) → NoneAlike notes
+        → disputed_notes (skim_beside saved notes) ≡ map (disputed_beside saved) (disputed_notes notes) }
+    ensures clear { (saved notes : List NoteParts) → NoneAlike notes
+        → clear_notes (skim_beside saved notes) ≡ skim_beside saved (clear_notes notes) }
     ensures undisputed { (notes : List NoteParts) → disputed_notes notes ≡ [] → NoneAlike notes }
 {}
 
 /// A law of [`Views`](mxf_views::Views): where no two notes of a container's packets are alike, the views of a skim are
 /// those of the reading. Its gaps are in any case.
 pub fn skims_have_the_same_views()
-    ensures views { (notes : List NoteParts) → NoneAlike notes → SameViews (skim_of notes) notes }
-    ensures gaps { (notes : List NoteParts) → gaps_of (skim_of notes) ≡ gaps_of notes }
+    ensures views { (saved notes : List NoteParts) → NoneAlike notes → SameViews (skim_beside saved notes) notes }
+    ensures gaps { (saved notes : List NoteParts) → gaps_of (skim_beside saved notes) ≡ gaps_of notes }
 {}
 
 /// A law of [`Views`](mxf_views::Views): if the content of a reading is the notes of a well-formed file, the views of
 /// the skim are those of the reading of the file from the front.
 pub fn skims_of_whole_files_are_read_from_the_front()
-    ensures { (notes : List NoteParts) (l : List PacketParts) → IsWellFormed l → AreNotesOf notes l
-        → IsReadFromFront (skim_of notes) l }
+    ensures { (saved notes : List NoteParts) (l : List PacketParts) → IsWellFormed l → AreNotesOf notes l
+        → IsReadFromFront (skim_beside saved notes) l }
 {}
 
 /// A law of [`findings`](mxf_findings::findings): where no two notes of a container's packets are alike, the findings
 /// of a skim are those of the reading.
 pub fn skims_have_the_same_findings()
-    ensures { (notes : List NoteParts) → NoneAlike notes → findings_of (skim_of notes) ≡ findings_of notes }
+    ensures { (saved notes : List NoteParts) → NoneAlike notes
+        → findings_of (skim_beside saved notes) ≡ findings_of notes }
+{}
+
+/// A law of [`gather_skim`](mxf_read::gather_skim): where a reading of the same parts holds no two notes of a
+/// container's packets that are alike, the skim holds the notes of the reading, those of packets that were passed over
+/// without their digests, and says all that the reading says. If the parts hand the packets of a well-formed file, that
+/// is what its reading from the front says.
+pub fn skims_say_what_readings_say<R: Read>()
+    ensures holds { (parts : List (Part R)) (notes skim : List NoteParts)
+        → AreReadAndSkimmed R.remaining parts notes skim → NoneAlike notes → IsSkimOf R.remaining parts notes skim }
+    ensures says { (parts : List (Part R)) (notes skim : List NoteParts)
+        → AreReadAndSkimmed R.remaining parts notes skim → NoneAlike notes → SaysTheSame skim notes }
+    ensures whole { (parts : List (Part R)) (notes skim : List NoteParts) (l : List PacketParts)
+        → AreReadAndSkimmed R.remaining parts notes skim → IsWellFormed l
+        → HandsSame (IsNoteOf l) (HandedBy R.remaining parts) → IsReadFromFront skim l }
 {}
