@@ -1,18 +1,19 @@
 -- The findings of a skim are those of the reading.
-use Rattle.mxf_findings.proofs.Common.{◌≡◌, ℕ, Bool, true, false, List, [], ◌∷◌, refl, sym, ap, ◌∙◌, ◌==◌, ◌&&◌, ◌||◌, filter}
-use Rattle.mxf_findings.proofs.Common.{map, not, flat_map, if◌then◌else◌, NoteParts, clear_notes, disputed_notes, end_of}
-use Rattle.mxf_findings.proofs.Common.{nat_lt, kind_of, is_primer, is_set, is_segment, is_unreadable, reads_value}
-use Rattle.mxf_findings.proofs.Common.{keeps_value, is_no_unreadable_pack, is_rip_note, rip_in}
-use Rattle.mxf_findings.proofs.Common.{finding, finding_cmp, findings_of, offsets_for, has_other_rip}
+use Rattle.mxf_findings.proofs.Common.{◌≡◌, ℕ, Bool, true, false, List, [], ◌∷◌, refl, sym, ap, ◌∙◌, ◌==◌, ◌&&◌, ◌||◌}
+use Rattle.mxf_findings.proofs.Common.{filter, map, not, flat_map, if◌then◌else◌, NoteParts, clear_notes}
+use Rattle.mxf_findings.proofs.Common.{disputed_notes, end_of, nat_lt, kind_of, is_primer, is_set, is_segment}
+use Rattle.mxf_findings.proofs.Common.{is_unreadable, reads_value, keeps_value, is_no_unreadable_pack, is_rip_note}
+use Rattle.mxf_findings.proofs.Common.{rip_in, finding, finding_cmp, findings_of, offsets_for, has_other_rip}
 use Rattle.mxf_findings.proofs.Common.{ends_above, is_unfit_rip, is_partial, rip_at}
+use Rattle.mxf_views.proofs.Common.{map-map}
 use Rattle.mxf_klv.specs.Rising.{union}
 use Rattle.mxf_findings.specs.declared.finding.Code.{Code}
 use Rattle.mxf_findings.specs.declared.finding.Code.TheVariants.{F01, F02, F03, F04, F05, F06, F07, F08, F09, F10, F11}
 use Rattle.mxf_findings.specs.declared.finding.Code.TheVariants.{F12, F13, F14}
 use Rattle.mxf_findings.specs.Codes.{all_codes}
 use Rattle.std.specs.List.{list_any}
-use Rattle.mxf_findings.specs.Findings.{is_broken, is_dispute_cause, is_index_of, is_note_cause}
-use Rattle.mxf_findings.specs.Findings.{is_partition_cause, is_unreadable_segment, is_unreadable_set, lost_in, partitions_at}
+use Rattle.mxf_findings.specs.Findings.{is_broken, is_dispute_cause, is_index_of, is_note_cause, is_partition_cause}
+use Rattle.mxf_findings.specs.Findings.{is_unreadable_segment, is_unreadable_set, lost_in, partitions_at}
 use Rattle.mxf_findings.specs.SameViews.{SameViews}
 use Rattle.mxf_catalogue.specs.Disputes.{DisputedParts}
 use Rattle.mxf_views.specs.Partitions.{PartitionParts}
@@ -21,7 +22,7 @@ use Rattle.mxf_catalogue.specs.declared.run.Run.{Run}
 use Rattle.mxf_views.proofs.NumbersLaws.{any_mapped, filter_mapped}
 use Rattle.mxf_skimmed.specs.Skims.{NoneAlike, disputed_beside, noted_beside, skim_beside}
 use Rattle.mxf_skimmed.proofs.SkimmedNotes.{noted_is, read_same, says_same, value_same}
-use Rattle.mxf_skimmed.proofs.HeldLaws.{clear_skim, disputed_skim, map_twice}
+use Rattle.mxf_skimmed.proofs.HeldLaws.{clear_skim, disputed_skim}
 use Rattle.mxf_skimmed.proofs.ViewLaws.{rip_same, skim_has_the_same_gaps, skim_has_the_same_views, unreadable_pack_same}
 
 and_is : (a b : Bool) → (a && b) ≡ (if a then b else false)
@@ -69,7 +70,7 @@ module _ (saved : List NoteParts) where
   offsets_stay p q notes same =
       ap (map (λ (n : NoteParts). n.offset)) (filter_mapped p noted notes
       ∙ (λ i. map noted (filter (λ n. same n i) notes)))
-      ∙ map_twice noted (λ n. n.offset) (filter q notes)
+      ∙ map-map (λ n. n.offset) noted (filter q notes)
       ∙ (λ i. map (λ n. says_same saved (λ x. x.offset) n (λ held. refl) i) (filter q notes))
 
   module _ (notes : List NoteParts) (apart : NoneAlike notes) where
@@ -86,7 +87,7 @@ module _ (saved : List NoteParts) where
         ap (λ (l : List DisputedParts). map (λ d. d.note.offset) (filter p l)) (disputed_skim saved notes apart)
         ∙ ap (map (λ (d : DisputedParts). d.note.offset)) (filter_mapped p again (disputed_notes notes)
         ∙ (λ i. map again (filter (λ d. alike d i) (disputed_notes notes))))
-        ∙ map_twice again (λ d. d.note.offset) (filter p (disputed_notes notes))
+        ∙ map-map (λ d. d.note.offset) again (filter p (disputed_notes notes))
         ∙ (λ i. map (λ d. says_same saved (λ x. x.offset) d.note (λ held. refl) i) (filter p (disputed_notes notes)))
 
     clear_offsets : (p q : NoteParts → Bool) → ((n : NoteParts) → p (noted n) ≡ q n)

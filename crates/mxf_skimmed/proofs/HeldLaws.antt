@@ -1,10 +1,9 @@
 -- What a skim holds of what a reading holds, and which of it is disputed.
-use Rattle.mxf_views.proofs.Common.{◌≡◌, Bool, true, false, ◌&&◌, ◌||◌, not, ◌==◌, List, [], ◌∷◌, refl, sym, ap}
-use Rattle.mxf_views.proofs.Common.{subst, ◌∙◌, inl, inr, NoteParts, In, In-map, all-In, all_from_In}
-use Rattle.mxf_views.proofs.Common.{IsContent, IsCatalogue, IsNote, AreReduced, head_note, note_cmp, note_total, length, map}
-use Rattle.mxf_views.proofs.Common.{filter, filter_alike, In-filter, clear_notes, undisputed_notes, is_disputed, is_same_note}
-use Rattle.mxf_views.proofs.Common.{disputed_notes, same_bool, same_note-Decides}
-use Rattle.mxf_views.proofs.Common.{and_parts, if◌then◌else◌}
+use Rattle.mxf_views.proofs.Common.{◌≡◌, Bool, true, false, ◌&&◌, ◌||◌, not, ◌==◌, List, [], ◌∷◌, refl, sym, ap, subst}
+use Rattle.mxf_views.proofs.Common.{◌∙◌, inl, inr, NoteParts, In, In-map, all-In, all_from_In, IsContent, IsCatalogue}
+use Rattle.mxf_views.proofs.Common.{IsNote, AreReduced, head_note, note_cmp, note_total, length, map, map-map, filter}
+use Rattle.mxf_views.proofs.Common.{filter_alike, In-filter, clear_notes, undisputed_notes, is_disputed, is_same_note}
+use Rattle.mxf_views.proofs.Common.{disputed_notes, same_bool, same_note-Decides, and_parts, if◌then◌else◌}
 use Rattle.std.specs.Ordering.{bool_cmp, nat_cmp, ordering_then}
 use Rattle.std.specs.Cmp.Lexicographic.{slice_cmp}
 use Rattle.std.specs.FinSet.{nat_cmp-IsAntisymmetric, slice_cmp-IsAntisymmetric}
@@ -34,7 +33,8 @@ same_from_tie true false e = cc
 same_from_tie false true e = cc
 same_from_tie false false e = refl
 
-any_alike : {K : Type 0} (p q : K → Bool) (xs : List K) → ((x : K) → In x xs → p x ≡ q x) → list_any p xs ≡ list_any q xs
+any_alike : {K : Type 0} (p q : K → Bool) (xs : List K) → ((x : K) → In x xs → p x ≡ q x)
+    → list_any p xs ≡ list_any q xs
 any_alike p q [] same = refl
 any_alike p q (x ∷ xs) same = λ i. same x (inl refl) i || any_alike p q xs (λ y h. same y (inr h)) i
 
@@ -42,11 +42,7 @@ map_alike : {K L : Type 0} (f g : K → L) (xs : List K) → ((x : K) → In x x
 map_alike f g [] same = refl
 map_alike f g (x ∷ xs) same = λ i. same x (inl refl) i ∷ map_alike f g xs (λ y h. same y (inr h)) i
 
-pub map_twice : {A B C : Type 0} (f : A → B) (g : B → C) (xs : List A) → map g (map f xs) ≡ map (λ x. g (f x)) xs
-map_twice f g [] = refl
-map_twice f g (x ∷ xs) = ap (λ l. g (f x) ∷ l) (map_twice f g xs)
-
--- a digest has as many bytes as none
+-- a note that was passed over holds as many bytes as one that was read
 as_many : (n : NoteParts) → length n.held ≡ held_length n → length (skimmed n).held ≡ held_length n
 as_many n same = elim (is_of_container n) as (λ b. is_of_container n ≡ b
     → length (if b then passed_note n else n).held ≡ held_length n) [
@@ -84,7 +80,7 @@ module _ (saved : List NoteParts) where
 
   -- ---- two notes
 
-  -- What two notes are if they tie in all but what is held.
+  -- where all else ties, what is held decides as it did
   tied_held : (m n : NoteParts) → m.offset ≡ n.offset → m.key ≡ n.key → m.width ≡ n.width → m.length ≡ n.length
       → m.whole ≡ n.whole → note_cmp m n ≡ Less
       → (is_of_container m ≡ true → is_of_container n ≡ true → head_note m ≡ head_note n → m ≡ n)
@@ -126,8 +122,8 @@ module _ (saved : List NoteParts) where
       (nat_cmp-IsAntisymmetric m.width n.width w) (nat_cmp-IsAntisymmetric m.length n.length s)
       (same_from_tie m.whole n.whole b) less one l)))))
 
-  -- where none are alike, what a skim makes of two notes is one note only of one
-  pub one_noted : (notes : List NoteParts) (m n : NoteParts) → NoneAlike notes → In m notes → In n notes
+  -- where none are alike, a skim makes one note of one alone
+  one_noted : (notes : List NoteParts) (m n : NoteParts) → NoneAlike notes → In m notes → In n notes
       → noted m ≡ noted n → m ≡ n
   one_noted notes m n apart i k e =
       let same : is_of_container m ≡ is_of_container n =
@@ -158,7 +154,7 @@ module _ (saved : List NoteParts) where
   }
 
   -- what a skim makes of a note is a head only if the note is one, which stays
-  pub head_stays : (m : NoteParts) (y : NoteParts) → head_note y ≡ noted m → noted m ≡ m
+  pub head_stays : (m y : NoteParts) → head_note y ≡ noted m → noted m ≡ m
   head_stays m y e =
       let head : m.whole ≡ false =
       sym (says_same saved (λ x. x.whole) m (λ held. refl)) ∙ ap (λ (x : NoteParts). x.whole) (sym e) in
@@ -201,11 +197,11 @@ module _ (saved : List NoteParts) where
         says_same saved (λ x. not (x.offset == (noted n).offset) && is_byte_shared x (noted n)) m (λ held. refl)
         ∙ says_same saved (λ x. not (m.offset == x.offset) && is_byte_shared m x) n (λ held. refl))
 
-    disputed_same : (n : NoteParts) → In n notes → is_disputed (noted n) (skim notes) ≡ is_disputed n notes
+    pub disputed_same : (n : NoteParts) → In n notes → is_disputed (noted n) (skim notes) ≡ is_disputed n notes
     disputed_same n k j = offset_shared n k j || overlapped n j
 
     parts_same : (n : NoteParts) → In n notes
-        → disputed_parts (noted n) (skim notes) ≡ (disputed_beside saved) (disputed_parts n notes)
+        → disputed_parts (noted n) (skim notes) ≡ disputed_beside saved (disputed_parts n notes)
     parts_same n k j = record {
       note = noted n;
       same_offset = offset_shared n k j;
@@ -219,10 +215,10 @@ module _ (saved : List NoteParts) where
         filter_mapped (λ n. is_disputed n (skim notes)) noted notes
         ∙ ap (map noted) (filter_alike (λ n. is_disputed (noted n) (skim notes)) test notes disputed_same) in
         ap (map (λ n. disputed_parts n (skim notes))) chosen
-        ∙ map_twice noted (λ n. disputed_parts n (skim notes)) (filter test notes)
-        ∙ map_alike (λ n. disputed_parts (noted n) (skim notes)) (λ n. (disputed_beside saved) (disputed_parts n notes))
+        ∙ map-map (λ n. disputed_parts n (skim notes)) noted (filter test notes)
+        ∙ map_alike (λ n. disputed_parts (noted n) (skim notes)) (λ n. disputed_beside saved (disputed_parts n notes))
         (filter test notes) (λ n h. parts_same n ((In-filter test notes n).0 h).0)
-        ∙ sym (map_twice (λ n. disputed_parts n notes) (disputed_beside saved) (filter test notes))
+        ∙ sym (map-map (disputed_beside saved) (λ n. disputed_parts n notes) (filter test notes))
 
     pub clear_skim : clear_notes (skim notes) ≡ skim (clear_notes notes)
     clear_skim =

@@ -1,11 +1,11 @@
 -- What a skim holds that was handed the pieces and ranges that a reading was handed, and the same catalogues.
-use Rattle.mxf_views.proofs.Common.{◌≡◌, ◌≢◌, ◌↔◌, ◌⊎◌, Bool, true, false, ◌&&◌, not, List, [], ◌∷◌, ◌++◌, refl, sym, ap}
-use Rattle.mxf_views.proofs.Common.{subst, ◌∙◌, inl, inr, map, IsTrue, NoteParts, In, In-append, In-map, IsContent, IsLocated}
-use Rattle.mxf_views.proofs.Common.{head_note, and_parts, list_any-In, same_note-Decides, same_content, bytes_eq-Decides}
-use Rattle.mxf_views.proofs.Common.{is_same_note, if◌then◌else◌, Option, AllByRecursion}
+use Rattle.mxf_views.proofs.Common.{◌≡◌, ◌≢◌, ◌↔◌, ◌⊎◌, Bool, true, false, ◌&&◌, not, List, [], ◌∷◌, ◌++◌, refl, sym}
+use Rattle.mxf_views.proofs.Common.{ap, subst, ◌∙◌, inl, inr, map, IsTrue, NoteParts, In, In-append, In-map, IsContent}
+use Rattle.mxf_views.proofs.Common.{IsLocated, head_note, and_parts, list_any-In, same_note-Decides, same_content}
+use Rattle.mxf_views.proofs.Common.{bytes_eq-Decides, is_same_note, if◌then◌else◌, Option, AllByRecursion, ℕ, arith}
+use Rattle.mxf_views.proofs.Common.{map-append, notes_in, IsWellFormed, PacketParts}
 use Rattle.std.specs.Str.{bytes_eq}
 use Rattle.mxf_catalogue.proofs.FileLaws.{one_content}
-use Rattle.mxf_views.proofs.Common.{ℕ, arith, map-append, notes_in, IsWellFormed, PacketParts}
 use Rattle.mxf_views.specs.Headline.{IsNoteOf, IsReadFromFront}
 use Rattle.mxf_catalogue.specs.History.{HandsSame}
 use Rattle.mxf_readings.specs.Readings.{is_held}
@@ -50,8 +50,7 @@ not_told y x ne tells same = elim (as_noted y) [
 
 -- a head that is told stays
 told_stays : (y m : NoteParts) → head_note y ≡ m → skimmed m ≡ m
-told_stays y m tells = stays [] m (ap (λ (n : NoteParts). n.whole && is_in_container n.key n.length) (sym tells)
-    ∙ refl)
+told_stays y m tells = stays [] m (ap is_of_container (sym tells))
 
 -- a skim reads no value of a container's packet
 not_read : (x : NoteParts) → was_read (skimmed x) ≡ true → ⊥
@@ -164,8 +163,8 @@ module _ (read saved notes : List NoteParts) (handed passing : NoteParts → Typ
                     untold m i y k (λ same. ne (same ∙ sym own)) (tells ∙ own),
               );
               unread = λ passed r there was same.
-                  let after = (and_parts (is_of_container (skimmed m)) (bytes_eq (skimmed m).held no_digest) passed).0 in
-                  let c : is_of_container m ≡ true = sym (says_same [] is_of_container m (λ held. refl)) ∙ after in
+                  let p = and_parts (is_of_container (skimmed m)) (bytes_eq (skimmed m).held no_digest) passed in
+                  let c : is_of_container m ≡ true = sym (says_same [] is_of_container m (λ held. refl)) ∙ p.0 in
                   let (k, is) = only_read m r i c there was (same ∙ skimmed_head m) in
                   lacked (subst (λ (n : NoteParts). In n saved) is k);
             }
@@ -278,7 +277,10 @@ module _ {R : Type 0} (left : R → Option (List ℕ)) where
         saved = more.saved;
         by_reading = λ n. read_more xs more.read more.saved n (HandedBy left parts n) (more.by_reading n);
         by_skim = λ n. skim_more xs more.read more.saved n (SkimHandedBy left parts n) (more.by_skim n);
-        members = λ n. (λ h. inr ((more.members n).0 h), λ h. elim h [ inl i ↦ absurd i | inr i ↦ (more.members n).1 i ]);
+        members = λ n. (
+          λ h. inr ((more.members n).0 h),
+          λ h. elim h [ inl i ↦ absurd i | inr i ↦ (more.members n).1 i ],
+        );
       }
   handed_lists (Range offset from ∷ parts) good =
       let more = handed_lists parts good.1 in
@@ -288,7 +290,10 @@ module _ {R : Type 0} (left : R → Option (List ℕ)) where
         saved = more.saved;
         by_reading = λ n. read_more xs more.read more.saved n (HandedBy left parts n) (more.by_reading n);
         by_skim = λ n. skim_more xs more.read more.saved n (SkimHandedBy left parts n) (more.by_skim n);
-        members = λ n. (λ h. inr ((more.members n).0 h), λ h. elim h [ inl i ↦ absurd i | inr i ↦ (more.members n).1 i ]);
+        members = λ n. (
+          λ h. inr ((more.members n).0 h),
+          λ h. elim h [ inl i ↦ absurd i | inr i ↦ (more.members n).1 i ],
+        );
       }
   handed_lists (Saved from ∷ parts) good =
       let more = handed_lists parts good.1 in
@@ -333,8 +338,8 @@ module _ {R : Type 0} (left : R → Option (List ℕ)) where
         ));
       }
 
-  pub parts_say_the_same : (parts : List (Part R)) (notes skim : List NoteParts) → AreReadAndSkimmed left parts notes skim
-      → NoneAlike notes → SaysTheSame skim notes
+  pub parts_say_the_same : (parts : List (Part R)) (notes skim : List NoteParts)
+      → AreReadAndSkimmed left parts notes skim → NoneAlike notes → SaysTheSame skim notes
   parts_say_the_same parts notes skim are apart =
       let is = skim_of_parts parts notes skim are apart in
       subst (λ (l : List NoteParts). SaysTheSame l notes) (sym is.noted) (record {

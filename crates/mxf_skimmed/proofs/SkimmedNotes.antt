@@ -1,11 +1,11 @@
 -- What a skim makes of a note: all stays but what is held of a container's packet, and no view reads that.
-use Rattle.mxf_views.proofs.Common.{◌≡◌, ℕ, Bool, true, false, ◌&&◌, if◌then◌else◌, List, None, Result, refl, sym}
-use Rattle.mxf_views.proofs.Common.{ap, ◌∙◌, rules, NoteParts, and_parts, keeps_value, kind_of}
-use Rattle.mxf_views.proofs.Common.{read_as}
+use Rattle.mxf_views.proofs.Common.{◌≡◌, ℕ, Bool, true, false, ◌&&◌, if◌then◌else◌, List, None, Result, refl, sym, ap}
+use Rattle.mxf_views.proofs.Common.{◌∙◌, rules, NoteParts, and_parts, keeps_value, kind_of, read_as}
 use Rattle.std.specs.Result.{result_ok}
 use Rattle.mxf_klv.specs.declared.kinds.Kind.{Kind}
 use Rattle.mxf_klv.specs.declared.kinds.Kind.TheVariants.{Essence, Other}
-use Rattle.mxf_skim.specs.PassedOver.{is_in_container, is_of_container, no_digest, passed_note, skimmed, stands_in_container}
+use Rattle.mxf_skim.specs.PassedOver.{is_in_container, is_of_container, no_digest, passed_note, skimmed}
+use Rattle.mxf_skim.specs.PassedOver.{stands_in_container}
 use Rattle.mxf_skim.proofs.ContainerLaws.{keeps_nothing}
 use Rattle.mxf_readings.specs.Readings.{is_held}
 use Rattle.mxf_skimmed.specs.Skims.{noted_beside}

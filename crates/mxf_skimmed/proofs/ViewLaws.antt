@@ -1,16 +1,16 @@
 -- The views of a skim are those of the reading.
 use Rattle.mxf_findings.proofs.Common.{◌≡◌, ℕ, Bool, true, false, List, [], ◌∷◌, Option, Some, None, refl, sym, ap, ◌∙◌}
-use Rattle.mxf_findings.proofs.Common.{◌==◌, ◌-◌, ◌&&◌, ◌||◌, filter, filter_map, find, map, cond, not}
-use Rattle.mxf_findings.proofs.Common.{if◌then◌else◌, option_and_then, option_map, is_some, NoteParts}
-use Rattle.mxf_findings.proofs.Common.{primer_at, read_as, pack_at, segment_at, kind_of, end_of, clear_notes, lies_in}
-use Rattle.mxf_findings.proofs.Common.{Whole, Broken, CopyInfo, Wanted, Storage, Identification, Package, PartitionParts}
-use Rattle.mxf_findings.proofs.Common.{chain_of, link_at, partition_at, partitions_among, partitions_of, copies_of}
-use Rattle.mxf_findings.proofs.Common.{is_preface_note, is_set, is_primer, preferred_of, sets_found, sets_from, sets_of}
-use Rattle.mxf_findings.proofs.Common.{is_in_copy, is_no_unreadable_pack, primer_there, found_among, has_uid}
-use Rattle.mxf_findings.proofs.Common.{target_among, target_of, resolved_of, storage_among, RipParts, place_of, is_segment}
+use Rattle.mxf_findings.proofs.Common.{◌==◌, ◌-◌, ◌&&◌, ◌||◌, filter, filter_map, find, map, cond, not, if◌then◌else◌}
+use Rattle.mxf_findings.proofs.Common.{option_and_then, option_map, is_some, NoteParts, primer_at, read_as, pack_at}
+use Rattle.mxf_findings.proofs.Common.{segment_at, kind_of, end_of, clear_notes, lies_in, Whole, Broken, CopyInfo}
+use Rattle.mxf_findings.proofs.Common.{Wanted, Storage, Identification, Package, PartitionParts, chain_of, link_at}
+use Rattle.mxf_findings.proofs.Common.{partition_at, partitions_among, partitions_of, copies_of, is_preface_note}
+use Rattle.mxf_findings.proofs.Common.{is_set, is_primer, preferred_of, sets_found, sets_from, sets_of, is_in_copy}
+use Rattle.mxf_findings.proofs.Common.{is_no_unreadable_pack, primer_there, found_among, has_uid, target_among}
+use Rattle.mxf_findings.proofs.Common.{target_of, resolved_of, storage_among, RipParts, place_of, is_segment}
 use Rattle.mxf_findings.proofs.Common.{segments_among, segments_of, is_rip, is_rip_note, rip_in, rips_of, standing_of}
-use Rattle.mxf_findings.proofs.Common.{rip_view_among, rip_view_by, One, PrefaceParts, copies_among}
-use Rattle.mxf_findings.proofs.Common.{primer_for, packages_of, preface_in, resolved_by, resolved_from, zone_of, gaps_of}
+use Rattle.mxf_findings.proofs.Common.{rip_view_among, rip_view_by, One, PrefaceParts, copies_among, primer_for}
+use Rattle.mxf_findings.proofs.Common.{packages_of, preface_in, resolved_by, resolved_from, zone_of, gaps_of}
 use Rattle.mxf_findings.proofs.Common.{is_set_note, part_and_status}
 use Rattle.std.specs.Prelude.{count_by, max}
 use Rattle.std.specs.List.{list_all}
@@ -20,8 +20,8 @@ use Rattle.mxf_klv.specs.Note.{covered_end}
 use Rattle.mxf_klv.proofs.Counts.{count_mapped}
 use Rattle.mxf_catalogue.specs.declared.run.Run.{Run}
 use Rattle.mxf_catalogue.specs.Runs.{run}
-use Rattle.mxf_views.specs.Copies.{copy_from, copy_of, covered_of, has_metadata, is_fill_note, is_filled, is_readable_primer}
-use Rattle.mxf_views.specs.Copies.{is_start, prefaces_of, start_of}
+use Rattle.mxf_views.specs.Copies.{copy_from, copy_of, covered_of, has_metadata, is_fill_note, is_filled}
+use Rattle.mxf_views.specs.Copies.{is_readable_primer, is_start, prefaces_of, start_of}
 use Rattle.mxf_views.specs.Gaps.{gaps_from}
 use Rattle.mxf_views.specs.Places.{placed_segment}
 use Rattle.mxf_views.specs.Spans.{size_of, sizes}

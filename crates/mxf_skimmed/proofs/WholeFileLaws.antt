@@ -1,8 +1,8 @@
 -- The views of a whole file's skim are those of its reading from the front.
-use Rattle.mxf_views.proofs.Common.{◌≡◌, ◌≢◌, true, false, List, [], refl, sym, ap, subst, ◌∙◌, NoteParts, PacketParts, In}
-use Rattle.mxf_views.proofs.Common.{In-filter, SharesByte-same_offset, is_disputed, is_disputed-IsDisputed, is_same_note}
-use Rattle.mxf_views.proofs.Common.{same_note-Decides, disputed_notes, notes-disputed_notes, map, filter, DisputedParts}
-use Rattle.mxf_views.proofs.Common.{IsWellFormed}
+use Rattle.mxf_views.proofs.Common.{◌≡◌, ◌≢◌, true, false, List, [], refl, sym, ap, subst, ◌∙◌, NoteParts, PacketParts}
+use Rattle.mxf_views.proofs.Common.{In, In-filter, SharesByte-same_offset, is_disputed, is_disputed-IsDisputed}
+use Rattle.mxf_views.proofs.Common.{is_same_note, same_note-Decides, disputed_notes, notes-disputed_notes, map, filter}
+use Rattle.mxf_views.proofs.Common.{DisputedParts, IsWellFormed}
 use Rattle.mxf_views.specs.Headline.{IsReadFromFront}
 use Rattle.mxf_views.specs.WholeFile.{AreNotesOf}
 use Rattle.mxf_views.proofs.LaidCopies.{copies-laid}

@@ -1,41 +1,54 @@
 //! The laws of what skims hold and say: functions that do nothing, whose clauses hold of all values.
-ghost use Rattle.std.specs.Prelude.{◌≡◌, ◌↔◌, ◌++◌, List, [], map};
+ghost use Rattle.std.specs.Prelude.{◌≡◌, ◌↔◌, ◌++◌, false, List, [], map};
 ghost use Rattle.mxf_klv.specs.Parts.{NoteParts, PacketParts};
 ghost use Rattle.mxf_klv.specs.Rising.{In};
 ghost use Rattle.mxf_catalogue.specs.Content.{AreReduced, IsCatalogue, IsContent, IsLocated};
-ghost use Rattle.mxf_catalogue.specs.Disputes.{clear_notes, disputed_notes};
+ghost use Rattle.mxf_catalogue.specs.Disputes.{clear_notes, disputed_notes, is_disputed};
+ghost use Rattle.mxf_catalogue.specs.History.{HandsSame};
 ghost use Rattle.mxf_views.specs.Gaps.{gaps_of};
-ghost use Rattle.mxf_views.specs.Headline.{IsReadFromFront};
+ghost use Rattle.mxf_views.specs.Headline.{IsNoteOf, IsReadFromFront};
 ghost use Rattle.mxf_views.specs.WellFormed.{IsWellFormed};
 ghost use Rattle.mxf_views.specs.WholeFile.{AreNotesOf};
 ghost use Rattle.mxf_findings.specs.Findings.{findings_of};
 ghost use Rattle.mxf_findings.specs.SameViews.{SameViews};
+ghost use Rattle.mxf_skim.specs.PassedOver.{is_of_container, noted_by};
+ghost use Rattle.mxf_skim.specs.declared.scan.Scan.TheVariants.{Skim};
 ghost use Rattle.mxf_read.specs.Gathering.{HandedBy};
 ghost use Rattle.mxf_read.specs.SkimGathering.{IsTheSkim};
 ghost use Rattle.mxf_read.specs.declared.gathering.part.Part.{Part};
-ghost use Rattle.mxf_skim.specs.PassedOver.{noted_by};
-ghost use Rattle.mxf_skim.specs.declared.scan.Scan.TheVariants.{Skim};
-ghost use Rattle.mxf_catalogue.specs.History.{HandsSame};
-ghost use Rattle.mxf_views.specs.Headline.{IsNoteOf};
 ghost use Rattle.mxf_skimmed.specs.SkimmedRuns.{AreReadAndSkimmed, IsSkimOf, SaysTheSame};
 ghost use Rattle.mxf_skimmed.specs.Skims.{NoneAlike, disputed_beside, noted_beside, skim_beside, skim_of};
 
 use std::io::Read;
 
-/// A law of skims: where no two notes of a container's packets are alike, the notes of a skim are a content as those of
-/// the reading are, note by note, and each is disputed or clear as the note of the reading is.
+/// A law of [`gather_skim`](mxf_read::gather_skim): where no two notes of a container's packets are alike that a reading
+/// holds, a skim holds its notes, but that the values of a container's packets were passed over which no saved catalogue
+/// has. All other notes are as they were read. Without a catalogue each packet of a container was passed over.
 pub fn skims_hold_what_was_read()
     ensures held { (read saved notes : List NoteParts) → IsContent notes
         → ((n : NoteParts) → In n notes ↔ IsLocated (λ m. In m (read ++ saved)) n) → NoneAlike notes
         → IsTheSkim (λ m. In m (noted_by Skim read ++ saved)) (skim_beside saved notes) }
-    ensures alone { (notes : List NoteParts) → skim_beside [] notes ≡ skim_of notes }
     ensures members { (saved notes : List NoteParts) (n : NoteParts)
         → In n (skim_beside saved notes) ↔ ((m : NoteParts) × In m notes × (n ≡ noted_beside saved m)) }
+    ensures others { (saved : List NoteParts) (n : NoteParts) → is_of_container n ≡ false → noted_beside saved n ≡ n }
+    ensures alone { (notes : List NoteParts) → skim_beside [] notes ≡ skim_of notes }
+{}
+
+/// A law of skims: where no two notes of a container's packets are alike, the notes of a skim are a content, if those of
+/// the reading are, and each is a note. They are reduced in any case, if those of the reading are.
+pub fn skims_are_contents()
     ensures rising { (saved notes : List NoteParts)
         → IsContent notes → NoneAlike notes → IsContent (skim_beside saved notes) }
     ensures notes { (saved notes : List NoteParts)
         → IsCatalogue notes → NoneAlike notes → IsCatalogue (skim_beside saved notes) }
     ensures reduced { (saved notes : List NoteParts) → AreReduced notes → AreReduced (skim_beside saved notes) }
+{}
+
+/// A law of skims: where no two notes of a container's packets are alike, each note of a skim is disputed or clear as
+/// that of the reading is. No two are alike where none are disputed.
+pub fn skims_are_disputed_as_readings_are()
+    ensures each { (saved notes : List NoteParts) (n : NoteParts) → NoneAlike notes → In n notes
+        → is_disputed (noted_beside saved n) (skim_beside saved notes) ≡ is_disputed n notes }
     ensures disputed { (saved notes : List NoteParts) → NoneAlike notes
         → disputed_notes (skim_beside saved notes) ≡ map (disputed_beside saved) (disputed_notes notes) }
     ensures clear { (saved notes : List NoteParts) → NoneAlike notes
