@@ -4,3 +4,4 @@ pub mod ViewLaws
 pub mod WholeFileLaws
 pub mod FindingLaws
 pub mod RunLaws
+pub mod SavedLaws

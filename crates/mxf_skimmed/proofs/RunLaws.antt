@@ -35,7 +35,7 @@ is_held-In n notes =
 
 -- ---- what a skim makes of a note
 
-skimmed_head : (m : NoteParts) → head_note (skimmed m) ≡ head_note m
+pub skimmed_head : (m : NoteParts) → head_note (skimmed m) ≡ head_note m
 skimmed_head m = noted_head [] m
 
 -- what a head tells isn't what a skim makes of another note
@@ -64,7 +64,7 @@ not_read x read = elim (is_of_container x) as (λ b. is_of_container x ≡ b
           let own = (and_parts (is_of_container x) (not (bytes_eq x.held no_digest)) r).0 in cc (c, own)
     ] refl read
 
-passed_is : (m : NoteParts) → is_of_container m ≡ true → is_passed_over (passed_note m) ≡ true
+pub passed_is : (m : NoteParts) → is_of_container m ≡ true → is_passed_over (passed_note m) ≡ true
 passed_is m c = ap (λ (b : Bool). b && bytes_eq no_digest no_digest)
     (and_parts m.whole (is_in_container m.key m.length) c).1
 

@@ -2,7 +2,7 @@
 ghost use Rattle.std.specs.Prelude.{◌≡◌, ◌↔◌, ◌++◌, false, List, [], map};
 ghost use Rattle.mxf_klv.specs.Parts.{NoteParts, PacketParts};
 ghost use Rattle.mxf_klv.specs.Rising.{In};
-ghost use Rattle.mxf_catalogue.specs.Content.{AreReduced, IsCatalogue, IsContent, IsLocated};
+ghost use Rattle.mxf_catalogue.specs.Content.{AreReduced, IsCatalogue, IsContent, IsLocated, reduced_union};
 ghost use Rattle.mxf_catalogue.specs.Disputes.{clear_notes, disputed_notes, is_disputed};
 ghost use Rattle.mxf_catalogue.specs.History.{HandsSame};
 ghost use Rattle.mxf_views.specs.Gaps.{gaps_of};
@@ -12,6 +12,7 @@ ghost use Rattle.mxf_views.specs.WholeFile.{AreNotesOf};
 ghost use Rattle.mxf_findings.specs.Findings.{findings_of};
 ghost use Rattle.mxf_findings.specs.SameViews.{SameViews};
 ghost use Rattle.mxf_skim.specs.PassedOver.{is_of_container, noted_by};
+ghost use Rattle.mxf_skim.specs.Saving.{with_heads};
 ghost use Rattle.mxf_skim.specs.declared.scan.Scan.TheVariants.{Skim};
 ghost use Rattle.mxf_read.specs.Gathering.{HandedBy};
 ghost use Rattle.mxf_read.specs.SkimGathering.{IsTheSkim};
@@ -77,15 +78,26 @@ pub fn skims_have_the_same_findings()
         → findings_of (skim_beside saved notes) ≡ findings_of notes }
 {}
 
+/// A law of [`with_heads`](mxf_skim::with_heads): what is saved of a skim, joined with the content of the reading, is that
+/// content.
+pub fn saved_skims_are_completed_by_readings()
+    ensures { (saved notes : List NoteParts) → IsContent notes → AreReduced notes
+        → reduced_union (with_heads (skim_beside saved notes)) notes ≡ notes }
+{}
+
 /// A law of [`gather_skim`](mxf_read::gather_skim): where a reading of the same parts holds no two notes of a
 /// container's packets that are alike, the skim holds the notes of the reading, those of packets that were passed over
-/// without their digests, and says all that the reading says. If the parts hand the packets of a well-formed file, that
-/// is what its reading from the front says.
+/// without their digests, and says all that the reading says. What is saved of it, joined with the content of the
+/// reading, is that content. If the parts hand the packets of a well-formed file, what the skim says is what the file's
+/// reading from the front says.
 pub fn skims_say_what_readings_say<R: Read>()
     ensures holds { (parts : List (Part R)) (notes skim : List NoteParts)
         → AreReadAndSkimmed R.remaining parts notes skim → NoneAlike notes → IsSkimOf R.remaining parts notes skim }
     ensures says { (parts : List (Part R)) (notes skim : List NoteParts)
         → AreReadAndSkimmed R.remaining parts notes skim → NoneAlike notes → SaysTheSame skim notes }
+    ensures saved { (parts : List (Part R)) (notes skim : List NoteParts)
+        → AreReadAndSkimmed R.remaining parts notes skim → NoneAlike notes
+        → reduced_union (with_heads skim) notes ≡ notes }
     ensures whole { (parts : List (Part R)) (notes skim : List NoteParts) (l : List PacketParts)
         → AreReadAndSkimmed R.remaining parts notes skim → IsWellFormed l
         → HandsSame (IsNoteOf l) (HandedBy R.remaining parts) → IsReadFromFront skim l }

@@ -11,6 +11,8 @@
 //!   ([`laws::skims_are_disputed_as_readings_are`]).
 //! - All views, the gaps ([`laws::skims_have_the_same_views`]) and the findings
 //!   ([`laws::skims_have_the_same_findings`]) are those of the reading.
+//! - What is saved of the skim, joined with the reading, is the reading
+//!   ([`laws::saved_skims_are_completed_by_readings`]).
 //!
 //! The skim of a well-formed file has the views of the reading of the file from the front
 //! ([`laws::skims_of_whole_files_are_read_from_the_front`]): no notes of such a file are alike.
