@@ -22,9 +22,9 @@ ghost use Rattle.mxf_skimmed.specs.Skims.{NoneAlike, disputed_beside, noted_besi
 
 use std::io::Read;
 
-/// A law of [`gather_skim`](mxf_read::gather_skim): where no two notes of a container's packets are alike that a reading
-/// holds, a skim holds its notes, but that the values of a container's packets were passed over which no saved catalogue
-/// has. All other notes are as they were read. Without a catalogue each packet of a container was passed over.
+/// A law of [`gather_skim`](mxf_read::gather_skim): where no two notes of a container's packets are alike that a
+/// reading holds, a skim holds its notes, but that packets of a container were passed over of which no saved catalogue
+/// has the note. All other notes are as they were read. Without a catalogue each packet of a container was passed over.
 pub fn skims_hold_what_was_read()
     ensures held { (read saved notes : List NoteParts) → IsContent notes
         → ((n : NoteParts) → In n notes ↔ IsLocated (λ m. In m (read ++ saved)) n) → NoneAlike notes
@@ -35,8 +35,8 @@ pub fn skims_hold_what_was_read()
     ensures alone { (notes : List NoteParts) → skim_beside [] notes ≡ skim_of notes }
 {}
 
-/// A law of skims: where no two notes of a container's packets are alike, the notes of a skim are a content, if those of
-/// the reading are, and each is a note. They are reduced in any case, if those of the reading are.
+/// A law of skims: where no two notes of a container's packets are alike, the notes of a skim are a content, if those
+/// of the reading are, and each is a note. They are reduced in any case, if those of the reading are.
 pub fn skims_are_contents()
     ensures rising { (saved notes : List NoteParts)
         → IsContent notes → NoneAlike notes → IsContent (skim_beside saved notes) }
@@ -78,8 +78,8 @@ pub fn skims_have_the_same_findings()
         → findings_of (skim_beside saved notes) ≡ findings_of notes }
 {}
 
-/// A law of [`with_heads`](mxf_skim::with_heads): what is saved of a skim, joined with the content of the reading, is that
-/// content.
+/// A law of [`with_heads`](mxf_skim::with_heads): what is saved of a skim, joined with the content of the reading, is
+/// that content.
 pub fn saved_skims_are_completed_by_readings()
     ensures { (saved notes : List NoteParts) → IsContent notes → AreReduced notes
         → reduced_union (with_heads (skim_beside saved notes)) notes ≡ notes }
