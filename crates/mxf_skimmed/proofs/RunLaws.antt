@@ -64,8 +64,8 @@ not_read x read = elim (is_of_container x) as (λ b. is_of_container x ≡ b
           let own = (and_parts (is_of_container x) (not (bytes_eq x.held no_digest)) r).0 in cc (c, own)
     ] refl read
 
-pub passed_is : (m : NoteParts) → is_of_container m ≡ true → is_passed_over (passed_note m) ≡ true
-passed_is m c = ap (λ (b : Bool). b && bytes_eq no_digest no_digest)
+pub passed_over_is : (m : NoteParts) → is_of_container m ≡ true → is_passed_over (passed_note m) ≡ true
+passed_over_is m c = ap (λ (b : Bool). b && bytes_eq no_digest no_digest)
     (and_parts m.whole (is_in_container m.key m.length) c).1
 
 -- where the value of a container's packet wasn't read, a skim makes the same of it
@@ -187,7 +187,7 @@ module _ (read saved notes : List NoteParts) (handed passing : NoteParts → Typ
               | inl own ↦ own
               | inr s ↦ elim (was_read x) as (λ b. was_read x ≡ b → skimmed x ≡ x) [
                 | true ↦ λ was.
-                    let passed : is_passed_over n ≡ true = ap is_passed_over (is ∙ s.1) ∙ passed_is x s.0 in
+                    let passed : is_passed_over n ≡ true = ap is_passed_over (is ∙ s.1) ∙ passed_over_is x s.0 in
                     absurd (p.unread passed x ((by_skim x).1 (inr ((is_held-In x saved).0 e))) was
                     (sym (skimmed_head x) ∙ ap head_note (sym is)))
                 | false ↦ λ none. unread_stays x s.0 none
@@ -203,7 +203,7 @@ module _ (read saved notes : List NoteParts) (handed passing : NoteParts → Typ
     )
   ])
 
-  pub is_the_skim : IsTheSkim passing (skim_beside saved notes)
+  is_the_skim : IsTheSkim passing (skim_beside saved notes)
   is_the_skim = record {
     content = IsContent-skim saved notes content apart;
     members = λ n. (

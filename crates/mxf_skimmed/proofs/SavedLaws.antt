@@ -10,7 +10,7 @@ use Rattle.mxf_skim.specs.Saving.{saved_note, with_heads}
 use Rattle.mxf_read.proofs.SkimsAndReadings.{as_noted}
 use Rattle.mxf_skimmed.specs.Skims.{NoneAlike, noted_beside, skim_beside}
 use Rattle.mxf_skimmed.proofs.SkimmedNotes.{either_note}
-use Rattle.mxf_skimmed.proofs.RunLaws.{passed_is, skim_of_parts, skimmed_head}
+use Rattle.mxf_skimmed.proofs.RunLaws.{passed_over_is, skim_of_parts, skimmed_head}
 
 module _ (saved notes : List NoteParts) where
   -- the reading has what is saved of each of its notes
@@ -25,7 +25,7 @@ module _ (saved notes : List NoteParts) where
   skim_saved m i = elim (as_noted m) [
     | inl e ↦ subst (λ x. has_note notes (saved_note x)) (sym e) (own_saved m i)
     | inr s ↦
-        let over : is_passed_over (skimmed m) ≡ true = ap is_passed_over s.1 ∙ passed_is m s.0 in
+        let over : is_passed_over (skimmed m) ≡ true = ap is_passed_over s.1 ∙ passed_over_is m s.0 in
         inr (m, i, sym (ap (λ b. if b then head_note (skimmed m) else skimmed m) over ∙ skimmed_head m))
   ]
 

@@ -1,6 +1,6 @@
 -- What a skim makes of a note: all stays but what is held of a container's packet, and no view reads that.
 use Rattle.mxf_views.proofs.Common.{◌≡◌, ℕ, Bool, true, false, ◌&&◌, if◌then◌else◌, List, None, Result, refl, sym, ap}
-use Rattle.mxf_views.proofs.Common.{◌∙◌, rules, NoteParts, and_parts, keeps_value, kind_of, read_as}
+use Rattle.mxf_views.proofs.Common.{◌∙◌, rules, NoteParts, and_parts, keeps_value, kind_of, head_note, read_as}
 use Rattle.std.specs.Result.{result_ok}
 use Rattle.mxf_klv.specs.declared.kinds.Kind.{Kind}
 use Rattle.mxf_klv.specs.declared.kinds.Kind.TheVariants.{Essence, Other}
@@ -28,16 +28,21 @@ skimmed_is n = elim (is_of_container n) as (λ b. is_of_container n ≡ b
       | false ↦ λ e. refl
     ] refl
 
-pub passed_is : (n : NoteParts) → is_of_container n ≡ true → skimmed n ≡ passed_note n
+passed_is : (n : NoteParts) → is_of_container n ≡ true → skimmed n ≡ passed_note n
 passed_is n e = ap (λ (b : Bool). if b then passed_note n else n) e
 
 skim_stays : (n : NoteParts) → is_of_container n ≡ false → skimmed n ≡ n
 skim_stays n e = ap (λ (b : Bool). if b then passed_note n else n) e
 
+-- two notes of a container's packets with one head become one
+pub alike_are_one : (m n : NoteParts) → is_of_container m ≡ true → is_of_container n ≡ true
+    → head_note m ≡ head_note n → skimmed m ≡ skimmed n
+alike_are_one m n c d e = passed_is m c ∙ ap passed_note e ∙ sym (passed_is n d)
+
 -- ---- values that are kept
 
 -- a container's packet keeps none
-pub keeps_none : (n : NoteParts) → is_of_container n ≡ true → keeps_value n ≡ false
+keeps_none : (n : NoteParts) → is_of_container n ≡ true → keeps_value n ≡ false
 keeps_none n e =
     let p = and_parts n.whole (is_in_container n.key n.length) e in
     let whole = p.0 in

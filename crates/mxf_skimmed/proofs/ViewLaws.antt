@@ -102,7 +102,7 @@ module _ (saved : List NoteParts) where
   -- ---- lists of notes
 
   -- what is chosen of other kinds is as it was
-  pub chosen_stay : (p : NoteParts → Bool) (notes : List NoteParts) → ((n : NoteParts) → p (noted n) ≡ p n)
+  chosen_stay : (p : NoteParts → Bool) (notes : List NoteParts) → ((n : NoteParts) → p (noted n) ≡ p n)
       → ((n : NoteParts) → p n ≡ true → noted n ≡ n) → filter p (map noted notes) ≡ filter p notes
   chosen_stay p [] same is = refl
   chosen_stay p (n ∷ notes) same is =
@@ -115,7 +115,7 @@ module _ (saved : List NoteParts) where
         | false ↦ λ e. more
       ] refl
 
-  pub partitions_stay : (notes : List NoteParts) → partitions_among (map noted notes) ≡ partitions_among notes
+  partitions_stay : (notes : List NoteParts) → partitions_among (map noted notes) ≡ partitions_among notes
   partitions_stay notes =
       filter_map_mapped partition_at noted notes ∙ (λ i. filter_map (λ n. partition_same n i) notes)
 

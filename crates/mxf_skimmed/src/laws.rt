@@ -1,5 +1,6 @@
 //! The laws of what skims hold and say: functions that do nothing, whose clauses hold of all values.
-ghost use Rattle.std.specs.Prelude.{◌≡◌, ◌↔◌, ◌++◌, false, List, [], map};
+ghost use Rattle.std.specs.Prelude.{◌≡◌, ◌↔◌, ◌++◌, false, true, List, [], map};
+ghost use Rattle.mxf_klv.specs.Note.{head_note};
 ghost use Rattle.mxf_klv.specs.Parts.{NoteParts, PacketParts};
 ghost use Rattle.mxf_klv.specs.Rising.{In};
 ghost use Rattle.mxf_catalogue.specs.Content.{AreReduced, IsCatalogue, IsContent, IsLocated, reduced_union};
@@ -11,7 +12,7 @@ ghost use Rattle.mxf_views.specs.WellFormed.{IsWellFormed};
 ghost use Rattle.mxf_views.specs.WholeFile.{AreNotesOf};
 ghost use Rattle.mxf_findings.specs.Findings.{findings_of};
 ghost use Rattle.mxf_findings.specs.SameViews.{SameViews};
-ghost use Rattle.mxf_skim.specs.PassedOver.{is_of_container, noted_by};
+ghost use Rattle.mxf_skim.specs.PassedOver.{is_of_container, noted_by, skimmed};
 ghost use Rattle.mxf_skim.specs.Saving.{with_heads};
 ghost use Rattle.mxf_skim.specs.declared.scan.Scan.TheVariants.{Skim};
 ghost use Rattle.mxf_read.specs.Gathering.{HandedBy};
@@ -25,6 +26,7 @@ use std::io::Read;
 /// A law of [`gather_skim`](mxf_read::gather_skim): where no two notes of a container's packets are alike that a
 /// reading holds, a skim holds its notes, but that packets of a container were passed over of which no saved catalogue
 /// has the note. All other notes are as they were read. Without a catalogue each packet of a container was passed over.
+/// Two notes of a container's packets with one head are one to a skim.
 pub fn skims_hold_what_was_read()
     ensures held { (read saved notes : List NoteParts) → IsContent notes
         → ((n : NoteParts) → In n notes ↔ IsLocated (λ m. In m (read ++ saved)) n) → NoneAlike notes
@@ -33,6 +35,8 @@ pub fn skims_hold_what_was_read()
         → In n (skim_beside saved notes) ↔ ((m : NoteParts) × In m notes × (n ≡ noted_beside saved m)) }
     ensures others { (saved : List NoteParts) (n : NoteParts) → is_of_container n ≡ false → noted_beside saved n ≡ n }
     ensures alone { (notes : List NoteParts) → skim_beside [] notes ≡ skim_of notes }
+    ensures alike { (m n : NoteParts) → is_of_container m ≡ true → is_of_container n ≡ true
+        → head_note m ≡ head_note n → skimmed m ≡ skimmed n }
 {}
 
 /// A law of skims: where no two notes of a container's packets are alike, the notes of a skim are a content, if those
