@@ -172,7 +172,7 @@ all_compared_more sources places overlaps i d old new within before one =
 
 -- ---- overlaps of places
 
-number_of : {X : Type 0} (xs : List X) (x : X) → In x xs → (k : ℕ) × (slice_get xs k ≡ Some x)
+pub number_of : {X : Type 0} (xs : List X) (x : X) → In x xs → (k : ℕ) × (slice_get xs k ≡ Some x)
 number_of [] x h = absurd h
 number_of (y ∷ xs) x (inl e) = (0, ap Some (sym e))
 number_of (y ∷ xs) x (inr h) = let k = number_of xs x h in (suc k.0, k.1)
@@ -195,7 +195,7 @@ are_overlaps extents places overlaps runs are q h =
 
 -- ---- sources and their extents
 
-extent_of : (sources : List SourceParts) (extents : List Extent) (k : ℕ) (s : SourceParts) → HaveExtents sources extents
+pub extent_of : (sources : List SourceParts) (extents : List Extent) (k : ℕ) (s : SourceParts) → HaveExtents sources extents
     → slice_get sources k ≡ Some s
     → (e : Extent) × (slice_get extents k ≡ Some e) × (s.offset ≡ e.offset) × (length s.bytes ≡ e.size)
 extent_of [] extents k s h is = absurd cc
@@ -209,7 +209,7 @@ extent_of (t ∷ sources) (e ∷ extents) zero s h is =
     )
 extent_of (t ∷ sources) (e ∷ extents) (suc k) s h is = extent_of sources extents k s h.2 is
 
-source_of : (sources : List SourceParts) (extents : List Extent) (k : ℕ) (e : Extent) → HaveExtents sources extents
+pub source_of : (sources : List SourceParts) (extents : List Extent) (k : ℕ) (e : Extent) → HaveExtents sources extents
     → slice_get extents k ≡ Some e
     → (s : SourceParts) × (slice_get sources k ≡ Some s) × (s.offset ≡ e.offset) × (length s.bytes ≡ e.size)
 source_of sources [] k e h is = absurd cc

@@ -20,3 +20,5 @@ pub mod DifferingLaws
 pub mod ComparingLaws
 pub mod OutsideLaws
 pub mod ReadBytes
+pub mod ExcerptLaws
+pub mod ExcerptSources

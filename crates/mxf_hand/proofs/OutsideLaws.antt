@@ -11,7 +11,7 @@ use Rattle.mxf_hand.specs.Outside.{with_all_outside, with_outside, with_some}
 
 -- ---- offsets from a start up to an end
 
-LiesIn-with_some : (start end : ℕ) (runs : List Run) (x : ℕ)
+pub LiesIn-with_some : (start end : ℕ) (runs : List Run) (x : ℕ)
     → LiesIn (with_some start end runs) x ↔ LiesIn runs x ⊎ ((start ≤ x) × (x < end))
 LiesIn-with_some start end runs x = elim (nat_lt start end) as (λ b. nat_lt start end ≡ b
     → LiesIn (if b then with_run (run start end) runs else runs) x ↔ LiesIn runs x ⊎ ((start ≤ x) × (x < end))) [
@@ -38,7 +38,7 @@ LiesIn-with_some start end runs x = elim (nat_lt start end) as (λ b. nat_lt sta
           )
     ] refl
 
-IsCover-with_some : (start end : ℕ) (runs : List Run) → end ≤ greatest_end → IsCover runs
+pub IsCover-with_some : (start end : ℕ) (runs : List Run) → end ≤ greatest_end → IsCover runs
     → IsCover (with_some start end runs)
 IsCover-with_some start end runs most c = elim (nat_lt start end) as (λ b. nat_lt start end ≡ b
     → IsCover (if b then with_run (run start end) runs else runs)) [

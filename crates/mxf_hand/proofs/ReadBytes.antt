@@ -1,5 +1,5 @@
 -- Bytes that stand in a source are those that it gives.
-use Rattle.std.proofs.Common.{◌≡◌, ◌+◌, ◌-◌, ◌<◌, ◌≤◌, ◌++◌, ℕ, zero, suc, List, [], ◌∷◌, Option, Some, refl, sym, ap}
+use Rattle.std.proofs.Common.{◌≡◌, ◌+◌, ◌-◌, ◌≤◌, ◌++◌, ℕ, zero, suc, List, [], ◌∷◌, Option, Some, refl, sym, ap}
 use Rattle.std.proofs.Common.{◌∙◌, subst, arith, inl, inr, length, drop, get_or, take, map, length-take}
 use Rattle.std.specs.Prelude.{slice_get, IfOk, IfSome, Result, Ok, Err}
 use Rattle.std.specs.List.{range_with_len}

@@ -12,3 +12,5 @@ pub mod Differing
 pub mod Outside
 pub mod Noting
 pub mod InMemory
+pub mod Excerpts
+pub mod Passing

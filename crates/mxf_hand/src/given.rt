@@ -5,6 +5,7 @@ ghost use Rattle.mxf_read.specs.Gathering.{piece_limit};
 
 mod comparing;
 mod differing;
+mod excerpt;
 mod in_memory;
 mod noting;
 mod outside;
@@ -13,6 +14,7 @@ mod placing;
 mod sources;
 mod stepping;
 
+pub use excerpt::{Excerpt, excerpts};
 pub use in_memory::{BytesAt, InMemory};
 use mxf_catalogue::Cover;
 use mxf_klv::{MAX, OutOfMemory};

@@ -1,5 +1,5 @@
 //! The laws of what is put together: functions that do nothing, whose clauses hold of all values.
-ghost use Rattle.std.specs.Prelude.{◌≡◌, ℕ, List};
+ghost use Rattle.std.specs.Prelude.{◌≡◌, ◌↔◌, ℕ, List};
 ghost use Rattle.mxf_klv.specs.Parts.{NoteParts, PacketParts};
 ghost use Rattle.mxf_klv.specs.Piece.{notes_from};
 ghost use Rattle.mxf_klv.specs.Rising.{SameMembers};
@@ -7,7 +7,12 @@ ghost use Rattle.mxf_catalogue.specs.Content.{AreReduced, IsContent, has_note, r
 ghost use Rattle.mxf_catalogue.specs.Disputes.{IsClear};
 ghost use Rattle.mxf_catalogue.specs.History.{Hands, History, content};
 ghost use Rattle.mxf_views.specs.WellFormed.{IsWellFormed};
-ghost use Rattle.mxf_hand.specs.Given.{SourceParts};
+ghost use Rattle.mxf_skim.specs.declared.scan.Scan.{Scan};
+ghost use Rattle.mxf_skim.specs.declared.scan.Scan.TheVariants.{Full};
+ghost use Rattle.mxf_hand.specs.Excerpts.{AreExcerptsBeside, HaveBytes, MayBeAsked};
+ghost use Rattle.mxf_hand.specs.Given.{HaveExtents, IsAtHand, IsGiven, IsGivenAs, SourceParts};
+ghost use Rattle.mxf_hand.specs.declared.given.Extent.{Extent};
+ghost use Rattle.mxf_hand.specs.declared.given.excerpt.Excerpt.{Excerpt};
 ghost use Rattle.mxf_hand.specs.File.{AreBytesOfFile, AreOfFile, BeginAtPackets, HeadsHaveValues, IsAllAtHand};
 ghost use Rattle.mxf_hand.specs.Hand.{AreOf, HandBytes};
 ghost use Rattle.mxf_hand.specs.Rounds.{put_together, round, rounds};
@@ -68,4 +73,25 @@ pub fn saved_beside_its_sources()
 pub fn put_together_is_a_history()
     ensures { (h : HandBytes) (before : History) → (after : History)
         × (content after ≡ put_together h (content before)) × ((n : NoteParts) → Hands before n → Hands after n) }
+{}
+
+/// A law of [`excerpts`](crate::excerpts): excerpts give what their sources give, at each offset that these give. An
+/// offset that may be asked for is at hand in excerpts exactly if it is in the sources; of a reading each offset is.
+pub fn excerpts_are_at_hand_as_their_sources()
+    ensures source { (scan : Scan) (notes : List NoteParts) (extents : List Extent) (excerpts : List Excerpt)
+        (sources parts : List SourceParts) (x byte : ℕ) → HaveExtents sources extents
+        → AreExcerptsBeside scan notes extents excerpts → HaveBytes sources parts excerpts → IsGivenAs parts x byte
+        → IsGivenAs sources x byte }
+    ensures given { (scan : Scan) (notes : List NoteParts) (extents : List Extent) (excerpts : List Excerpt)
+        (sources parts : List SourceParts) (x : ℕ) → HaveExtents sources extents
+        → AreExcerptsBeside scan notes extents excerpts → HaveBytes sources parts excerpts → IsGiven sources x
+        → IsGiven parts x }
+    ensures asked { (scan : Scan) (notes : List NoteParts) (extents : List Extent) (excerpts : List Excerpt)
+        (sources parts : List SourceParts) (x : ℕ) → HaveExtents sources extents
+        → AreExcerptsBeside scan notes extents excerpts → HaveBytes sources parts excerpts → MayBeAsked notes x
+        → IsAtHand parts x ↔ IsAtHand sources x }
+    ensures all { (notes : List NoteParts) (extents : List Extent) (excerpts : List Excerpt)
+        (sources parts : List SourceParts) (x : ℕ) → HaveExtents sources extents
+        → AreExcerptsBeside Full notes extents excerpts → HaveBytes sources parts excerpts
+        → IsAtHand parts x ↔ IsAtHand sources x }
 {}

@@ -8,6 +8,7 @@
 //!
 //! What sources give of the file is a [`Given`], and [`Sources`] are read again at its offsets. [`put_together_by`]
 //! does the same by a scan: a skim passes over the values of a container's packets and doesn't read them.
+//! [`excerpts`] says what of sources it needs: a skim doesn't compare these values either.
 //!
 //! What is proved: the answer is its function of the content, of the scan and of the bytes at hand, whichever source
 //! they are read of. Laws: the order of sources doesn't matter ([`laws::one_content_of_sources`]), what is held stays
@@ -41,6 +42,8 @@ mod putting;
 mod section;
 mod settling;
 
-pub use given::{BytesAt, Extent, Given, InMemory, Reading, SourceFault, Sources};
+pub use given::{
+    BytesAt, Excerpt, Extent, Given, InMemory, Reading, SourceFault, Sources, excerpts,
+};
 pub use putting::{PutTogether, put_together, put_together_by};
 pub use settling::settle;

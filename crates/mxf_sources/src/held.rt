@@ -2,7 +2,9 @@
 use crate::opened::{Opened, open_sources, ungathered};
 use crate::reopened::Reopened;
 use crate::system::System;
-use mxf_hand::{Extent, Given, PutTogether, SourceFault, put_together_by, settle};
+use mxf_hand::{
+    Excerpt, Extent, Given, PutTogether, SourceFault, excerpts, put_together_by, settle,
+};
 use mxf_hints::RunFault;
 use mxf_places::AtHand;
 use mxf_read::{GatherFault, Gathered, PartFault, PassOver, PieceReports, gather, gather_skim};
@@ -141,9 +143,35 @@ fn put_views_together<R: System>(
     sources: &[Source<'_>],
     last: &LastFault,
 ) -> Result<PutTogether, SourceFault> {
-    let given = Given::of(rt.alloc(), Vec::from_slice(rt.alloc(), extents)?)?;
-    let mut reopened = Reopened::new(rt, sources, last);
-    put_together_by(rt.alloc(), scan, views, given, &mut reopened)
+    let excerpts = excerpts(rt.alloc(), scan, &views, extents)?;
+    let given = Given::of(rt.alloc(), extents_of(rt.alloc(), &excerpts)?)?;
+    let mut reopened = Reopened::new(rt, sources, extents, &excerpts, last);
+    match put_together_by(rt.alloc(), scan, views, given, &mut reopened) {
+        Ok(together) => Ok(together),
+        Err(fault) => Err(fault_of_source(fault, &excerpts)),
+    }
+}
+
+/// Where the bytes of excerpts lie. They take memory.
+fn extents_of(alloc: Global, excerpts: &[Excerpt]) -> Result<Vec<Extent>, SourceFault> {
+    let mut extents = Vec::new(alloc);
+    for excerpt in excerpts {
+        extents.push(excerpt.extent)?;
+    }
+    Ok(extents)
+}
+
+/// The fault with the number of the source in place of that of its excerpt.
+fn fault_of_source(fault: SourceFault, excerpts: &[Excerpt]) -> SourceFault {
+    match fault {
+        SourceFault::OutOfMemory => SourceFault::OutOfMemory,
+        SourceFault::ReadFault { source_number } => match excerpts.get(source_number) {
+            Some(excerpt) => SourceFault::ReadFault {
+                source_number: excerpt.source,
+            },
+            None => SourceFault::ReadFault { source_number },
+        },
+    }
 }
 
 /// Why bytes of the sources weren't read again.

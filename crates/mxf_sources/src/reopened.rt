@@ -1,7 +1,7 @@
 //! Sources that are read again: their files are opened once more, by their paths.
 ghost use Rattle.std.specs.Prelude.{◌≤◌, IfOk, length};
 
-use mxf_hand::{Extent, Sources};
+use mxf_hand::{Excerpt, Extent, Sources};
 use mxf_klv::MAX;
 use mxf_read::Step;
 use mxf_saving::{LastFault, Source};
@@ -39,50 +39,93 @@ impl Rest {
     }
 }
 
-/// The sources of a run, whose files are opened again where their bytes are asked for. One at most is open.
+/// Excerpts of the sources of a run, whose files are opened again where their bytes are asked for. Two at most are
+/// open: those that are compared.
 #[derive(Drop)]
 pub struct Reopened<'r, 's, R: Files<File = File>> {
     rt: &'r R,
     sources: &'s [Source<'s>],
+    extents: &'s [Extent],
+    excerpts: &'s [Excerpt],
     open: Option<OpenFile>,
+    other: Option<OpenFile>,
     last: &'r LastFault,
 }
 
 impl<'r, 's, R: Files<File = File>> Reopened<'r, 's, R> {
-    /// None is open yet. What the system says of a failed call is kept in `last`.
-    pub fn new(rt: &'r R, sources: &'s [Source<'s>], last: &'r LastFault) -> Reopened<'r, 's, R> {
+    /// None is open yet. The extents are those of the sources. What the system says of a failed call is kept in `last`.
+    pub fn new(
+        rt: &'r R,
+        sources: &'s [Source<'s>],
+        extents: &'s [Extent],
+        excerpts: &'s [Excerpt],
+        last: &'r LastFault,
+    ) -> Reopened<'r, 's, R> {
         Reopened {
             rt,
             sources,
+            extents,
+            excerpts,
             open: None,
+            other: None,
             last,
         }
     }
 
     /// The file of the source with that number, which is opened unless it is open.
     fn take_file(&mut self, source: usize, path: &str) -> io::Result<File> {
-        if let Some(open) = self.open.take() {
-            if open.source == source {
-                return Ok(open.file);
-            }
+        if let Some(file) = file_of(&mut self.open, source) {
+            return Ok(file);
+        }
+        if let Some(file) = file_of(&mut self.other, source) {
+            return Ok(file);
         }
         fs::open(self.rt, path)
     }
 
-    /// Reads once of the bytes of a source, after that many of them.
-    fn read_behind(&mut self, source: usize, position: u64, room: &mut [u8]) -> io::Result<usize>
+    /// The number of the source of an excerpt, and how many of its bytes lie before those of the excerpt.
+    fn place_of(&self, number: usize) -> Option<(usize, u64)> {
+        let excerpt = self.excerpts.get(number)?;
+        let extent = self.extents.get(excerpt.source)?;
+        let before = excerpt.extent.offset().saturating_sub(extent.offset());
+        Some((excerpt.source, before))
+    }
+
+    /// Reads once of the bytes of an excerpt, after that many of them.
+    fn read_behind(&mut self, number: usize, position: u64, room: &mut [u8]) -> io::Result<usize>
         ensures { IfOk result (λ count. count ≤ length room.new) }
     {
+        let Some((source, before)) = self.place_of(number) else {
+            return Err(io::Error::from(ErrorKind::NotFound));
+        };
         let Some(named) = self.sources.get(source) else {
             return Err(io::Error::from(ErrorKind::NotFound));
         };
-        let rest = Rest::of(named, position);
+        let rest = Rest::of(named, before.saturating_add(position));
         let mut file = self.take_file(source, named.path())?;
         file.seek(SeekFrom::Start(rest.start))?;
         let wanted = rest.size.min(room.len() as u64) as usize;
         let count = file.read(&mut room[..wanted])?;
-        self.open = Some(OpenFile { source, file });
+        self.keep_open(OpenFile { source, file });
         Ok(count)
+    }
+
+    /// Keeps the file open, and the one that was read before it.
+    fn keep_open(&mut self, file: OpenFile) {
+        if let Some(last) = self.open.take() {
+            self.other = Some(last);
+        }
+        self.open = Some(file);
+    }
+}
+
+/// Takes the file, if it is that of the source with that number.
+fn file_of(open: &mut Option<OpenFile>, source: usize) -> Option<File> {
+    let is_its = matches!(open, Some(file) if file.source == source);
+    if is_its {
+        open.take().map(|open| open.file)
+    } else {
+        None
     }
 }
 

@@ -38,7 +38,7 @@ fn add_outside(outside: &mut Cover, run: Run, holes: &Cover) -> Result<(), OutOf
 }
 
 /// Adds the offsets from a start up to an end, if there is one.
-fn add_some(outside: &mut Cover, start: u64, end: u64) -> Result<(), OutOfMemory>
+pub(super) fn add_some(outside: &mut Cover, start: u64, end: u64) -> Result<(), OutOfMemory>
     requires { end ≤ greatest_end }
     ensures { OnOk result (outside.new ≡ with_some start end outside.old) }
 {
