@@ -1,6 +1,6 @@
 -- The texts that name sources on the command line (this project's profile).
 use Rattle.std.specs.Prelude.{◌≡◌, ℕ, ◌+◌, ◌-◌, ◌*◌, ◌<◌, ◌≤◌, ◌⊎◌, true, List, [], ◌∷◌, ◌++◌, length, slice_index}
-use Rattle.std.specs.Prelude.{codes, Option, None, Some, Result, Ok, Err}
+use Rattle.std.specs.Prelude.{codes, Bool, false, Option, None, Some, Result, Ok, Err}
 use Rattle.std.specs.Str.{all_ascii_digits}
 use Rattle.mxf_klv.specs.Note.{greatest_end}
 use Rattle.mxf_saving.specs.declared.source.Source.{Source}
@@ -35,6 +35,27 @@ size_of (Piece offset path) = None
 size_of (Range offset path) = None
 size_of (Slice offset size path) = Some size
 size_of (Saved path) = None
+
+-- It is a range.
+abbrev pub is_range : SourceParts → Bool
+is_range (Piece offset path) = false
+is_range (Range offset path) = true
+is_range (Slice offset size path) = false
+is_range (Saved path) = false
+
+-- Of a piece, a range or a slice the offset of its first byte, and the path of its file.
+abbrev pub place_of : SourceParts → Option (ℕ × List ℕ)
+place_of (Piece offset path) = Some (offset, path)
+place_of (Range offset path) = Some (offset, path)
+place_of (Slice offset size path) = Some (offset, path)
+place_of (Saved path) = None
+
+-- The same piece or range from another offset on; no slice, since its bytes lie where they lie in its file.
+abbrev pub moved_to : ℕ → SourceParts → Option SourceParts
+moved_to at (Piece offset path) = Some (Piece at path)
+moved_to at (Range offset path) = Some (Range at path)
+moved_to at (Slice offset size path) = None
+moved_to at (Saved path) = None
 
 abbrev pub at_scheme : List ℕ
 at_scheme = codes "at:"

@@ -1,10 +1,12 @@
 //! Sources, and the texts that name them.
 ghost use Rattle.std.specs.Prelude.{◌≡◌, ◌≤◌, ℕ, List, Result, Ok, Err, IfOk, IfErr, MatchOption};
+ghost use Rattle.std.specs.Option.{option_map};
 ghost use Rattle.std.specs.List.{list_all};
 ghost use Rattle.std.specs.Char.{is_ascii_digit};
 ghost use Rattle.mxf_klv.specs.Note.{greatest_end};
 ghost use Rattle.mxf_saving.specs.Sources.{IsLength, IsOffset, ReadsPlace, ReadsSlice, ReadsSource, SourceParts};
-ghost use Rattle.mxf_saving.specs.Sources.{SplitsLength, SplitsSource, path_of, size_of, source_parts};
+ghost use Rattle.mxf_saving.specs.Sources.{SplitsLength, SplitsSource, is_range, moved_to, path_of, place_of, size_of};
+ghost use Rattle.mxf_saving.specs.Sources.{source_parts};
 ghost use Rattle.mxf_saving.specs.declared.source.SourceWordFault.{SourceWordFault};
 
 use mxf_klv::MAX;
@@ -73,12 +75,16 @@ impl<'a> Source<'a> {
     }
 
     /// Whether it is a range: the bytes of its run may lie anywhere in packets.
-    pub fn is_range(&self) -> bool {
+    pub fn is_range(&self) -> bool
+        ensures { result ≡ is_range (source_parts self.now) }
+    {
         matches!(self, Source::Range { .. })
     }
 
     /// Of a piece, a range or a slice the offset of its first byte, and the path of its file.
-    pub fn place(&self) -> Option<(u64, &'a str)> {
+    pub fn place(&self) -> Option<(u64, &'a str)>
+        ensures { option_map (λ place. (place.0, place.1.now)) result ≡ place_of (source_parts self.now) }
+    {
         match *self {
             Source::Piece { offset, path }
             | Source::Range { offset, path }
@@ -89,7 +95,9 @@ impl<'a> Source<'a> {
 
     /// The same piece or range, from another offset on. A slice has none, since its bytes lie in the recording where they
     /// lie in its file; nor has a catalogue.
-    pub fn at(&self, offset: u64) -> Option<Source<'a>> {
+    pub fn at(&self, offset: u64) -> Option<Source<'a>>
+        ensures { option_map source_parts result ≡ moved_to offset (source_parts self.now) }
+    {
         match *self {
             Source::Piece { path, .. } => Some(Source::Piece { offset, path }),
             Source::Range { path, .. } => Some(Source::Range { offset, path }),
