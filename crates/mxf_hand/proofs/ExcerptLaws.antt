@@ -14,7 +14,7 @@ use Rattle.std.proofs.lemmas.Bool.{false≢true}
 use Rattle.std.specs.Prelude.{Err, IfOk, Ok, Result}
 use Rattle.mxf_hand.specs.Excerpts.{AreExcerpts, HaveMore, IsOffsetOf, IsOfRun, IsPassed, LiesAround, LiesInside}
 use Rattle.mxf_hand.specs.Outside.{with_some}
-use Rattle.mxf_hand.specs.Passing.{with_around, with_arounds, with_inside, with_insides}
+use Rattle.mxf_hand.specs.Passing.{with_around, with_each, with_inside}
 use Rattle.mxf_hand.specs.Places.{LiesInExtent}
 use Rattle.mxf_hand.specs.declared.given.Extent.{Extent}
 use Rattle.mxf_hand.specs.declared.given.excerpt.Excerpt.{Excerpt}
@@ -79,25 +79,6 @@ LiesIn-with_inside n runs x =
       | false ↦ λ e. (inl, λ l. elim l [ inl k ↦ k | inr k ↦ absurd (false≢true (sym e ∙ k.0)) ])
     ] refl
 
-pub LiesIn-insides : (runs : List Run) (notes : List NoteParts) (x : ℕ)
-    → LiesIn (with_insides runs notes) x ↔ LiesIn runs x ⊎ ((n : NoteParts) × In n notes × IsInside n x)
-LiesIn-insides runs [] x = (inl, λ l. elim l [ inl k ↦ k | inr k ↦ absurd k.1 ])
-LiesIn-insides runs (n ∷ notes) x =
-    let ih = LiesIn-insides (with_inside n runs) notes x in
-    let one = LiesIn-with_inside n runs x in (
-      λ l. elim (ih.0 l) [
-        | inl k ↦ elim (one.0 k) [ inl m ↦ inl m | inr m ↦ inr (n, inl refl, m) ]
-        | inr k ↦ inr (k.0, inr k.1, k.2)
-      ],
-      λ l. ih.1 (elim l [
-        | inl k ↦ inl (one.1 (inl k))
-        | inr k ↦ elim k.1 [
-          | inl same ↦ inl (one.1 (inr (subst (λ (m : NoteParts). IsInside m x) same k.2)))
-          | inr h ↦ inr (k.0, h, k.2)
-        ]
-      ]),
-    )
-
 abbrev pub IsAround : NoteParts → ℕ → Type 0
 IsAround n x = (n.whole ≡ false) × LiesAround n x × (x < greatest_end)
 
@@ -127,12 +108,15 @@ LiesIn-with_around n runs x =
       | true ↦ λ e. (inl, λ l. elim l [ inl k ↦ k | inr k ↦ absurd (false≢true (sym k.0 ∙ e)) ])
     ] refl
 
-pub LiesIn-arounds : (runs : List Run) (notes : List NoteParts) (x : ℕ)
-    → LiesIn (with_arounds runs notes) x ↔ LiesIn runs x ⊎ ((n : NoteParts) × In n notes × IsAround n x)
-LiesIn-arounds runs [] x = (inl, λ l. elim l [ inl k ↦ k | inr k ↦ absurd k.1 ])
-LiesIn-arounds runs (n ∷ notes) x =
-    let ih = LiesIn-arounds (with_around n runs) notes x in
-    let one = LiesIn-with_around n runs x in (
+-- What notes add is in the runs, and what was there.
+pub LiesIn-with_each : (add : NoteParts → List Run → List Run) (Adds : NoteParts → ℕ → Type 0)
+    → ((n : NoteParts) (runs : List Run) (x : ℕ) → LiesIn (add n runs) x ↔ LiesIn runs x ⊎ Adds n x)
+    → (runs : List Run) (notes : List NoteParts) (x : ℕ)
+    → LiesIn (with_each add runs notes) x ↔ LiesIn runs x ⊎ ((n : NoteParts) × In n notes × Adds n x)
+LiesIn-with_each add Adds adds runs [] x = (inl, λ l. elim l [ inl k ↦ k | inr k ↦ absurd k.1 ])
+LiesIn-with_each add Adds adds runs (n ∷ notes) x =
+    let ih = LiesIn-with_each add Adds adds (add n runs) notes x in
+    let one = adds n runs x in (
       λ l. elim (ih.0 l) [
         | inl k ↦ elim (one.0 k) [ inl m ↦ inl m | inr m ↦ inr (n, inl refl, m) ]
         | inr k ↦ inr (k.0, inr k.1, k.2)
@@ -140,22 +124,22 @@ LiesIn-arounds runs (n ∷ notes) x =
       λ l. ih.1 (elim l [
         | inl k ↦ inl (one.1 (inl k))
         | inr k ↦ elim k.1 [
-          | inl same ↦ inl (one.1 (inr (subst (λ (m : NoteParts). IsAround m x) same k.2)))
+          | inl same ↦ inl (one.1 (inr (subst (λ (m : NoteParts). Adds m x) same k.2)))
           | inr h ↦ inr (k.0, h, k.2)
         ]
       ]),
     )
 
 -- What lies inside values and not around heads is what isn't compared.
-pub are_passed : (notes : List NoteParts) (passed : List Run) → IsCover (with_insides [] notes)
-    → ((x : ℕ) → LiesIn passed x ↔ (LiesIn (with_insides [] notes) x × ¬ LiesIn (with_arounds [] notes) x))
+pub are_passed : (notes : List NoteParts) (passed : List Run) → IsCover (with_each with_inside [] notes)
+    → ((x : ℕ) → LiesIn passed x ↔ (LiesIn (with_each with_inside [] notes) x × ¬ LiesIn (with_each with_around [] notes) x))
     → (x : ℕ) → LiesIn passed x ↔ IsPassed notes x
 are_passed notes passed cover is x =
-    let insides = LiesIn-insides [] notes x in
-    let arounds = LiesIn-arounds [] notes x in (
+    let insides = LiesIn-with_each with_inside IsInside LiesIn-with_inside [] notes x in
+    let arounds = LiesIn-with_each with_around IsAround LiesIn-with_around [] notes x in (
       λ l.
           let k = (is x).0 l in
-          let most = below_greatest (with_insides [] notes) x cover k.0 in
+          let most = below_greatest (with_each with_inside [] notes) x cover k.0 in
           elim (insides.0 k.0) [
             | inl none ↦ absurd none.1
             | inr n ↦ record {
@@ -286,17 +270,6 @@ module _ (passed : List Run) (extents : List Extent) (count : ℕ) (own : Extent
       | inr k ↦ inr (k.1.from, k.1.before)
     ]),
   )
-
-pub no_excerpts : (passed : List Run) (extents : List Extent) → AreExcerpts passed extents 0 []
-no_excerpts passed extents = record {
-  within = λ e h. absurd h;
-  given = λ number x o. absurd (none number x o);
-  left = λ number x o free. absurd (none number x o);
-  once = λ e f x h k l m p. absurd h;
-}
-  where
-    none : (number x : ℕ) → IsOffsetOf extents 0 number x → ⊥
-    none number x o = let early = o.early in omega (arith, early)
 
 -- ---- steps of what makes them
 

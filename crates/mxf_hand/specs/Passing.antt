@@ -11,15 +11,12 @@ abbrev pub with_inside : NoteParts → List Run → List Run
 with_inside n runs =
     if is_of_container n then with_some (n.offset + 16 + n.width + 511) (end_of n - 511) runs else runs
 
-abbrev pub with_insides : List Run → List NoteParts → List Run
-with_insides runs [] = runs
-with_insides runs (n ∷ notes) = with_insides (with_inside n runs) notes
-
 -- Runs with the offsets around the note's packet, if it is a head.
 abbrev pub with_around : NoteParts → List Run → List Run
 with_around n runs =
     if not n.whole then with_some (n.offset - 511) (min (end_of n + 511) greatest_end) runs else runs
 
-abbrev pub with_arounds : List Run → List NoteParts → List Run
-with_arounds runs [] = runs
-with_arounds runs (n ∷ notes) = with_arounds (with_around n runs) notes
+-- Runs with what each note adds, one after another.
+abbrev pub with_each : (NoteParts → List Run → List Run) → List Run → List NoteParts → List Run
+with_each add runs [] = runs
+with_each add runs (n ∷ notes) = with_each add (add n runs) notes

@@ -4,7 +4,7 @@ ghost use Rattle.mxf_catalogue.specs.Covers.{IsCover};
 ghost use Rattle.mxf_catalogue.specs.Runs.{LiesIn};
 ghost use Rattle.mxf_hand.specs.Excerpts.{AreExcerpts, AreExcerptsBeside, ArePassed, HaveMore};
 ghost use Rattle.mxf_hand.specs.Places.{LiesInExtent};
-ghost use Rattle.mxf_hand.specs.Passing.{with_around, with_arounds, with_inside, with_insides};
+ghost use Rattle.mxf_hand.specs.Passing.{with_around, with_each, with_inside};
 
 use super::Extent;
 use super::outside::{add_some, outside};
@@ -61,7 +61,7 @@ fn passed_in(alloc: Global, scan: Scan, catalogue: &Catalogue) -> Result<Cover, 
 
 /// The offsets inside values of a container's packets.
 fn insides(alloc: Global, catalogue: &Catalogue) -> Result<Cover, OutOfMemory>
-    ensures { IfOk result (λ c. c ≡ with_insides [] catalogue.now) }
+    ensures { IfOk result (λ c. c ≡ with_each with_inside [] catalogue.now) }
 {
     let mut cover = Cover::new(alloc);
     for note in catalogue.notes() {
@@ -83,7 +83,7 @@ fn add_inside(cover: &mut Cover, note: &Note) -> Result<(), OutOfMemory>
 
 /// The offsets around the packets of which heads alone are held.
 fn around_heads(alloc: Global, catalogue: &Catalogue) -> Result<Cover, OutOfMemory>
-    ensures { IfOk result (λ c. c ≡ with_arounds [] catalogue.now) }
+    ensures { IfOk result (λ c. c ≡ with_each with_around [] catalogue.now) }
 {
     let mut cover = Cover::new(alloc);
     for note in catalogue.notes() {

@@ -1,7 +1,7 @@
 -- The offsets so far, with those of the notes that are to come.
 use Rattle.mxf_views.proofs.Common.{◌≡◌, []}
-use Rattle.mxf_hand.specs.Passing.{with_insides}
+use Rattle.mxf_hand.specs.Passing.{with_each, with_inside}
 use Rattle.mxf_hand.proofs.given.excerpt.insides.Given as goal
 
 abbrev pub invariant-loop-note : goal.invariant-loop-note
-invariant-loop-note l = with_insides l.cover l.note-iterator ≡ with_insides [] l.catalogue
+invariant-loop-note l = with_each with_inside l.cover l.note-iterator ≡ with_each with_inside [] l.catalogue
