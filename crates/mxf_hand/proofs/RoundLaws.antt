@@ -1,5 +1,8 @@
 -- Rounds, and contents to which notes are added in two steps.
-use Rattle.mxf_views.proofs.Common.{◌≡◌, ◌∙◌, ℕ, zero, suc, List, [], ◌∷◌, ◌++◌, ap, inl, inr, refl, sym, NoteParts, In}
+use Rattle.mxf_views.proofs.Common.{◌≡◌, ◌≢◌, ◌∙◌, ◌⊎◌, ◌<◌, ℕ, zero, suc, List, [], ◌∷◌, ◌++◌, ap, arith, inl, inr}
+use Rattle.mxf_views.proofs.Common.{refl, sym, NoteParts, In}
+use Rattle.mxf_klv.specs.NoteOrder.{note_cmp-IsAntisymmetric, note_total}
+use Rattle.mxf_catalogue.specs.ReducedLaws.{same_or_not}
 use Rattle.mxf_views.proofs.Common.{AreReduced, IsContent, has_note, reduced_union, AreReduced-reduced_union}
 use Rattle.mxf_views.proofs.Common.{IsContent-reduced_union, has-reduced_union, one_reduced, reduced_with-present}
 use Rattle.mxf_hand.specs.Hand.{HandBytes}
@@ -48,6 +51,49 @@ pub rounds_end : (h : HandBytes) (notes : List NoteParts) (count : ℕ) → roun
 unfolding rounds
 rounds_end h notes zero e = refl
 rounds_end h notes (suc count) e = ap (rounds count h) e ∙ rounds_end h notes count e
+
+-- Two contents are one, or they aren't.
+same_content : (a b : List NoteParts) → (a ≡ b) ⊎ (a ≢ b)
+same_content [] [] = inl refl
+same_content [] (n ∷ b) = inr (λ e. absurd cc)
+same_content (m ∷ a) [] = inr (λ e. absurd cc)
+same_content (m ∷ a) (n ∷ b) =
+    elim (same_or_not note_total note_cmp-IsAntisymmetric m n) [
+      | inl same ↦ elim (same_content a b) [
+        | inl rest ↦ inl (λ i. same i ∷ rest i)
+        | inr differs ↦ inr (λ e. differs (cc (e)))
+      ]
+      | inr differs ↦ inr (λ e. differs (cc (e)))
+    ]
+
+-- After so many rounds one more changes nothing, or each of them changed something.
+closes : (count : ℕ) (h : HandBytes) (notes : List NoteParts)
+    → (round h (rounds count h notes) ≡ rounds count h notes)
+    ⊎ ((k : ℕ) → k < count → rounds (suc k) h notes ≢ rounds k h notes)
+unfolding rounds
+closes zero h notes = inr (λ k below. absurd (omega (arith, below)))
+closes (suc count) h notes =
+    elim (same_content (round h notes) notes) [
+      | inl same ↦ (
+          let end : rounds count h (round h notes) ≡ notes = rounds_end h notes (suc count) same in
+          inl (ap (round h) end ∙ same ∙ sym end))
+      | inr first ↦ elim (closes count h (round h notes)) [
+        | inl end ↦ inl end
+        | inr others ↦ inr (each first others)
+      ]
+    ]
+  where
+    each : round h notes ≢ notes
+        → ((k : ℕ) → k < count → rounds (suc k) h (round h notes) ≢ rounds k h (round h notes))
+        → (k : ℕ) → k < suc count → rounds (suc k) h notes ≢ rounds k h notes
+    each first others zero below = first
+    each first others (suc k) below = others k (omega (arith, below))
+
+pub rounds_close : (h : HandBytes) (notes : List NoteParts)
+    → (round h (put_together h notes) ≡ put_together h notes)
+    ⊎ ((k : ℕ) → k < 64 → rounds (suc k) h notes ≢ rounds k h notes)
+unfolding put_together
+rounds_close h notes = closes 64 h notes
 
 -- What is put together is what 64 rounds leave.
 pub all_rounds : (h : HandBytes) (notes : List NoteParts) → put_together h notes ≡ rounds 64 h notes

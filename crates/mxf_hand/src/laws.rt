@@ -1,5 +1,5 @@
 //! The laws of what is put together: functions that do nothing, whose clauses hold of all values.
-ghost use Rattle.std.specs.Prelude.{◌≡◌, ◌↔◌, ℕ, List};
+ghost use Rattle.std.specs.Prelude.{◌≡◌, ◌≢◌, ◌↔◌, ◌⊎◌, ◌<◌, ℕ, suc, List};
 ghost use Rattle.mxf_klv.specs.Parts.{NoteParts, PacketParts};
 ghost use Rattle.mxf_klv.specs.Piece.{notes_from};
 ghost use Rattle.mxf_klv.specs.Rising.{SameMembers};
@@ -58,6 +58,13 @@ pub fn the_whole_file_is_put_together()
         → AreBytesOfFile packets h → IsAllAtHand packets h → IsContent notes → AreReduced notes
         → AreOfFile packets notes → HeadsHaveValues notes → BeginAtPackets packets notes
         → put_together h notes ≡ notes_from 0 packets }
+{}
+
+/// A law of [`put_together`](crate::put_together): after it one more round changes nothing, or each of its 64 rounds
+/// changed something.
+pub fn rounds_close()
+    ensures { (h : HandBytes) (notes : List NoteParts) → (round h (put_together h notes) ≡ put_together h notes)
+        ⊎ ((k : ℕ) → k < 64 → rounds (suc k) h notes ≢ rounds k h notes) }
 {}
 
 /// A law of [`put_together`](crate::put_together): if one more round changes nothing, what was put together, saved and
