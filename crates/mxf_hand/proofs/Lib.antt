@@ -22,3 +22,4 @@ pub mod OutsideLaws
 pub mod ReadBytes
 pub mod ExcerptLaws
 pub mod ExcerptSources
+pub mod TakenLaws

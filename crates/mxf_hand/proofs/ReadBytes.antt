@@ -1,5 +1,5 @@
 -- Bytes that stand in a source are those that it gives.
-use Rattle.std.proofs.Common.{◌≡◌, ◌+◌, ◌-◌, ◌≤◌, ◌++◌, ℕ, zero, suc, List, [], ◌∷◌, Option, Some, refl, sym, ap}
+use Rattle.std.proofs.Common.{◌≡◌, ◌+◌, ◌-◌, ◌<◌, ◌≤◌, ◌++◌, ℕ, zero, suc, List, [], ◌∷◌, Option, Some, refl, sym, ap}
 use Rattle.std.proofs.Common.{◌∙◌, subst, arith, inl, inr, length, drop, get_or, take, map, length-take}
 use Rattle.std.specs.Prelude.{slice_get, IfOk, IfSome, Result, Ok, Err}
 use Rattle.std.specs.List.{range_with_len}
@@ -8,7 +8,9 @@ use Rattle.std.proofs.lemmas.List.FromFn.{length-map-range_with_len}
 use Rattle.std.proofs.lemmas.Option.{slice_get_read, slice_get_within}
 use Rattle.mxf_klv.specs.Rising.{In}
 use Rattle.mxf_hand.specs.Given.{AreBytesOf, AreTold, Gives, HaveExtents, ReadsAt, SourceParts, StandAt, bytes_between}
-use Rattle.mxf_hand.specs.Places.{IsPlaceOf, LiesInPlace}
+use Rattle.mxf_catalogue.specs.declared.run.Run.{Run}
+use Rattle.mxf_catalogue.specs.Runs.{LiesIn}
+use Rattle.mxf_hand.specs.Places.{IsPlaceOf, LiesInExtent, LiesInPlace}
 use Rattle.mxf_hand.specs.declared.given.Extent.{Extent}
 use Rattle.mxf_hand.specs.declared.given.Place.{Place}
 use Rattle.mxf_read.specs.declared.reading.Step.TheVariants.{Took}
@@ -108,6 +110,24 @@ extent_there own items p e same there is = grind (arith, slice_get_within, slice
 pub found_place : (own : List Extent) (x : ℕ) (r : Option Place) (p : Place) → r ≡ Some p
     → IfSome r (λ q. IsPlaceOf own q × LiesInPlace q x) → IsPlaceOf own p × LiesInPlace p x
 found_place own x r p e found = subst (λ (o : Option Place). IfSome o (λ q. IsPlaceOf own q × LiesInPlace q x)) e found
+
+-- What is read of a place, all of it below the place's end, sources give.
+pub read_within : {E : Type 0} (told : Option (List SourceParts)) (own : List Extent) (given : List Run) (p : Place)
+    (at position count : ℕ) (room : List ℕ) (r : Result ℕ E)
+    → ((e : Extent) (x : ℕ) → In e own → LiesInExtent e x → LiesIn given x) → IsPlaceOf own p → LiesInPlace p at
+    → length room ≤ count → count ≤ p.end - at
+    → IfOk r (λ n. ReadsAt told p.source position room (Took n))
+    → IfOk r (λ n. (x : ℕ) → at ≤ x → x < at + n → LiesIn given x)
+read_within told own given p at position count room (Err fault) all is lies few most reads = tt
+read_within told own given p at position count room (Ok n) all is lies few most reads = λ x low high.
+    let from = is.from in
+    let before = is.before in
+    let start = lies.from in
+    let taken : n ≤ length room = reads.1 in
+    all is.extent x (got own p.source is.extent is.is) (record {
+      from = omega (arith, from, start, low);
+      before = omega (arith, before, few, most, taken, high, low);
+    })
 
 -- ---- one read after another
 

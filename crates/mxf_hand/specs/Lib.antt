@@ -14,3 +14,4 @@ pub mod Noting
 pub mod InMemory
 pub mod Excerpts
 pub mod Passing
+pub mod Taken

@@ -2,8 +2,9 @@
 ghost use Rattle.std.specs.Prelude.{◌≡◌, ◌≢◌, ◌↔◌, ◌⊎◌, ◌<◌, ℕ, suc, List};
 ghost use Rattle.mxf_klv.specs.Parts.{NoteParts, PacketParts};
 ghost use Rattle.mxf_klv.specs.Piece.{notes_from};
-ghost use Rattle.mxf_klv.specs.Rising.{SameMembers};
+ghost use Rattle.mxf_klv.specs.Rising.{In, SameMembers};
 ghost use Rattle.mxf_catalogue.specs.Content.{AreReduced, IsContent, has_note, reduced_union};
+ghost use Rattle.mxf_catalogue.specs.Covers.{IsCover};
 ghost use Rattle.mxf_catalogue.specs.Disputes.{IsClear};
 ghost use Rattle.mxf_catalogue.specs.History.{Hands, History, content};
 ghost use Rattle.mxf_views.specs.WellFormed.{IsWellFormed};
@@ -15,7 +16,9 @@ ghost use Rattle.mxf_hand.specs.declared.given.Extent.{Extent};
 ghost use Rattle.mxf_hand.specs.declared.given.excerpt.Excerpt.{Excerpt};
 ghost use Rattle.mxf_hand.specs.File.{AreBytesOfFile, AreOfFile, BeginAtPackets, HeadsHaveValues, IsAllAtHand};
 ghost use Rattle.mxf_hand.specs.Hand.{AreOf, HandBytes};
-ghost use Rattle.mxf_hand.specs.Rounds.{put_together, round, rounds};
+ghost use Rattle.mxf_hand.specs.Rounds.{put_together, round, rounds, taken_in};
+ghost use Rattle.mxf_hand.specs.Taken.{IsTaken};
+ghost use Rattle.mxf_restore.specs.Sections.{sections_of};
 
 pub use crate::settling::whole_stops_by_definition;
 
@@ -58,6 +61,15 @@ pub fn the_whole_file_is_put_together()
         → AreBytesOfFile packets h → IsAllAtHand packets h → IsContent notes → AreReduced notes
         → AreOfFile packets notes → HeadsHaveValues notes → BeginAtPackets packets notes
         → put_together h notes ≡ notes_from 0 packets }
+{}
+
+/// A law of [`put_together`](crate::put_together): a round adds exactly what is taken of the sections of the holes of
+/// what is held. Premises: what is held is a content, and the offsets at hand are a cover.
+pub fn rounds_by_definition()
+    ensures taken { (h : HandBytes) (notes : List NoteParts) (n : NoteParts) → IsContent notes → IsCover h.runs
+        → In n (taken_in h notes (sections_of notes)) ↔ IsTaken h notes n }
+    ensures round { (h : HandBytes) (notes : List NoteParts)
+        → round h notes ≡ reduced_union notes (taken_in h notes (sections_of notes)) }
 {}
 
 /// A law of [`put_together`](crate::put_together): after it one more round changes nothing, or each of its 64 rounds

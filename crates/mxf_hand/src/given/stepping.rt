@@ -21,6 +21,7 @@ impl Given {
         ensures told { S.told sources.new ≡ S.told sources.old }
         ensures some { IfOk result (λ n. 0 < n) }
         ensures room { IfOk result (λ n. n ≤ length room.new) }
+        ensures within { IfOk result (λ n. (x : ℕ) → at ≤ x → x < at + n → LiesIn self.now.given x) }
         ensures bytes { IfOk result (λ n. (given : List SourceParts) (byte : ℕ → ℕ)
             → AreTold (S.told sources.old) self.now.extents given → AreBytesOf given byte at (at + n)
             → take n room.new ≡ bytes_between byte at (at + n)) }
