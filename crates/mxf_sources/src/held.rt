@@ -1,4 +1,12 @@
 //! What sources hold together, with what is put together of bytes at hand.
+ghost use Rattle.std.specs.Prelude.{◌≡◌, IfOk, false};
+ghost use Rattle.mxf_views.specs.Headline.{IsTheRun};
+ghost use Rattle.mxf_read.specs.Gathering.{AllTell, HandedBy, reports_of};
+ghost use Rattle.mxf_read.specs.SkimGathering.{IsTheSkim, SkimHandedBy};
+ghost use Rattle.mxf_places.specs.AtHand.{nothing_at_hand};
+ghost use Rattle.mxf_skim.specs.declared.scan.Scan.TheVariants.{Full, Skim};
+ghost use Rattle.mxf_sources.specs.Ranges.{IsUntouched, has_range};
+
 use crate::opened::{Opened, open_sources, ungathered};
 use crate::reopened::Reopened;
 use crate::system::System;
@@ -7,7 +15,9 @@ use mxf_hand::{
 };
 use mxf_hints::RunFault;
 use mxf_places::AtHand;
-use mxf_read::{GatherFault, Gathered, PartFault, PassOver, PieceReports, gather, gather_skim};
+use mxf_read::{
+    GatherFault, Gathered, Part, PartFault, PassOver, PieceReports, gather, gather_skim,
+};
 use mxf_saving::{LastFault, Source};
 use mxf_skim::Scan;
 use mxf_views::Views;
@@ -41,15 +51,39 @@ pub fn hold_opened<'r, 'a, R: System, F: PassOver + Drop>(
     opened: Opened<F>,
     sources: &[Source<'a>],
     last: &'r LastFault,
-) -> Result<HeldBySources, RunFault<'a>> {
+) -> Result<HeldBySources, RunFault<'a>>
+    ensures run { scan ≡ Full → has_range sources.now ≡ false → AllTell F.remaining opened.parts.items
+        → IfOk result (λ held. IsTheRun (HandedBy F.remaining opened.parts.items) held.gathered.views) }
+    ensures skim { scan ≡ Skim → has_range sources.now ≡ false → AllTell F.remaining opened.parts.items
+        → IfOk result (λ held. IsTheSkim (SkimHandedBy F.remaining opened.parts.items) held.gathered.views) }
+    ensures reports { AllTell F.remaining opened.parts.items
+        → IfOk result (λ held. held.gathered.reports ≡ reports_of F.remaining opened.parts.items) }
+    ensures hand { has_range sources.now ≡ false → IfOk result (λ held. held.at_hand ≡ nothing_at_hand) }
+    ensures extents { IfOk result (λ held. held.extents ≡ opened.extents) }
+{
     let Opened { parts, extents } = opened;
-    let gathered = match scan {
-        Scan::Full => gather(rt.alloc(), parts),
-        Scan::Skim => gather_skim(rt.alloc(), parts),
-    };
-    match gathered {
+    match gather_by(rt.alloc(), scan, parts) {
         Ok(gathered) => complete(rt, scan, gathered, extents, sources, last),
         Err(fault) => Err(ungathered(&fault, sources, last)),
+    }
+}
+
+/// What the parts hold together, by a reading or a skim.
+fn gather_by<F: PassOver + Drop>(
+    alloc: Global,
+    scan: Scan,
+    parts: Vec<Part<F>>,
+) -> Result<Gathered, GatherFault>
+    ensures run { scan ≡ Full → AllTell F.remaining parts.items
+        → IfOk result (λ g. IsTheRun (HandedBy F.remaining parts.items) g.views) }
+    ensures skim { scan ≡ Skim → AllTell F.remaining parts.items
+        → IfOk result (λ g. IsTheSkim (SkimHandedBy F.remaining parts.items) g.views) }
+    ensures reports { AllTell F.remaining parts.items
+        → IfOk result (λ g. g.reports ≡ reports_of F.remaining parts.items) }
+{
+    match scan {
+        Scan::Full => gather(alloc, parts),
+        Scan::Skim => gather_skim(alloc, parts),
     }
 }
 
@@ -91,7 +125,9 @@ pub fn settled_reports<'a>(
 }
 
 /// Whether one of the sources is a range.
-fn has_range(sources: &[Source<'_>]) -> bool {
+fn has_range(sources: &[Source<'_>]) -> bool
+    ensures { result ≡ has_range sources.now }
+{
     sources.iter().any(|source| source.is_range())
 }
 
@@ -103,7 +139,12 @@ fn complete<'r, 'a, R: System>(
     extents: Vec<Extent>,
     sources: &[Source<'a>],
     last: &'r LastFault,
-) -> Result<HeldBySources, RunFault<'a>> {
+) -> Result<HeldBySources, RunFault<'a>>
+    ensures reports { IfOk result (λ held. held.gathered.reports ≡ gathered.reports) }
+    ensures extents { IfOk result (λ held. held.extents ≡ extents) }
+    ensures pieces { has_range sources.now ≡ false
+        → IfOk result (λ held. IsUntouched gathered.views held.gathered.views held.at_hand) }
+{
     let Gathered { views, reports } = gathered;
     let PutTogether { views, at_hand } = completed(rt, scan, views, &extents, sources, last)?;
     let gathered = Gathered { views, reports };
@@ -122,7 +163,9 @@ pub fn completed<'r, 'a, R: System>(
     extents: &[Extent],
     sources: &[Source<'a>],
     last: &'r LastFault,
-) -> Result<PutTogether, RunFault<'a>> {
+) -> Result<PutTogether, RunFault<'a>>
+    ensures { has_range sources.now ≡ false → IfOk result (λ p. IsUntouched views p.views p.at_hand) }
+{
     if !has_range(sources) {
         let at_hand = AtHand::nothing(rt.alloc());
         return Ok(PutTogether { views, at_hand });

@@ -1,5 +1,7 @@
 //! Sources that are read again: their files are opened once more, by their paths.
-ghost use Rattle.std.specs.Prelude.{◌≤◌, IfOk, length};
+ghost use Rattle.std.specs.Prelude.{◌≡◌, ◌≤◌, IfOk, length};
+ghost use Rattle.mxf_saving.specs.Sources.{source_parts};
+ghost use Rattle.mxf_sources.specs.Ranges.{gives_count, gives_from};
 
 use mxf_hand::{Excerpt, Extent, Sources};
 use mxf_klv::MAX;
@@ -145,7 +147,10 @@ impl<R: Files<File = File>> Sources for Reopened<'_, '_, R> {
 
 /// Where the bytes of a source lie whose file has this size, in bytes: none of a catalogue. A slice has the bytes that it
 /// names.
-pub fn extent_of(source: &Source<'_>, size: u64) -> Extent {
+pub fn extent_of(source: &Source<'_>, size: u64) -> Extent
+    ensures offset { result.offset ≡ gives_from (source_parts source.now) }
+    ensures size { result.size ≡ gives_count (source_parts source.now) size }
+{
     match *source {
         Source::Piece { offset, .. } | Source::Range { offset, .. } => {
             Extent::new(offset.min(MAX), size)

@@ -1,0 +1,36 @@
+-- Of which sources bytes are at hand, and where these lie (this project's profile).
+use Rattle.std.specs.Prelude.{◌≡◌, ◌-◌, ℕ, Bool, List, min}
+use Rattle.std.specs.List.{list_any}
+use Rattle.mxf_klv.specs.Note.{greatest_end}
+use Rattle.mxf_klv.specs.Parts.{NoteParts}
+use Rattle.mxf_places.specs.AtHand.{AtHandParts, nothing_at_hand}
+use Rattle.mxf_read.specs.Gathering.{piece_limit}
+use Rattle.mxf_saving.specs.Sources.{Piece, Range, Saved, Slice, SourceParts, is_range, source_parts}
+use Rattle.mxf_saving.specs.declared.source.Source.{Source}
+
+-- One of the sources is a range.
+abbrev pub has_range : List Source → Bool
+has_range sources = list_any (λ s. is_range (source_parts s)) sources
+
+-- Nothing is put together: what is held is as it was, and nothing is at hand.
+pub record IsUntouched (before after : List NoteParts) (at : AtHandParts) : Type 0 where
+  pub held : after ≡ before
+  pub hand : at ≡ nothing_at_hand
+
+-- The offset of the first byte that a source gives.
+abbrev pub gives_from : SourceParts → ℕ
+gives_from (Piece offset path) = min offset greatest_end
+gives_from (Range offset path) = min offset greatest_end
+gives_from (Slice offset size path) = min offset greatest_end
+gives_from (Saved path) = 0
+
+-- How many bytes it has whose file has so many: a slice those that it names, a catalogue none.
+abbrev pub bytes_of : SourceParts → ℕ → ℕ
+bytes_of (Piece offset path) size = size
+bytes_of (Range offset path) size = size
+bytes_of (Slice offset own path) size = own
+bytes_of (Saved path) size = 0
+
+-- How many of them it gives: no more than are read of a piece, and none at or above the greatest end.
+abbrev pub gives_count : SourceParts → ℕ → ℕ
+gives_count s size = min (bytes_of s size) (min piece_limit (greatest_end - gives_from s))
