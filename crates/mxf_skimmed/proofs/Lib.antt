@@ -5,3 +5,4 @@ pub mod WholeFileLaws
 pub mod FindingLaws
 pub mod RunLaws
 pub mod SavedLaws
+pub mod LineLaws

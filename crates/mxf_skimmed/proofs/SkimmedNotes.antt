@@ -28,7 +28,7 @@ skimmed_is n = elim (is_of_container n) as (λ b. is_of_container n ≡ b
       | false ↦ λ e. refl
     ] refl
 
-passed_is : (n : NoteParts) → is_of_container n ≡ true → skimmed n ≡ passed_note n
+pub passed_is : (n : NoteParts) → is_of_container n ≡ true → skimmed n ≡ passed_note n
 passed_is n e = ap (λ (b : Bool). if b then passed_note n else n) e
 
 skim_stays : (n : NoteParts) → is_of_container n ≡ false → skimmed n ≡ n

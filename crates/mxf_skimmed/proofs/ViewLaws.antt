@@ -83,11 +83,11 @@ module _ (saved : List NoteParts) where
   unfolding is_preface_note
   preface_same n = says_same saved is_preface_note n (λ held. refl)
 
-  set_same : (n : NoteParts) → is_set_note (noted n) ≡ is_set_note n
+  pub set_same : (n : NoteParts) → is_set_note (noted n) ≡ is_set_note n
   unfolding is_set_note
   set_same n = says_same saved is_set_note n (λ held. refl)
 
-  set_stays : (n : NoteParts) → is_set_note n ≡ true → noted n ≡ n
+  pub set_stays : (n : NoteParts) → is_set_note n ≡ true → noted n ≡ n
   unfolding is_set_note
   set_stays n is = other_stays saved is_set n refl refl is
 

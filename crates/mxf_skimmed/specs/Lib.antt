@@ -1,2 +1,3 @@
 pub mod Skims
 pub mod SkimmedRuns
+pub mod SkimmedLines

@@ -1,5 +1,5 @@
 //! The laws of what skims hold and say: functions that do nothing, whose clauses hold of all values.
-ghost use Rattle.std.specs.Prelude.{◌≡◌, ◌↔◌, ◌++◌, false, true, List, [], map};
+ghost use Rattle.std.specs.Prelude.{◌≡◌, ◌↔◌, ◌++◌, false, true, Bool, List, [], map};
 ghost use Rattle.mxf_klv.specs.Note.{head_note};
 ghost use Rattle.mxf_klv.specs.Parts.{NoteParts, PacketParts};
 ghost use Rattle.mxf_klv.specs.Rising.{In};
@@ -12,12 +12,15 @@ ghost use Rattle.mxf_views.specs.WellFormed.{IsWellFormed};
 ghost use Rattle.mxf_views.specs.WholeFile.{AreNotesOf};
 ghost use Rattle.mxf_findings.specs.Findings.{findings_of};
 ghost use Rattle.mxf_findings.specs.SameViews.{SameViews};
-ghost use Rattle.mxf_skim.specs.PassedOver.{is_of_container, noted_by, skimmed};
+ghost use Rattle.mxf_readings.specs.Readings.{is_held};
+ghost use Rattle.mxf_skim.specs.PassedOver.{is_of_container, is_passed_over, noted_by, skimmed};
 ghost use Rattle.mxf_skim.specs.Saving.{with_heads};
 ghost use Rattle.mxf_skim.specs.declared.scan.Scan.TheVariants.{Skim};
 ghost use Rattle.mxf_read.specs.Gathering.{HandedBy};
 ghost use Rattle.mxf_read.specs.SkimGathering.{IsTheSkim};
 ghost use Rattle.mxf_read.specs.declared.gathering.part.Part.{Part};
+ghost use Rattle.mxf_lines.specs.Lines.{note_line};
+ghost use Rattle.mxf_skimmed.specs.SkimmedLines.{PrintsTheSame, with_head};
 ghost use Rattle.mxf_skimmed.specs.SkimmedRuns.{AreReadAndSkimmed, IsSkimOf, SaysTheSame};
 ghost use Rattle.mxf_skimmed.specs.Skims.{NoneAlike, disputed_beside, noted_beside, skim_beside, skim_of};
 
@@ -105,4 +108,22 @@ pub fn skims_say_what_readings_say<R: Read>()
     ensures whole { (parts : List (Part R)) (notes skim : List NoteParts) (l : List PacketParts)
         → AreReadAndSkimmed R.remaining parts notes skim → IsWellFormed l
         → HandsSame (IsNoteOf l) (HandedBy R.remaining parts) → IsReadFromFront skim l }
+{}
+
+/// A law of what is printed: where a reading holds no two notes of a container's packets that are alike, `show`,
+/// `check` and `locate` have the same lines of the skim, and the same status, but that a note's line says ` head` of a
+/// packet that was passed over. These are the packets of a container of which no saved catalogue has the note. A line
+/// is its name and its fields, so text and JSON are the same too.
+pub fn skims_print_what_readings_print<R: Read>()
+    ensures prints { (saved notes : List NoteParts) → NoneAlike notes
+        → PrintsTheSame saved notes (skim_beside saved notes) }
+    ensures parts { (parts : List (Part R)) (notes skim : List NoteParts)
+        → AreReadAndSkimmed R.remaining parts notes skim → NoneAlike notes
+        → (is : IsSkimOf R.remaining parts notes skim) × PrintsTheSame is.saved notes skim }
+    ensures passed { (saved : List NoteParts) (n : NoteParts) → is_of_container n ≡ true → is_held n saved ≡ false
+        → is_passed_over (noted_beside saved n) ≡ true }
+    ensures others { (saved : List NoteParts) (n : NoteParts) → is_of_container n ≡ false
+        → is_passed_over (noted_beside saved n) ≡ false }
+    ensures head { (n : NoteParts) (disputed : Bool)
+        → note_line (head_note n) disputed ≡ with_head (note_line n disputed) }
 {}
