@@ -5,4 +5,5 @@ pub mod WholeFileLaws
 pub mod FindingLaws
 pub mod RunLaws
 pub mod SavedLaws
+pub mod DescriptionLaws
 pub mod LineLaws

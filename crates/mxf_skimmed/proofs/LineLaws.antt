@@ -3,10 +3,11 @@ use Rattle.mxf_findings.proofs.Common.{◌≡◌, ℕ, Bool, true, false, List, 
 use Rattle.mxf_findings.proofs.Common.{◌∙◌, ◌==◌, ◌&&◌, if◌then◌else◌, find, map, flat_map, option_map, option_and_then}
 use Rattle.mxf_findings.proofs.Common.{subst, inl, inr, NoteParts, In, clear_notes, keeps_value, partitions_of, chain_of}
 use Rattle.mxf_findings.proofs.Common.{gaps_of, resolved_of, primer_for, is_set_note, package_at, identification_at}
-use Rattle.mxf_findings.proofs.Common.{ResolvedParts}
+use Rattle.mxf_findings.proofs.Common.{ResolvedParts, disputed_notes, length}
 use Rattle.std.specs.Str.{bytes_eq}
+use Rattle.std.proofs.lemmas.List.{length-map}
 use Rattle.mxf_klv.specs.Note.{head_note}
-use Rattle.mxf_catalogue.specs.Disputes.{is_disputed}
+use Rattle.mxf_catalogue.specs.Disputes.{DisputedParts, is_disputed}
 use Rattle.mxf_views.specs.SetItems.{set_items, whole_items}
 use Rattle.mxf_views.proofs.NumbersLaws.{find_mapped}
 use Rattle.mxf_references.specs.declared.reference.target.Ref.{Ref}
@@ -25,16 +26,18 @@ use Rattle.mxf_lines.specs.declared.printing.line.record.Named.TheVariants.{Iden
 use Rattle.mxf_lines.specs.Answering.{check_status, finding_lines, place_status, report_lines, stop_lines}
 use Rattle.mxf_lines.specs.IndexLines.{place_line, rip_lines, segment_line}
 use Rattle.mxf_lines.specs.ItemLines.{item_lines, set_lines}
-use Rattle.mxf_lines.specs.Lines.{chain_line, copy_line, gap_line, lines_where, note_line, preferred_line}
+use Rattle.mxf_lines.specs.Lines.{chain_line, copy_line, gap_line, join_line, lines_where, note_line}
+use Rattle.mxf_lines.specs.Lines.{preferred_line}
 use Rattle.mxf_lines.specs.PartitionLines.{partition_lines}
 use Rattle.mxf_lines.specs.Printing.{metadata_lines}
 use Rattle.mxf_lines.specs.ReferenceLines.{found_record, lines_of_record, named_lines, owner_of, record_of}
 use Rattle.mxf_lines.specs.ReferenceLines.{reference_line, reference_lines}
-use Rattle.mxf_skimmed.specs.Skims.{NoneAlike, noted_beside, skim_beside}
+use Rattle.mxf_skimmed.specs.Skims.{NoneAlike, disputed_beside, noted_beside, skim_beside}
 use Rattle.mxf_skimmed.specs.SkimmedLines.{PrintsTheSame, read_line, skim_line, with_head}
 use Rattle.mxf_skimmed.specs.SkimmedRuns.{AreReadAndSkimmed, IsSkimOf}
+use Rattle.mxf_skimmed.proofs.DescriptionLaws.{description_has_the_same_status, skim_is_described_the_same}
 use Rattle.mxf_skimmed.proofs.FindingLaws.{skim_has_the_same_findings}
-use Rattle.mxf_skimmed.proofs.HeldLaws.{clear_skim, disputed_same}
+use Rattle.mxf_skimmed.proofs.HeldLaws.{clear_skim, disputed_same, disputed_skim}
 use Rattle.mxf_skimmed.proofs.RunLaws.{passed_over_is, skim_of_parts, skimmed_head}
 use Rattle.mxf_skimmed.proofs.SkimmedNotes.{either_note, noted_is, passed_is, read_same, says_same, stays}
 use Rattle.mxf_skimmed.proofs.ViewLaws.{set_same, set_stays, skim_has_the_same_gaps, skim_has_the_same_views}
@@ -206,6 +209,14 @@ module _ (saved : List NoteParts) where
     read_lines [] = refl
     read_lines (n ∷ l) = ap (λ (lines : List PrintedLine). read_line notes n ∷ lines) (read_lines l)
 
+    notes_counted : length (skim notes) ≡ length notes
+    notes_counted = length-map notes noted
+
+    disputes_counted : length (disputed_notes (skim notes)) ≡ length (disputed_notes notes)
+    disputes_counted =
+        ap (λ (l : List DisputedParts). length l) (disputed_skim saved notes apart)
+        ∙ length-map (disputed_notes notes) (disputed_beside saved)
+
     pub skim_prints_the_same : PrintsTheSame saved notes (skim notes)
     skim_prints_the_same =
         let findings = skim_has_the_same_findings saved notes apart in
@@ -221,9 +232,17 @@ module _ (saved : List NoteParts) where
             lines = λ reports at. λ i. flat_map stop_lines reports ++ finding_lines (findings i);
             status = λ reports at. ap (check_status reports) findings;
           };
+          describe = record {
+            lines = λ reports at. skim_is_described_the_same saved notes apart;
+            status = λ reports at. description_has_the_same_status saved notes apart;
+          };
           locate = λ index unit. record {
             lines = λ reports at. ap (λ place. place_line place ∷ []) (same.locate index unit);
             status = λ reports at. ap place_status (same.locate index unit);
+          };
+          join = record {
+            lines = λ reports at. λ i. join_line (notes_counted i) (disputes_counted i) ∷ [];
+            status = λ reports at. refl;
           };
         }
 

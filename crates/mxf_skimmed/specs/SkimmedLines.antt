@@ -8,7 +8,7 @@ use Rattle.mxf_skim.specs.declared.scan.Scan.TheVariants.{Full, Skim}
 use Rattle.mxf_places.specs.AtHand.{AtHandParts}
 use Rattle.mxf_read.specs.declared.gathering.report.PieceReport.{PieceReport}
 use Rattle.mxf_asked.specs.declared.ask.Ask.{Ask}
-use Rattle.mxf_asked.specs.declared.ask.Ask.TheVariants.{Check, Locate, Show}
+use Rattle.mxf_asked.specs.declared.ask.Ask.TheVariants.{Check, Describe, Join, Locate, Show}
 use Rattle.mxf_forms.specs.Forms.{Field, PrintedLine, flag}
 use Rattle.mxf_lines.specs.Answering.{answer_lines, answer_status, report_lines}
 use Rattle.mxf_lines.specs.Lines.{note_line}
@@ -50,8 +50,11 @@ pub record ShowsTheSame (saved notes skim : List NoteParts) : Type 0 where
   pub status : (reports : List PieceReport) (at : AtHandParts)
       → answer_status (Show Skim) reports at skim ≡ answer_status (Show Full) reports at notes
 
--- What `show`, `check` and `locate` print of a skim is what they print of the reading, but for the lines of notes.
+-- What is printed of a skim, for a request that prints neither places at hand nor orders, is what is printed of the
+-- reading, but for the lines of notes.
 pub record PrintsTheSame (saved notes skim : List NoteParts) : Type 0 where
   pub show : ShowsTheSame saved notes skim
   pub check : AnswersTheSame Check skim notes
+  pub describe : AnswersTheSame Describe skim notes
   pub locate : (index unit : ℕ) → AnswersTheSame (Locate index unit) skim notes
+  pub join : AnswersTheSame Join skim notes
