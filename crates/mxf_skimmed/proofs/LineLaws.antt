@@ -1,9 +1,9 @@
 -- What is printed of a skim is what is printed of the reading, but for the lines of notes.
-use Rattle.mxf_findings.proofs.Common.{◌≡◌, ℕ, Bool, true, false, List, [], ◌∷◌, ◌++◌, Option, Some, None, refl, sym, ap}
-use Rattle.mxf_findings.proofs.Common.{◌∙◌, ◌==◌, ◌&&◌, if◌then◌else◌, find, map, flat_map, option_map, option_and_then}
-use Rattle.mxf_findings.proofs.Common.{subst, inl, inr, NoteParts, In, clear_notes, keeps_value, partitions_of, chain_of}
-use Rattle.mxf_findings.proofs.Common.{gaps_of, resolved_of, primer_for, is_set_note, package_at, identification_at}
-use Rattle.mxf_findings.proofs.Common.{ResolvedParts, disputed_notes, length}
+use Rattle.mxf_findings.proofs.Common.{◌≡◌, ℕ, Bool, true, false, List, [], ◌∷◌, ◌++◌, Option, Some, None, refl, sym}
+use Rattle.mxf_findings.proofs.Common.{ap, ◌∙◌, ◌==◌, ◌&&◌, if◌then◌else◌, find, map, flat_map, option_map, length}
+use Rattle.mxf_findings.proofs.Common.{option_and_then, subst, inl, inr, NoteParts, In, clear_notes, disputed_notes}
+use Rattle.mxf_findings.proofs.Common.{keeps_value, partitions_of, chain_of, gaps_of, resolved_of, primer_for}
+use Rattle.mxf_findings.proofs.Common.{is_set_note, package_at, identification_at, ResolvedParts}
 use Rattle.std.specs.Str.{bytes_eq}
 use Rattle.std.proofs.lemmas.List.{length-map}
 use Rattle.mxf_klv.specs.Note.{head_note}

@@ -14,8 +14,8 @@ use Rattle.mxf_lines.specs.Answering.{answer_lines, answer_status, report_lines}
 use Rattle.mxf_lines.specs.Lines.{note_line}
 use Rattle.mxf_skimmed.specs.Skims.{noted_beside}
 
--- What is asked for has the same lines and the same status of both contents, whatever the pieces are and what is at
--- hand.
+-- What is asked for has the same lines and the same status of both contents, if the reports of pieces are the same, and
+-- what is at hand is.
 pub record AnswersTheSame (ask : Ask) (a b : List NoteParts) : Type 0 where
   pub lines : (reports : List PieceReport) (at : AtHandParts)
       → answer_lines ask reports at a ≡ answer_lines ask reports at b
@@ -40,7 +40,8 @@ abbrev pub skim_line : List NoteParts → List NoteParts → NoteParts → Print
 skim_line saved notes n =
     if is_passed_over (noted_beside saved n) then with_head (read_line notes n) else read_line notes n
 
--- `show` prints the lines of the pieces, a line for each note of the reading, and then the same other lines of both.
+-- `show` prints of both the lines of the pieces, one for each note of the reading, and then the same other lines. Its
+-- status is the same.
 pub record ShowsTheSame (saved notes skim : List NoteParts) : Type 0 where
   pub others : List PrintedLine
   pub by_reading : (reports : List PieceReport) (at : AtHandParts)
@@ -50,8 +51,7 @@ pub record ShowsTheSame (saved notes skim : List NoteParts) : Type 0 where
   pub status : (reports : List PieceReport) (at : AtHandParts)
       → answer_status (Show Skim) reports at skim ≡ answer_status (Show Full) reports at notes
 
--- What is printed of a skim, for a request that prints neither places at hand nor orders, is what is printed of the
--- reading, but for the lines of notes.
+-- What is printed of a skim for these requests is what is printed of the reading, but for the lines of notes.
 pub record PrintsTheSame (saved notes skim : List NoteParts) : Type 0 where
   pub show : ShowsTheSame saved notes skim
   pub check : AnswersTheSame Check skim notes

@@ -110,10 +110,12 @@ pub fn skims_say_what_readings_say<R: Read>()
         → HandsSame (IsNoteOf l) (HandedBy R.remaining parts) → IsReadFromFront skim l }
 {}
 
-/// A law of what is printed: where a reading holds no two notes of a container's packets that are alike, `show`,
-/// `check` and `locate` have the same lines of the skim, and the same status, but that a note's line says ` head` of a
-/// packet that was passed over. These are the packets of a container of which no saved catalogue has the note. A line
-/// is its name and its fields, so text and JSON are the same too.
+/// A law of [`answer`](mxf_lines::answer): where a reading holds no two notes of a container's packets that are alike,
+/// `show`, `check`, `describe`, `locate` and `join` have of a skim the lines and the status of the reading, as text and
+/// as JSON. But in the line of a note `show` says ` head` too, if the packet was passed over: each of a container was
+/// of which no saved catalogue has the note, and no other packet. Such a line is that of the note's head.
+///
+/// The reports of pieces are the same: [`gather_skim`](mxf_read::gather_skim) answers those of a reading.
 pub fn skims_print_what_readings_print<R: Read>()
     ensures prints { (saved notes : List NoteParts) → NoneAlike notes
         → PrintsTheSame saved notes (skim_beside saved notes) }

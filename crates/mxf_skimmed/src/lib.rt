@@ -11,6 +11,8 @@
 //!   ([`laws::skims_are_disputed_as_readings_are`]).
 //! - All views, the gaps ([`laws::skims_have_the_same_views`]) and the findings
 //!   ([`laws::skims_have_the_same_findings`]) are those of the reading.
+//! - All lines of `show`, `check`, `describe`, `locate` and `join` are those of the reading, and so is the status, but
+//!   that `show` says ` head` of a packet that was passed over ([`laws::skims_print_what_readings_print`]).
 //! - What is saved of the skim, joined with the reading, is the reading
 //!   ([`laws::saved_skims_are_completed_by_readings`]).
 //!
