@@ -226,23 +226,23 @@ module _ (saved : List NoteParts) where
             by_reading = λ reports at. λ i. report_lines reports ++ (read_lines notes i ++ others notes);
             by_skim = λ reports at. λ i.
                 report_lines reports ++ (note_lines_stay notes apart notes (λ n h. h) i ++ others_stay i);
-            status = λ reports at. refl;
+            status = λ reports at beside. refl;
           };
           check = record {
-            lines = λ reports at. λ i. flat_map stop_lines reports ++ finding_lines (findings i);
-            status = λ reports at. ap (check_status reports) findings;
+            lines = λ reports at beside. λ i. flat_map stop_lines reports ++ finding_lines (findings i);
+            status = λ reports at beside. ap (check_status reports) findings;
           };
           describe = record {
-            lines = λ reports at. skim_is_described_the_same saved notes apart;
-            status = λ reports at. description_has_the_same_status saved notes apart;
+            lines = λ reports at beside. skim_is_described_the_same saved notes apart;
+            status = λ reports at beside. description_has_the_same_status saved notes apart;
           };
           locate = λ index unit. record {
-            lines = λ reports at. ap (λ place. place_line place ∷ []) (same.locate index unit);
-            status = λ reports at. ap place_status (same.locate index unit);
+            lines = λ reports at beside. ap (λ place. place_line place ∷ []) (same.locate index unit);
+            status = λ reports at beside. ap place_status (same.locate index unit);
           };
           join = record {
-            lines = λ reports at. λ i. join_line (notes_counted i) (disputes_counted i) ∷ [];
-            status = λ reports at. refl;
+            lines = λ reports at beside. λ i. join_line (notes_counted i) (disputes_counted i) ∷ [];
+            status = λ reports at beside. refl;
           };
         }
 

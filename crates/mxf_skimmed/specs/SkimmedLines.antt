@@ -15,12 +15,12 @@ use Rattle.mxf_lines.specs.Lines.{note_line}
 use Rattle.mxf_skimmed.specs.Skims.{noted_beside}
 
 -- What is asked for has the same lines and the same status of both contents, if the reports of pieces are the same, and
--- what is at hand is.
+-- whatever is at hand.
 pub record AnswersTheSame (ask : Ask) (a b : List NoteParts) : Type 0 where
-  pub lines : (reports : List PieceReport) (at : AtHandParts)
-      → answer_lines ask reports at a ≡ answer_lines ask reports at b
-  pub status : (reports : List PieceReport) (at : AtHandParts)
-      → answer_status ask reports at a ≡ answer_status ask reports at b
+  pub lines : (reports : List PieceReport) (at beside : AtHandParts)
+      → answer_lines ask reports at a ≡ answer_lines ask reports beside b
+  pub status : (reports : List PieceReport) (at beside : AtHandParts)
+      → answer_status ask reports at a ≡ answer_status ask reports beside b
 
 -- The same field, but that of heads says that it is one.
 abbrev pub said_head : Field → Field
@@ -48,8 +48,8 @@ pub record ShowsTheSame (saved notes skim : List NoteParts) : Type 0 where
       → answer_lines (Show Full) reports at notes ≡ report_lines reports ++ (map (read_line notes) notes ++ others)
   pub by_skim : (reports : List PieceReport) (at : AtHandParts)
       → answer_lines (Show Skim) reports at skim ≡ report_lines reports ++ (map (skim_line saved notes) notes ++ others)
-  pub status : (reports : List PieceReport) (at : AtHandParts)
-      → answer_status (Show Skim) reports at skim ≡ answer_status (Show Full) reports at notes
+  pub status : (reports : List PieceReport) (at beside : AtHandParts)
+      → answer_status (Show Skim) reports at skim ≡ answer_status (Show Full) reports beside notes
 
 -- What is printed of a skim for these requests is what is printed of the reading, but for the lines of notes.
 pub record PrintsTheSame (saved notes skim : List NoteParts) : Type 0 where
