@@ -112,8 +112,9 @@ pub fn skims_say_what_readings_say<R: Read>()
 
 /// A law of [`answer`](mxf_lines::answer): where a reading holds no two notes of a container's packets that are alike,
 /// `show`, `check`, `describe`, `locate` and `join` have of a skim the lines and the status of the reading, as text and
-/// as JSON. But in the line of a note `show` says ` head` too, if the packet was passed over: each of a container was
-/// of which no saved catalogue has the note, and no other packet. Such a line is that of the note's head.
+/// as JSON. But the line of a note, which `show` has, says ` head` too if the packet was passed over, as the line of
+/// the note's head does. Each packet of a container was passed over of which no saved catalogue has the note, and none
+/// of another kind.
 ///
 /// The reports of pieces are the same: [`gather_skim`](mxf_read::gather_skim) answers those of a reading.
 pub fn skims_print_what_readings_print<R: Read>()
