@@ -480,7 +480,7 @@ def differences_of_reference(page, told, against):
 
 def differences_of_skim(page, is_skimmed, against):
     """How what is said of essence that wasn't read differs."""
-    said = "Essence was read to compare it with the reference, and for nothing else: " if against else "Essence wasn't read: "
+    said = "Essence was read to compare it with the reference, and for nothing else. " if against else "Essence wasn't read: "
     if (said in page.text["top"]) != is_skimmed:
         yield f"it {'is not' if is_skimmed else 'is'} told: {said}"
 
