@@ -14,8 +14,10 @@ source lies in one of them and in the saved catalogue, and that catalogue are co
 goes by ST 336 alone, what is put together and ordered of ranges with those of at_hand.py, and clocks with those of
 clocks.py. Cut at packets and within them, with repeats, a part saved, in another order, the sources leave the same
 catalogue, and a saved one is shown as they are; ranges do in another order, with repeats, and with what was saved of
-them. Whole notes that version 1 of the file saved are shown, and joined with the others. A damaged catalogue of either
-version, or one with parts of both, is shown, or refused with its cause and place, by notes.py too.
+them. Some pieces are slices of longer files. A slice whose numbers are hostile, or that ends behind its file, is shown as
+the piece of its bytes, or refused. Whole notes that version 1 of the file saved are shown, and joined with the others. A
+damaged catalogue of either version, or one with parts of both, is shown, or refused with its cause and place, by notes.py
+too.
 
 A file of a shape with many alike, and one of twice as many: no question takes more than two and a half times as long,
 and `describe` and `units` with timecodes not more than 2.3 times.

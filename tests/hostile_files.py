@@ -1,6 +1,6 @@
 """Hostile files, made from a seed each. A shape is a function that makes the pieces of one: each an offset and bytes; a
-saved catalogue has None for an offset, a range a RangeOffset. A shape of many alike takes how many there are, so that
-it can be made twice as large.
+saved catalogue has None for an offset, a range a RangeOffset, a slice a SliceOffset. A shape of many alike takes how many
+there are, so that it can be made twice as large.
 """
 import itertools
 import pathlib
@@ -19,8 +19,16 @@ TAGS = ("3C0A", "3B03", "3B06", "1901", "3C09", "3C01", "4401", "4402", "4403", 
 SETS = ("preface", "identification", "content-storage", "material-package", "source-package", "raw-set")
 
 
+# The highest offset of a slice: its file reaches so far, and file systems hold files of some terabytes.
+HIGHEST_SLICE = 2**40
+
+
 class RangeOffset(int):
     """The offset of a range."""
+
+
+class SliceOffset(int):
+    """The offset of a slice, whose bytes lie there in their file too."""
 
 
 def laid(lines, offset=0):
@@ -664,10 +672,18 @@ SHAPES = (
 )  # fmt: skip
 
 
+def sliced(rng, pieces):
+    """These pieces, of which some are slices: each that has a byte, and whose file reaches so far, may be one."""
+    for offset, data in pieces:
+        can_be = offset is not None and not isinstance(offset, RangeOffset) and offset <= HIGHEST_SLICE and data
+        yield SliceOffset(offset) if can_be and rng.random() < 0.3 else offset, data
+
+
 def pieces_of(number):
     """The pieces of the file of this number."""
     rng = random.Random(number)
-    return SHAPES[number % len(SHAPES)](rng)
+    return list(sliced(random.Random(f"slices of {number}"), SHAPES[number % len(SHAPES)](rng)))
+
 
 # How many alike a shape has when it is compared with itself doubled: as many as tell a square apart from n log n, and
 # no more than one value has room for.

@@ -13,9 +13,16 @@ import time
 import at_hand
 import clocks
 import notes
-from hostile_files import RangeOffset, mutated_bytes, pieces_of
+from hostile_files import RangeOffset, SliceOffset, laid, mutated_bytes, pieces_of
 
 MEBIBYTE = 2**20
+# What stands before the bytes of a slice in their file, as far as there is room, and behind them: two packets.
+AROUND = laid(["identification 3C0A=01", "essence 3"])
+# Numbers of slices, of which some name none.
+NUMBERS = (
+    "0", "00", "1", "001", "17", str(notes.GREATEST_END - 1), str(notes.GREATEST_END), str(notes.GREATEST_END + 1), str(2**64 - 1),
+    str(2**64), str(2**64 + 1), str(2**128 + 1), "", "-1", "+1", "0x1", "1e3", " 1", "1 ", "\N{ARABIC-INDIC DIGIT ONE}",
+)  # fmt: skip
 # What is said if no segment has the IndexSID that is asked for.
 NO_INDEX = re.compile(r"index \d+ isn't held(: (held( \d+){1,16}(; named( \d+){1,16})?|named( \d+){1,16}))?\n")
 
@@ -86,6 +93,20 @@ class Wrong(Exception):
     """What is wrong with a run."""
 
 
+def lay_source(path, offset, data):
+    """Writes the file of a piece, a range, a slice or a saved catalogue, and answers its source. A slice of no bytes is laid
+    as a piece, since it can't be named."""
+    if isinstance(offset, SliceOffset) and data:
+        before = AROUND[max(len(AROUND) - offset, 0) :]
+        with path.open("wb") as file:
+            file.seek(offset - len(before))
+            file.write(before + data + AROUND)
+        return f"slice:{offset}:{len(data)}:{path}"
+    path.write_bytes(data)
+    sort = "range" if isinstance(offset, RangeOffset) else "at"
+    return f"cat:{path}" if offset is None else f"{sort}:{offset}:{path}"
+
+
 class Run:
     """Runs of the program on sources in a folder of their own."""
 
@@ -105,13 +126,7 @@ class Run:
 
     def lay(self, name, pieces):
         """Lays pieces down, and answers their sources."""
-        sources = []
-        for number, (offset, data) in enumerate(pieces):
-            path = self.folder / f"{name}{number}"
-            path.write_bytes(data)
-            sort = "range" if isinstance(offset, RangeOffset) else "at"
-            sources.append(f"cat:{path}" if offset is None else f"{sort}:{offset}:{path}")
-        return sources
+        return [lay_source(self.folder / f"{name}{number}", *piece) for number, piece in enumerate(pieces)]
 
     def call(self, statuses, size, *words):
         """Runs the program within its bounds, and answers what it printed. `size` bytes are in its sources.
@@ -143,7 +158,7 @@ class Run:
             said = NO_INDEX.sub("", said, count=1)
         if child.returncode not in statuses:
             raise Wrong(f"{words[0]}: status {child.returncode}: {said[:200]}")
-        if (said != "") != (child.returncode == 4):
+        if (said != "") != (child.returncode > 1):
             raise Wrong(f"{words[0]}: on standard error: {said[:200]}")
         return out.read_text(), seconds
 
@@ -462,6 +477,46 @@ def try_file(run, file):
         raise Wrong(f"a damaged catalogue isn't refused with '{fault}': {told[:200]}")
 
 
+def slice_of(offset, length, data):
+    """What a slice of these words has of a file: its offset, its bytes, and whether the file ends before it; None if they
+    name no slice."""
+    if not re.fullmatch("[0-9]+", offset) or not re.fullmatch("[0-9]+", length):
+        return None
+    first, end = int(offset), int(offset) + int(length)
+    return (first, data[first:end], end > len(data)) if first < end <= notes.GREATEST_END else None
+
+
+def hostile_slice(rng, data):
+    """Words of a slice of a file: mostly from a packet or another place in it, up to another, its end or behind that."""
+    places = [note.offset for note in notes.read_piece(0, data)[0]] + [rng.randint(0, len(data))]
+    first = rng.choice(places)
+    end = rng.choice((rng.choice(places), len(data), len(data) + rng.choice((1, 16, 2**40))))
+    words = [rng.choice(("", "0")) + str(first), str(max(end - first, 1))]
+    return [word if rng.random() < 0.85 else rng.choice(NUMBERS) for word in words]
+
+
+def try_slice(run, rng, pieces):
+    """Asks for a slice of a file whose numbers are hostile, or whose file may be cut: it is shown as the piece of its bytes,
+    or refused. The end of a file is looked at where that of the slice would be, so not behind another stop."""
+    data = next((data for offset, data in pieces if offset is not None), b"")
+    path = run.folder / "sliced"
+    path.write_bytes(data)
+    offset, length = hostile_slice(rng, data)
+    word = f"slice:{offset}:{length}:{path}"
+    named = slice_of(offset, length, data)
+    refused = (2, f"bad source: {word}\n")
+    if named:
+        found, (at, count, stop) = read_source(*named[:2])
+        is_short = named[2] and stop.startswith(("end", "truncated"))
+        refused = (3, f"read fault: {path}\n") if is_short else None
+    lines = run.call((refused[0] if refused else 0,), len(data), "show", word).splitlines()
+    told = (run.folder / "err").read_text(errors="replace")
+    if refused and (lines, told) != ([], refused[1]):
+        raise Wrong(f"{word} of {len(data)} bytes isn't refused with '{refused[1]}': {told[:200]}")
+    if not refused and (lines[0] != f"piece {at} noted {count} stop {stop}" or not is_shown(lines[1:], found)):
+        raise Wrong(f"{word} of {len(data)} bytes isn't shown as its bytes are: {lines[0]}")
+
+
 def try_older(run, rng, content):
     """Has some of the whole notes saved by version 1 of the file: they are shown, and joined with the others in any order."""
     whole = [note for note in content if note.is_whole]
@@ -488,3 +543,4 @@ def try_number(run, number):
     try_verified(run, random.Random(f"verified of {number}"), pieces_of(number))
     try_file(run, damaged(rng, content))
     try_older(run, random.Random(f"version 1 of {number}"), content)
+    try_slice(run, random.Random(f"slice of {number}"), pieces_of(number))

@@ -1,8 +1,8 @@
 #!/usr/bin/env python3
 """Reads a page of report/mxf_report and compares it with what the program prints.
 
-    tests/report_page.py TOOL PAGE WORDS..    a page of one recording: WORDS name its sources, and --against a reference; of
-                                              one with --skim too the lines are those of calls without
+    tests/report_page.py TOOL PAGE WORDS..    a page of one recording: WORDS are those that it was made by, of which --read
+                                              and --skim say whether essence was read; the lines are those of a reading
     tests/report_page.py --form PAGE          the form of a page alone: its tags are balanced, and it loads nothing
     tests/report_page.py --text PAGE          the text of a page that is seen, a word a line
     tests/report_page.py --rows PAGE [TABLE]  the rows of its first table, or of that of this caption, a line each
@@ -319,14 +319,16 @@ def order_cells(line):
     return [*cells({**line, "length": length}, "start", "end", "length"), *cells(line, "source"), form]
 
 
-def sources_lines(told, is_skimmed):
-    """What `sources` prints, and of a page for which essence wasn't read what is known of that: no digests, and of several
-    sources not what each has."""
-    lines = told.lines("sources")
-    unknown = {"digest", "head"} if is_skimmed else set()
-    if is_skimmed and lines[-1]["sources"] > 1:
-        unknown |= {"notes", "alone", "disputed", "sources"}
-    return [{name: value for name, value in line.items() if name not in unknown} for line in lines]
+def differences_of_sources(page, lines, is_skimmed):
+    """How the sources differ. A page for which essence wasn't read has their words alone, and says what has the rest."""
+    caption, other = ("Which they are", "What each has") if is_skimmed else ("What each has", "Which they are")
+    names = ("source", "word") if is_skimmed else ("source", "word", "notes", "alone", "disputed")
+    sources = [cells(line, *names) for line in lines if line["line"] == "source"]
+    yield from differences_of_rows(page, caption, sources, "sources")
+    yield from differences_of_rows(page, other, [], "sources")
+    for section in ("sources", "disputes"):
+        if ("mxf_report --read tells" in page.text[section]) != is_skimmed:
+            yield f"{section}: it {'is not' if is_skimmed else 'is'} told what a reading tells"
 
 
 def differences_of_orders(page, told, span, is_skimmed):
@@ -338,15 +340,14 @@ def differences_of_orders(page, told, span, is_skimmed):
             yield f"{caption} are {kept}, not {want}"
     readings = []
     names = names_of(told)
-    lines = sources_lines(told, is_skimmed)
+    lines = told.lines("sources")
     for line in lines:
         if line["line"] == "disputed":
-            sources = sources_text(line["sources"], names) if "sources" in line else None
-            named = {**line, "kind": line["kind"] + ", head" * line.get("head", False), "sources": sources}
-            readings.append(cells(named, "offset", "kind", "length", "key", "digest", "sources"))
+            head = line["head"] and not is_skimmed
+            named = {**line, "kind": line["kind"] + ", head" * head, "sources": sources_text(line["sources"], names)}
+            readings.append(cells(named, "offset", "kind", "length", "key", *(() if is_skimmed else ("digest", "sources"))))
     yield from differences_of_rows(page, "Readings", readings, "disputes")
-    sources = [cells(line, "source", "word", "notes", "alone", "disputed") for line in lines if line["line"] == "source"]
-    yield from differences_of_rows(page, "What each has", sources, "sources")
+    yield from differences_of_sources(page, lines, is_skimmed)
 
 
 def names_of(told):
@@ -479,7 +480,7 @@ def differences_of_reference(page, told, against):
 
 def differences_of_skim(page, is_skimmed, against):
     """How what is said of essence that wasn't read differs."""
-    said = "Essence was read to compare it with the reference, and for nothing else. " if against else "Essence wasn't read. "
+    said = "Essence was read to compare it with the reference, and for nothing else. " if against else "Essence wasn't read: "
     if (said in page.text["top"]) != is_skimmed:
         yield f"it {'is not' if is_skimmed else 'is'} told: {said}"
 
@@ -500,11 +501,13 @@ def differences_of_page(tool, path, words):
     """How the page of a recording differs from what the program prints."""
     page = page_of(path)
     yield from page.faults
-    is_skimmed = "--skim" in words
-    words = [word for word in words if word != "--skim"]
-    against, words = taken_from(words, ("--against",))
+    reading = [word for word in words if word in ("--read", "--skim")]
+    against, words = taken_from([word for word in words if word not in reading], ("--against",))
     span, words = taken_from(words, ("--from", "--to"))
     told = Told(tool, words)
+    # A reference is read, and catalogues have no essence that is read.
+    is_skimmed = reading == ["--skim"] or not (reading or against)
+    is_skimmed &= any(not line["word"].startswith("cat:") for line in told.lines("sources", name="source"))
     yield from differences_of_description(page, told)
     yield from differences_of_bar(page, told)
     yield from differences_of_recording(page, told)
