@@ -34,8 +34,8 @@ FROM clips c JOIN recordings r ON r.id = c.recording WHERE substr(c.of_uid, -16)
 """
 
 BY_TIMECODE = """
-SELECT r.name AS recording, h.clock, h.timecode, h.first, h.last, h.base, h.is_drop, h.is_open, c.index_sid,
-  t.track, p.kind, p.uid
+SELECT r.name AS recording, h.clock, h.first, h.last, h.base, h.is_drop, c.index_sid, c.first AS clock_first,
+  c.last AS clock_last, t.track, t.at, p.kind, p.uid
 FROM hours h JOIN recordings r ON r.id = h.recording
   LEFT JOIN clocks c ON c.recording = h.recording AND c.number = h.clock
   LEFT JOIN timecodes t ON t.recording = h.recording AND t.number = h.timecode
@@ -169,11 +169,10 @@ def has_timecode(row: sqlite3.Row, timecode: str) -> bool:
 
 
 def told_by(row: sqlite3.Row) -> Tuple[str, str]:
-    """Which clock or track has the timecodes of an hour, and from which to which they go."""
-    times = f"{row['first']} to {row['last']}" + (" or later" if row["is_open"] else "")
+    """Which clock has a timecode, and from which to which it goes; or which track of a package, and from which on."""
     if row["clock"] is not None:
-        return "clock", f"index {row['index_sid']}, {times}"
-    return "timecode", f"{row['kind']} package {row['uid'][-16:]}, track {row['track']}, {times}"
+        return "clock", f"index {row['index_sid']}, {row['clock_first']} to {row['clock_last'] or '-'}"
+    return "timecode", f"{row['kind']} package {row['uid'][-16:]}, track {row['track']}, from {row['at']}"
 
 
 def shown(connection: sqlite3.Connection, identity: int) -> List[Tuple[str, List[str], List[Tuple[Any, ...]]]]:
