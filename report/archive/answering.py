@@ -101,8 +101,10 @@ Answer = Tuple[List[str], List[Tuple[Any, ...]]]
 
 def answer_of(connection: sqlite3.Connection, question: str, values: Sequence[Any] = ()) -> Answer:
     """The heads and the rows that a question answers."""
-    cursor = connection.execute(question, values)
-    return [column[0] for column in cursor.description], [tuple(row) for row in cursor]
+    cursor = connection.cursor()
+    cursor.row_factory = None
+    rows = cursor.execute(question, values).fetchall()
+    return [column[0] for column in cursor.description], rows
 
 
 def listed(connection: sqlite3.Connection, what: str, days: Optional[int]) -> Answer:

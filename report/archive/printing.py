@@ -8,6 +8,8 @@ from typing import Any, Iterable, List, Optional, Sequence
 # Characters of control, line ends of Unicode, and marks of direction: a terminal may obey them.
 CONTROL = re.compile("[\x00-\x1f\x7f-\x9f\u2028\u2029\u202a-\u202e\u2066-\u2069]")
 
+ENCODER = json.JSONEncoder(ensure_ascii=False, separators=(",", ":"))
+
 Cells = Sequence[Any]
 
 
@@ -16,15 +18,19 @@ def cell(value: Any) -> str:
     return "-" if value is None else CONTROL.sub("?", str(value))
 
 
+def cells(column: Cells) -> List[str]:
+    """The values of a column."""
+    texts = ["-" if value is None else str(value) for value in column]
+    return texts if "".join(texts).isprintable() else [CONTROL.sub("?", text) for text in texts]
+
+
 def print_table(heads: Sequence[str], rows: Iterable[Cells]) -> None:
     """Prints columns side by side, with numbers on the right. Nothing stands after the last column."""
-    kept = [list(row) for row in rows]
-    texts = [[cell(value) for value in row] for row in kept]
-    widths = [max(len(text) for text in column) for column in zip(heads, *texts)]
-    numeric = [any(isinstance(value, int) for value in column) for column in zip(*kept)] or [False] * len(heads)
-    for line in [list(heads), *texts]:
-        padded = (text.rjust(width) if is_number else text.ljust(width) for text, width, is_number in zip(line, widths, numeric))
-        sys.stdout.write("  ".join(padded).rstrip() + "\n")
+    columns = list(zip(*rows)) or [()] * len(heads)
+    texts = [[head, *cells(column)] for head, column in zip(heads, columns)]
+    numeric = [any(isinstance(value, int) for value in column) for column in columns]
+    form = "  ".join(f"{{:{'>' if is_number else '<'}{max(map(len, text))}}}" for text, is_number in zip(texts, numeric))
+    sys.stdout.writelines(form.format(*line).rstrip() + "\n" for line in zip(*texts))
 
 
 def print_csv(heads: Sequence[str], rows: Iterable[Cells]) -> None:
@@ -42,7 +48,7 @@ def print_json(heads: Sequence[str], rows: Iterable[Cells]) -> None:
 
 def print_line(line: Any) -> None:
     """Prints a JSON object on a line of its own."""
-    sys.stdout.write(json.dumps(line, ensure_ascii=False, separators=(",", ":")) + "\n")
+    sys.stdout.write(ENCODER.encode(line) + "\n")
 
 
 FORMS = {"table": print_table, "csv": print_csv, "json": print_json}
