@@ -1,12 +1,13 @@
 """The commands that ask mxf_tool and write to the database, or read lines."""
 import argparse
 import os
+import sqlite3
 import sys
 from typing import List
 
 from archive import answering, asking, database, gathering, printing, storing
 from archive.faults import DATA, READ, USAGE, OwnFault
-from archive.rows import recordings_of
+from archive.rows import Recording, recordings_of
 
 
 def gathered_of(words: argparse.Namespace) -> gathering.Gathering:
@@ -46,18 +47,27 @@ def load(words: argparse.Namespace) -> int:
     for path in words.file:
         try:
             recordings = list(recordings_of(lines_of(path), path))
+            with database.writing(words.database, is_new=True) as connection:
+                news = sum(store_news(connection, recording, path) for recording in recordings)
+            loaded, older = loaded + news, older + len(recordings) - news
         except OwnFault as fault:
+            if fault.status not in (DATA, READ):
+                raise
             print(f"mxf_archive: {fault}", file=sys.stderr)
             status = status or fault.status
-            continue
-        with database.writing(words.database, is_new=True) as connection:
-            for recording in recordings:
-                is_news = recording.state["gathered"] > storing.last_gathered(connection, recording.name)
-                if is_news:
-                    storing.store(connection, recording)
-                loaded, older = loaded + is_news, older + (not is_news)
     print(f"loaded {loaded}, passed over {older} that are no newer than what is there")
     return status
+
+
+def store_news(connection: sqlite3.Connection, recording: Recording, path: str) -> bool:
+    """Puts a recording of a file into the database, if it is newer than what is there. Whether it is."""
+    if recording.state["gathered"] <= storing.last_gathered(connection, recording.name):
+        return False
+    try:
+        storing.store(connection, recording)
+    except (sqlite3.IntegrityError, sqlite3.InterfaceError, sqlite3.ProgrammingError, ValueError, OverflowError) as fault:
+        raise OwnFault(DATA, f"bad lines: {path}: {recording.name}: {fault}") from fault
+    return True
 
 
 def lines_of(path: str) -> List[asking.Line]:

@@ -60,7 +60,10 @@ def source_of(word: str) -> Source:
     if not found:
         raise OwnFault(USAGE, f"bad source: {word}")
     parts = [part for part in found.groups() if part is not None]
-    return Source(parts[0], parts[1] if len(parts) == 3 else "", os.path.abspath(parts[-1]))
+    path = os.path.abspath(parts[-1])
+    if path != os.fsencode(path).decode("utf-8", "replace"):
+        raise OwnFault(USAGE, f"bad source: {word}: its folder isn't UTF-8")
+    return Source(parts[0], parts[1] if len(parts) == 3 else "", path)
 
 
 def is_read_once(path: str) -> bool:

@@ -7,6 +7,9 @@ from typing import Any, Dict, NamedTuple, Optional
 # A timecode: two digits each, and two to five of the frames.
 TIMECODE = re.compile(r"([0-9]{2}):([0-9]{2}):([0-9]{2})([:;])([0-9]{2,5})")
 
+# A time in UTC by ISO 8601, to the second.
+IS_TIME = re.compile(r"[0-9]{4}-[0-9]{2}-[0-9]{2}T[0-9]{2}:[0-9]{2}:[0-9]{2}Z")
+
 HOURS = 24
 
 
