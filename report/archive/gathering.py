@@ -55,10 +55,12 @@ class Gathering:
         read once, and then its catalogue is asked. Which source is damaged that doesn't tell, so it is asked for if the
         join says that there may be one."""
         asked = self.asked
+        sources = [source_of(word) for word in asked.sources.each()]
+        if any(source.form == "range" for source in sources):
+            return asked.sources
         if asked.catalogue is not None:
             return Sources([Source("cat", "", asked.catalogue).word()], [])
-        sources = [source_of(word) for word in asked.sources.each()]
-        if asked.is_skim or any(source.form == "range" for source in sources):
+        if asked.is_skim:
             return asked.sources
         if len(sources) == 1 and sources[0].form == "cat":
             return asked.sources
