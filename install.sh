@@ -1,5 +1,6 @@
 #!/usr/bin/env bash
-# Installs the program, mxf_report and mxf_archive, their man pages, their completions for bash, and the guides:
+# Installs the program, mxf_report and mxf_archive, their man pages, their completions for bash, the guides and the example
+# of an archive:
 # install.sh [--from FOLDER] [PREFIX], by default below /usr/local. With --from they are those of a folder that
 # packaging/release made, whose sums are checked; the kit isn't needed then. Without it the program is proved and built
 # first if it isn't yet. What stands there under these names is replaced.
@@ -14,6 +15,7 @@ fi
 prefix=${1:-/usr/local}
 program=${MXF_TOOL:-$top/crates/mxf_tool/out/mxf_tool}
 scripts=$top/report
+example=$top/examples/archive
 pages=$top/docs
 completions=$top/completions
 
@@ -30,6 +32,7 @@ if [ -n "$from" ]; then
   # If the C library is another one, the program that has its own is taken.
   "$program" --version >/dev/null 2>&1 || program=$from/mxf_tool.static
   scripts=$from
+  example=$from/examples/archive
   pages=$from
   completions=$from
 elif [ -z "${MXF_TOOL-}" ]; then
@@ -43,4 +46,6 @@ for name in mxf_tool mxf_report mxf_archive; do
   put 644 "$pages/$name.1" "share/man/man1/$name.1"
   put 644 "$completions/$name.bash" "share/bash-completion/completions/$name"
 done
+put 644 "$example/Makefile" share/mxf-tool/archive/Makefile
+for name in lacking recording side_by_side stretches slurm/run; do put 755 "$example/$name" "share/mxf-tool/archive/$name"; done
 for name in GUIDE FORMATS ARCHIVE; do put 644 "$pages/$name.md" "share/doc/mxf-tool/$name.md"; done
