@@ -203,7 +203,7 @@ def line_of(text: bytes, name: str) -> Line:
     """The JSON object of a line of mxf_tool, which has its name."""
     try:
         line = json.loads(text.decode("utf-8", "replace"))
-    except ValueError as fault:
+    except (ValueError, RecursionError) as fault:
         raise OwnFault(NO_PROGRAM, f"{name} prints a line that is no JSON of mxf_tool") from fault
     if not isinstance(line, dict) or not isinstance(line.get("line"), str):
         raise OwnFault(NO_PROGRAM, f"{name} prints a line that is no JSON of mxf_tool")

@@ -12,6 +12,10 @@ Row = Dict[str, Any]
 
 GREATEST = 2**63 - 1  # of an INTEGER of SQLite
 
+# The commands whose lines are taken, and what is kept of a source.
+COMMANDS = ("show", "describe", "check", "plan", "map", "units")
+ORIGIN = ("number", "word", "form", "offset", "path", "size", "modified", "sha256")
+
 # Stops of a source that is damaged, or isn't what its word says (docs/FORMATS.md).
 DAMAGED = ("not-ul", "bad-length", "too-far")
 
@@ -45,10 +49,12 @@ class Recording:
     def take(self, line: Line) -> None:
         """Takes a line. One that nothing is kept of is passed over."""
         if line["line"] == "asked":
+            if line["command"] not in COMMANDS:
+                raise ValueError("no command of mxf_tool")
             self.command, self.index_sid = line["command"], line.get("index-sid")
         elif line["line"] == "origin":
-            self.add("sources", **{name: line[name] for name in line if name != "line"})
-        else:
+            self.add("sources", **{name: line[name] for name in ORIGIN})
+        elif self.command:
             name = f"{self.command}_{line['line']}".replace("-", "_")
             getattr(self, name, lambda _: None)(line)
 
@@ -311,7 +317,7 @@ def recordings_of(lines: Iterable[Line], where: str) -> Iterator[Recording]:
                 recording = None
             else:
                 recording.take(line)
-    except (KeyError, IndexError, TypeError, ValueError, AttributeError) as fault:
+    except (KeyError, IndexError, TypeError, ValueError, AttributeError, ArithmeticError) as fault:
         raise OwnFault(DATA, f"bad lines: {where}: line {number}") from fault
     if recording is not None:
         raise OwnFault(DATA, f"bad lines: {where}: they end at line {number}, within a recording")
