@@ -6,7 +6,7 @@ import sys
 from typing import List
 
 from archive import answering, asking, database, gathering, printing, storing
-from archive.faults import DATA, READ, USAGE, OwnFault
+from archive.faults import DATA, NO_PROGRAM, READ, USAGE, OwnFault
 from archive.rows import Recording, recordings_of
 
 
@@ -25,7 +25,10 @@ def add(words: argparse.Namespace) -> int:
     asked = gathered_of(words)
     database.check_place(words.database)
     lines = asked.gather()
-    (recording,) = recordings_of(lines, asked.tool.program)
+    try:
+        (recording,) = recordings_of(lines, asked.tool.program)
+    except OwnFault as fault:
+        raise OwnFault(NO_PROGRAM, f"{asked.tool.program} prints lines that mxf_archive doesn't know") from fault
     with database.writing(words.database, is_new=True) as connection:
         was_known = storing.store(connection, recording)
     print("replaced" if was_known else "added", printing.cell(words.name))
@@ -98,7 +101,7 @@ def verify(words: argparse.Namespace) -> int:
     told_words = [asking.source_of(word).word() for word in sources.each()]
     with database.writing(words.database) as connection:
         identity = answering.identity_of(connection, words.name)
-        kept = {"program": tool.version(), "against": references}
+        kept = {"program": tool.version, "against": references}
         storing.store_verification(connection, identity, kept, said, told_words)
     total = said[-1]
     print("verified {packets} of {all-packets} packets {bytes} of {all-bytes} bytes differs {differs} cut {cut} "

@@ -23,6 +23,12 @@ IDENTIFIED = tuple(b'"tag":"%s"' % tag.encode() for tag in IDENTIFIERS)
 # A source: its form, what stands between that and the path, and the path.
 SOURCE = re.compile(r"(at|range):([0-9]+):(.+)|(slice):([0-9]+:[0-9]+):(.+)|(cat):(.+)", re.DOTALL)
 
+# The line that each command prints whatever it finds.
+CLOSING = {
+    "join": "joined", "show": "chain", "describe": "packages", "check": "findings", "plan": "planned", "map": "map",
+    "units": "units", "verify": "verified", "find": "fragments",
+}  # fmt: skip
+
 BLOCK = 1 << 20  # bytes that are read at once of a catalogue
 
 
@@ -148,11 +154,26 @@ def program() -> str:
     return str(beside[0]) if beside else "mxf_tool"
 
 
+def version_of(path: str) -> str:
+    """What the program calls itself."""
+    try:
+        done = subprocess.run([path, "--version"], stdout=subprocess.PIPE, check=False)
+    except OSError as fault:
+        raise OwnFault(NO_PROGRAM, f"{path} can't be run: {fault.strerror}") from fault
+    if done.returncode != 0:
+        raise OwnFault(NO_PROGRAM, f"{path} --version ended with status {done.returncode}")
+    return done.stdout.decode("utf-8", "replace").strip()
+
+
 class Tool:
-    """mxf_tool. Its first call says its faults and how far it is by itself."""
+    """mxf_tool. Its first question says its faults and how far it is by itself. The launcher of the repository looks at each
+    call whether the program is current; once is enough, and then the program itself is asked."""
 
     def __init__(self) -> None:
-        self.program = program()
+        launcher = program()
+        self.version = version_of(launcher)
+        built = pathlib.Path(launcher).resolve().parent / "crates" / "mxf_tool" / "out" / "mxf_tool"
+        self.program = str(built) if built.is_file() else launcher
         self.calls = 0
         self.status = 0
 
@@ -173,9 +194,15 @@ class Tool:
             process = subprocess.Popen(words, stdin=given, stdout=subprocess.PIPE, stderr=told)
         except OSError as fault:
             raise OwnFault(NO_PROGRAM, f"{words[0]} can't be run: {fault.strerror}") from fault
+        closing, is_whole, texts = b'{"line":"%s"' % CLOSING[words[1]].encode(), False, []
         with process:
-            texts = [text for text in process.stdout if keeps(text)]
+            for text in process.stdout:
+                is_whole = is_whole or text.startswith(closing)
+                if keeps(text):
+                    texts.append(text)
         self.check(process.returncode, told)
+        if not is_whole:
+            raise OwnFault(NO_PROGRAM, f"{words[0]} {words[1]} prints no line {CLOSING[words[1]]}")
         for text in texts:
             yield line_of(text, words[0])
 
@@ -189,14 +216,6 @@ class Tool:
             told.seek(0)
             message = told.read()
         raise ToolFault(status if status > 0 else 128 - status, message)
-
-    def version(self) -> str:
-        """What the program calls itself."""
-        try:
-            said = subprocess.run([self.program, "--version"], stdout=subprocess.PIPE, check=True).stdout
-        except (OSError, subprocess.CalledProcessError) as fault:
-            raise OwnFault(NO_PROGRAM, f"{self.program} can't be run: {fault}") from fault
-        return said.decode("utf-8", "replace").strip()
 
 
 def line_of(text: bytes, name: str) -> Line:

@@ -41,7 +41,7 @@ class Gathering:
         if asked.catalogue is not None:
             origins.insert(0, origin_of(0, source_of(f"cat:{asked.catalogue}")))
         self.lines.append({
-            "line": "recording", "format": FORMAT, "name": asked.name, "gathered": gathered, "program": self.tool.version(),
+            "line": "recording", "format": FORMAT, "name": asked.name, "gathered": gathered, "program": self.tool.version,
             "skim": asked.is_skim,
         })  # fmt: skip
         self.lines += origins
