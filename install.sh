@@ -1,5 +1,6 @@
 #!/usr/bin/env bash
-# Installs the program and mxf_report, their man pages, their completions for bash, the guide and the formats:
+# Installs the program, mxf_report and mxf_archive, their man pages, their completions for bash, the guides and the example
+# of an archive:
 # install.sh [--from FOLDER] [PREFIX], by default below /usr/local. With --from they are those of a folder that
 # packaging/release made, whose sums are checked; the kit isn't needed then. Without it the program is proved and built
 # first if it isn't yet. What stands there under these names is replaced.
@@ -13,7 +14,8 @@ if [ "${1-}" = --from ] && [ $# -gt 1 ]; then
 fi
 prefix=${1:-/usr/local}
 program=${MXF_TOOL:-$top/crates/mxf_tool/out/mxf_tool}
-report=$top/report/mxf_report
+scripts=$top/report
+example=$top/examples/archive
 pages=$top/docs
 completions=$top/completions
 
@@ -29,7 +31,8 @@ if [ -n "$from" ]; then
   program=$from/mxf_tool
   # If the C library is another one, the program that has its own is taken.
   "$program" --version >/dev/null 2>&1 || program=$from/mxf_tool.static
-  report=$from/mxf_report
+  scripts=$from
+  example=$from/examples/archive
   pages=$from
   completions=$from
 elif [ -z "${MXF_TOOL-}" ]; then
@@ -37,9 +40,12 @@ elif [ -z "${MXF_TOOL-}" ]; then
 fi
 put() { install -D -m "$1" "$2" "$prefix/$3" && printf '%s\n' "$prefix/$3"; }
 put 755 "$program" bin/mxf_tool
-put 755 "$report" bin/mxf_report
-for name in mxf_tool mxf_report; do
+for name in mxf_report mxf_archive; do put 755 "$scripts/$name" "bin/$name"; done
+for file in "$scripts"/archive/*.py; do put 644 "$file" "lib/mxf-tool/archive/${file##*/}"; done
+for name in mxf_tool mxf_report mxf_archive; do
   put 644 "$pages/$name.1" "share/man/man1/$name.1"
   put 644 "$completions/$name.bash" "share/bash-completion/completions/$name"
 done
-for name in GUIDE FORMATS; do put 644 "$pages/$name.md" "share/doc/mxf-tool/$name.md"; done
+put 644 "$example/Makefile" share/mxf-tool/archive/Makefile
+for name in lacking recording side_by_side stretches slurm/run; do put 755 "$example/$name" "share/mxf-tool/archive/$name"; done
+for name in GUIDE FORMATS ARCHIVE; do put 644 "$pages/$name.md" "share/doc/mxf-tool/$name.md"; done

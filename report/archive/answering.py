@@ -1,0 +1,229 @@
+"""What is asked of the database: lists, what has a name or a timecode, all of one recording, and orders."""
+import datetime
+import re
+import sqlite3
+from typing import Any, Dict, List, NamedTuple, Optional, Sequence, Set, Tuple
+
+from archive import moments
+from archive.faults import USAGE, OwnFault
+from archive.printing import number_or_none
+from archive.texts import words_of
+
+LIST = """
+SELECT r.name AS recording, r.title AS name, r.length, r.timecode, s."end", s.missing, s.orders, s.findings, s.disputes,
+  nullif(r.verified, '') AS verified
+FROM recordings r JOIN states s ON s.recording = r.id AND s.number = r.state
+"""
+
+# What is listed, by the option.
+LISTS = {
+    "all": LIST + "ORDER BY r.name",
+    "missing": LIST + "WHERE r.is_missing = 1 ORDER BY r.name",
+    "damaged": LIST + "WHERE r.is_damaged = 1 ORDER BY r.name",
+    "disputed": LIST + "WHERE r.is_disputed = 1 ORDER BY r.name",
+    "changed": LIST + "WHERE r.is_changed = 1 ORDER BY r.name",
+    "unverified": LIST + "WHERE r.verified < ? ORDER BY r.verified, r.name",
+}
+
+BY_UMID = """
+SELECT r.name AS recording, 'package' AS what, p.uid AS text
+FROM packages p JOIN recordings r ON r.id = p.recording WHERE substr(p.uid, -16) = ?
+UNION
+SELECT r.name, 'clip', c.of_uid
+FROM clips c JOIN recordings r ON r.id = c.recording WHERE substr(c.of_uid, -16) = ?
+"""
+
+BY_TIMECODE = """
+SELECT r.name AS recording, h.clock, h.first, h.last, h.base, h.is_drop, c.index_sid, c.first AS clock_first,
+  c.last AS clock_last, t.track, t.at, p.kind, p.uid
+FROM hours h JOIN recordings r ON r.id = h.recording
+  LEFT JOIN clocks c ON c.recording = h.recording AND c.number = h.clock
+  LEFT JOIN timecodes t ON t.recording = h.recording AND t.number = h.timecode
+  LEFT JOIN packages p ON p.recording = h.recording AND p.number = t.package
+WHERE h.hour = ? AND h.first < ?
+ORDER BY r.name, h.number
+"""
+
+# Texts with a word that begins so: from it up to what comes after all of these.
+BY_WORD = "SELECT text FROM words WHERE word >= ? AND word < ?"
+OF_TEXT = """
+SELECT r.name AS recording, 'name of ' || t.what AS what, t.text
+FROM texts t JOIN recordings r ON r.id = t.recording WHERE t.id = ?
+"""
+AFTER_ALL = "\U0010ffff"
+
+# What `show` prints of a recording, table by table.
+SHOWN = {
+    "recordings": """SELECT name, title, length, timecode, pattern, metadata, chain, is_missing, is_damaged, is_disputed,
+        is_changed, nullif(verified, '') AS verified FROM recordings WHERE id = ?""",
+    "states": """SELECT number, gathered, program, is_skim, packets, "end", held, hand, missing, findings, disputes, orders,
+        ordered, open FROM states WHERE recording = ? ORDER BY number""",
+    "sources": """SELECT number, word, size, modified, sha256 FROM sources WHERE recording = ? ORDER BY number""",
+    "stops": """SELECT source, "offset", stop, at FROM stops WHERE recording = ? ORDER BY number""",
+    "programs": """SELECT company, product, version, modified FROM programs WHERE recording = ? ORDER BY number""",
+    "packages": """SELECT number, kind, uid, name, created, body_sid, index_sid FROM packages WHERE recording = ?
+        ORDER BY number""",
+    "tracks": """SELECT package, track, kind, rate, origin, duration, length, name FROM tracks WHERE recording = ?
+        ORDER BY number""",
+    "clips": """SELECT package, track, start, duration, of_uid, of_track, of_position FROM clips WHERE recording = ?
+        ORDER BY number""",
+    "timecodes": """SELECT package, track, start, duration, at, base FROM timecodes WHERE recording = ? ORDER BY number""",
+    "pictures": """SELECT package, track, rate, width, height, display_width, display_height, layout, aspect, depth, coding
+        FROM pictures WHERE recording = ? ORDER BY number""",
+    "sounds": """SELECT package, track, rate, channels, bits, coding FROM sounds WHERE recording = ? ORDER BY number""",
+    "clocks": """SELECT index_sid, position, count, first, last, base, told_by FROM clocks WHERE recording = ?
+        ORDER BY number""",
+    "partitions": """SELECT "offset", part, status, this, previous, footer, header_bytes, index_bytes, index_sid,
+        body_offset, body_sid, pattern, link FROM partitions WHERE recording = ? ORDER BY "offset" """,
+    "indexes": """SELECT index_sid, units, held, hand, said FROM indexes WHERE recording = ? ORDER BY index_sid""",
+    "findings": """SELECT code, "offset", text FROM findings WHERE recording = ? ORDER BY number""",
+    "orders": """SELECT start, "end", length, reason, pack, is_inside, is_again FROM orders WHERE recording = ?
+        ORDER BY number""",
+    "disputes": """SELECT "offset", "end", kind, width, length, key, is_head FROM disputes WHERE recording = ?
+        ORDER BY number""",
+    "verifications": """SELECT number, verified, program, against, packets, all_packets, bytes, all_bytes, differs, cut,
+        unknown FROM verifications WHERE recording = ? ORDER BY number""",
+    "differences": """SELECT verification, what, source, start, "end", kind, key FROM differences WHERE recording = ?
+        ORDER BY verification, number""",
+}
+
+ORDERS = """
+SELECT r.name AS recording, o.start, o."end", o.reason, o.is_inside
+FROM recordings r JOIN orders o ON o.recording = r.id WHERE r.is_missing = 1 ORDER BY r.name
+"""
+
+# The digits of an identifier, and what may stand between and before them.
+UMID = re.compile(r"[0-9a-f]{16,64}")
+UMID_PREFIX = re.compile(r"^(urn:smpte:umid:|0x)|[-.\s{}]")
+
+Answer = Tuple[List[str], List[Tuple[Any, ...]]]
+
+
+def answer_of(connection: sqlite3.Connection, question: str, values: Sequence[Any] = ()) -> Answer:
+    """The heads and the rows that a question answers."""
+    cursor = connection.cursor()
+    cursor.row_factory = None
+    rows = cursor.execute(question, values).fetchall()
+    return [column[0] for column in cursor.description], rows
+
+
+def listed(connection: sqlite3.Connection, what: str, days: Optional[int]) -> Answer:
+    """The recordings of a list. Those that weren't verified for so many days go by the time of their last verification."""
+    if days is None:
+        return answer_of(connection, LISTS[what])
+    try:
+        since = moments.text_of(moments.now() - datetime.timedelta(days=days))
+    except OverflowError:
+        since = ""
+    # A recording that was never verified goes before all times.
+    return answer_of(connection, LISTS[what], (max(since, "0"),))
+
+
+Found = Set[Tuple[str, str, str]]
+
+
+def found(connection: sqlite3.Connection, words: Sequence[str]) -> Answer:
+    """What is found by all of these words: the recording, what has the word, and that text."""
+    each = [found_by(connection, word) for word in words]
+    recordings = set.intersection(*({row[0] for row in rows} for rows in each))
+    rows = sorted({row for one in each for row in one if row[0] in recordings})
+    return ["recording", "what", "text"], rows
+
+
+def found_by(connection: sqlite3.Connection, word: str) -> Found:
+    """What is found by one word: a timecode, the end of an identifier, or words of a name."""
+    if moments.TIMECODE.fullmatch(word):
+        return found_by_timecode(connection, word)
+    digits = UMID_PREFIX.sub("", word.lower())
+    rows = found_by_words(connection, words_of(word))
+    return rows | found_by_umid(connection, digits) if UMID.fullmatch(digits) else rows
+
+
+def found_by_umid(connection: sqlite3.Connection, digits: str) -> Found:
+    """Packages with an identifier that ends so, and clips that show one."""
+    rows = connection.execute(BY_UMID, (digits[-16:], digits[-16:]))
+    return {tuple(row) for row in rows if row["text"].endswith(digits)}
+
+
+def found_by_words(connection: sqlite3.Connection, words: Sequence[str]) -> Found:
+    """Texts that have, for each of the words, one that begins with it."""
+    each = [{row["text"] for row in connection.execute(BY_WORD, (word, word + AFTER_ALL))} for word in words]
+    texts = set.intersection(*each) if each else set()
+    return {tuple(row) for text in texts for row in connection.execute(OF_TEXT, (text,))}
+
+
+def found_by_timecode(connection: sqlite3.Connection, timecode: str) -> Found:
+    """The clocks that have a timecode; of recordings of which none has, the timecode components of packages that have it."""
+    if int(timecode[:2]) >= moments.HOURS:
+        return set()
+    after = f"{timecode[:8]}:{AFTER_ALL}"
+    rows = [row for row in connection.execute(BY_TIMECODE, (int(timecode[:2]), after)) if has_timecode(row, timecode)]
+    clocked = {row["recording"] for row in rows if row["clock"] is not None}
+    return {(row["recording"], *told_by(row)) for row in rows if row["clock"] is not None or row["recording"] not in clocked}
+
+
+def has_timecode(row: sqlite3.Row, timecode: str) -> bool:
+    """Whether the timecodes of an hour have this one."""
+    counting = moments.Counting(row["base"], bool(row["is_drop"]))
+    if not counting.has(timecode):
+        return False
+    return counting.number(row["first"]) <= counting.number(timecode) <= counting.number(row["last"])
+
+
+def told_by(row: sqlite3.Row) -> Tuple[str, str]:
+    """Which clock has a timecode, and from which to which it goes; or which track of a package, and from which on."""
+    if row["clock"] is not None:
+        return "clock", f"index {row['index_sid']}, {row['clock_first']} to {row['clock_last'] or '-'}"
+    return "timecode", f"{row['kind']} package {row['uid'][-16:]}, track {row['track']}, from {row['at']}"
+
+
+def shown(connection: sqlite3.Connection, identity: int) -> List[Tuple[str, List[str], List[Tuple[Any, ...]]]]:
+    """All of a recording: each table that has something of it."""
+    parts = [(table, *answer_of(connection, question, (identity,))) for table, question in SHOWN.items()]
+    return [part for part in parts if part[2]]
+
+
+def identity_of(connection: sqlite3.Connection, name: str) -> int:
+    """The number of a recording, which has to be there."""
+    row = connection.execute("SELECT id FROM recordings WHERE name = ?", (name,)).fetchone()
+    if row is None:
+        raise OwnFault(USAGE, f"no recording: {name}")
+    return row["id"]
+
+
+class Stretch(NamedTuple):
+    """Orders of a recording that are restored as one: from where to where, why, and the form of source that takes what
+    comes."""
+
+    recording: str
+    start: int
+    end: Optional[int]
+    reasons: Dict[str, None]
+    form: str
+
+    def row(self) -> Tuple[Any, ...]:
+        """The row that is printed."""
+        length = None if self.end is None else self.end - self.start
+        return self.recording, self.start, self.end, length, ",".join(self.reasons), self.form
+
+
+def ordered(connection: sqlite3.Connection, by: str, apart: int) -> Answer:
+    """All orders, of which those of one recording are one that touch or lie less than so many bytes apart."""
+    orders = [order_of(row) for row in connection.execute(ORDERS)]
+    stretches: List[Stretch] = []
+    for order in sorted(orders, key=lambda one: (one.recording, one.start)):
+        last = stretches[-1] if stretches else None
+        if last and last.recording == order.recording and (last.end is None or order.start - last.end < max(apart, 1)):
+            end = None if None in (last.end, order.end) else max(last.end, order.end)
+            stretches[-1] = last._replace(end=end, reasons={**last.reasons, **order.reasons})
+        else:
+            stretches.append(order)
+    if by == "offset":
+        stretches.sort(key=lambda one: (one.start, one.recording))
+    return ["recording", "start", "end", "length", "reason", "form"], [one.row() for one in stretches]
+
+
+def order_of(row: sqlite3.Row) -> Stretch:
+    """An order by itself."""
+    end = number_or_none(row["end"])
+    return Stretch(row["recording"], int(row["start"]), end, {row["reason"]: None}, "range" if row["is_inside"] else "at")

@@ -1,0 +1,148 @@
+"""The database file: opening it, its version, waiting for other writers, and transactions."""
+import contextlib
+import os
+import pathlib
+import sqlite3
+import sys
+import time
+from typing import Iterator
+
+from archive import schema
+from archive.faults import DATA, NO_PROGRAM, READ, UNWRITTEN, OwnFault
+
+PATIENCE = 1  # seconds after which it is said that another writer is waited for
+LONGEST = 600  # seconds that are waited at most
+
+
+def check_library() -> None:
+    """Sees that the library of SQLite knows what the schema needs."""
+    if sqlite3.sqlite_version_info < schema.SQLITE:
+        least = ".".join(str(part) for part in schema.SQLITE[:2])
+        raise OwnFault(NO_PROGRAM, f"SQLite {least} is needed, and this Python has {sqlite3.sqlite_version}")
+
+
+def address_of(path: str, mode: str) -> str:
+    """The address of a database file, opened in this mode."""
+    return f"{pathlib.Path(os.path.abspath(path)).as_uri()}?mode={mode}"
+
+
+def is_locked(fault: sqlite3.Error) -> bool:
+    """Whether another program holds the database."""
+    return "locked" in str(fault)
+
+
+@contextlib.contextmanager
+def faults_of(path: str, status: int) -> Iterator[None]:
+    """Says a fault of SQLite as one of this program: of reading or of writing the database, by the status."""
+    try:
+        yield
+    except sqlite3.DatabaseError as fault:
+        if "not a database" in str(fault) or "malformed" in str(fault):
+            raise OwnFault(DATA, f"bad database: {path}: {fault}") from fault
+        words = "write fault" if status == UNWRITTEN else "read fault"
+        raise OwnFault(status, f"{words}: {path}: {fault}") from fault
+
+
+def version_of(connection: sqlite3.Connection, path: str) -> int:
+    """The version of the schema; 0 of a file that has nothing. Any other is none of this program's."""
+    application = connection.execute("PRAGMA application_id").fetchone()[0]
+    version = connection.execute("PRAGMA user_version").fetchone()[0]
+    if application == schema.APPLICATION and version > schema.VERSION:
+        said = f"it is of version {version}, and this program knows version {schema.VERSION}"
+        raise OwnFault(DATA, f"bad database: {path}: {said}")
+    if application == schema.APPLICATION and version == schema.VERSION:
+        return version
+    tables = connection.execute("SELECT count(*) FROM sqlite_master").fetchone()[0]
+    if application or version or tables:
+        raise OwnFault(DATA, f"bad database: {path}: it isn't one of mxf_archive")
+    return 0
+
+
+@contextlib.contextmanager
+def reading(path: str) -> Iterator[sqlite3.Connection]:
+    """The database, to be asked: all answers are of one state of it. It is written to only to make up for a writer that was
+    killed."""
+    if not os.path.exists(path):
+        raise OwnFault(READ, f"read fault: {path}: No such file or directory")
+    with faults_of(path, READ):
+        mode = "rw" if os.access(path, os.W_OK) else "ro"
+        connection = sqlite3.connect(address_of(path, mode), uri=True, isolation_level=None, timeout=LONGEST)
+        with contextlib.closing(connection):
+            connection.row_factory = sqlite3.Row
+            if version_of(connection, path) == 0:
+                raise OwnFault(DATA, f"bad database: {path}: it isn't one of mxf_archive")
+            connection.execute("PRAGMA query_only = ON")
+            connection.execute("BEGIN")
+            yield connection
+
+
+def check_place(path: str) -> None:
+    """Sees that a database can be written there, before a recording is asked for, which may take an hour."""
+    if os.path.exists(path) and os.path.getsize(path):
+        with faults_of(path, UNWRITTEN), contextlib.closing(sqlite3.connect(address_of(path, "ro"), uri=True)) as connection:
+            version_of(connection, path)
+    elif not os.path.isdir(os.path.dirname(os.path.abspath(path))):
+        raise OwnFault(UNWRITTEN, f"write fault: {path}: No such file or directory")
+    target = path if os.path.exists(path) else os.path.dirname(os.path.abspath(path))
+    if not os.access(target, os.W_OK):
+        raise OwnFault(UNWRITTEN, f"write fault: {path}: Permission denied")
+
+
+class Waiting:
+    """A writer that waits for others, and says so once."""
+
+    def __init__(self, path: str) -> None:
+        self.path = path
+        self.begun = time.monotonic()
+        self.is_told = False
+
+    def until(self, connection: sqlite3.Connection, statement: str) -> None:
+        """Runs a statement as soon as no other program holds the database."""
+        while True:
+            connection.execute(f"PRAGMA busy_timeout = {1000 * PATIENCE}")
+            try:
+                connection.execute(statement)
+                return
+            except sqlite3.OperationalError as fault:
+                waited = time.monotonic() - self.begun
+                if not is_locked(fault) or waited > LONGEST:
+                    raise
+                if waited > PATIENCE and not self.is_told:
+                    print(f"mxf_archive: {self.path}: another program writes to it, and is waited for", file=sys.stderr)
+                    self.is_told = True
+                time.sleep(0.02)
+
+
+@contextlib.contextmanager
+def writing(path: str, is_new: bool = False) -> Iterator[sqlite3.Connection]:
+    """A transaction that writes to the database, all or nothing. If that may be new, it is made."""
+    if not is_new and not os.path.exists(path):
+        raise OwnFault(READ, f"read fault: {path}: No such file or directory")
+    with faults_of(path, UNWRITTEN):
+        mode = "rwc" if is_new else "rw"
+        connection = sqlite3.connect(address_of(path, mode), uri=True, isolation_level=None)
+        with contextlib.closing(connection):
+            connection.row_factory = sqlite3.Row
+            waiting = Waiting(path)
+            if version_of(connection, path) == 0:
+                waiting.until(connection, "PRAGMA journal_mode = WAL")
+            connection.execute("PRAGMA synchronous = FULL")
+            connection.execute("PRAGMA foreign_keys = ON")
+            waiting.until(connection, "BEGIN IMMEDIATE")
+            try:
+                make_schema(connection, path)
+                yield connection
+                connection.execute("COMMIT")
+            except BaseException:
+                if connection.in_transaction:
+                    connection.execute("ROLLBACK")
+                raise
+
+
+def make_schema(connection: sqlite3.Connection, path: str) -> None:
+    """Makes the tables, if the database is new."""
+    if version_of(connection, path) == 0:
+        for statement in schema.SCHEMA.split(";\n"):
+            connection.execute(statement)
+        connection.execute(f"PRAGMA application_id = {schema.APPLICATION}")
+        connection.execute(f"PRAGMA user_version = {schema.VERSION}")

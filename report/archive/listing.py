@@ -1,0 +1,35 @@
+"""The commands that print what is in the database."""
+import argparse
+
+from archive import answering, database, printing
+
+
+def list(words: argparse.Namespace) -> int:
+    """Prints recordings, all of them or those of which something holds."""
+    with database.reading(words.database) as connection:
+        what = "unverified" if words.days is not None else words.what
+        printing.print_answer(words.form, *answering.listed(connection, what, words.days))
+    return 0
+
+
+def find(words: argparse.Namespace) -> int:
+    """Prints what has all of the words; status 1 if nothing has."""
+    with database.reading(words.database) as connection:
+        heads, rows = answering.found(connection, words.word)
+        printing.print_answer(words.form, heads, rows)
+    return 0 if rows else 1
+
+
+def show(words: argparse.Namespace) -> int:
+    """Prints all of a recording."""
+    with database.reading(words.database) as connection:
+        identity = answering.identity_of(connection, words.name)
+        printing.print_parts(words.form, answering.shown(connection, identity))
+    return 0
+
+
+def orders(words: argparse.Namespace) -> int:
+    """Prints what is to be restored."""
+    with database.reading(words.database) as connection:
+        printing.print_answer(words.form, *answering.ordered(connection, words.by, words.merge))
+    return 0

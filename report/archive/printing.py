@@ -1,0 +1,80 @@
+"""Answers as a table for people, as CSV or as JSON."""
+import csv
+import json
+import re
+import sys
+from typing import Any, Iterable, List, Optional, Sequence
+
+# Characters of control, line ends of Unicode, and marks of direction: a terminal may obey them.
+CONTROL = re.compile("[\x00-\x1f\x7f-\x9f\u2028\u2029\u202a-\u202e\u2066-\u2069]")
+
+ENCODER = json.JSONEncoder(ensure_ascii=False, separators=(",", ":"))
+
+Cells = Sequence[Any]
+
+
+def cell(value: Any) -> str:
+    """A value in a table: - if there is none."""
+    return "-" if value is None else CONTROL.sub("?", str(value))
+
+
+def cells(column: Cells) -> List[str]:
+    """The values of a column."""
+    texts = ["-" if value is None else str(value) for value in column]
+    return texts if "".join(texts).isprintable() else [CONTROL.sub("?", text) for text in texts]
+
+
+def print_table(heads: Sequence[str], rows: Iterable[Cells]) -> None:
+    """Prints columns side by side, with numbers on the right. Nothing stands after the last column."""
+    columns = list(zip(*rows)) or [()] * len(heads)
+    texts = [[head, *cells(column)] for head, column in zip(heads, columns)]
+    numeric = [any(isinstance(value, int) for value in column) for column in columns]
+    form = "  ".join(f"{{:{'>' if is_number else '<'}{max(map(len, text))}}}" for text, is_number in zip(texts, numeric))
+    sys.stdout.writelines(form.format(*line).rstrip() + "\n" for line in zip(*texts))
+
+
+def print_csv(heads: Sequence[str], rows: Iterable[Cells]) -> None:
+    """Prints CSV by RFC 4180, with a line of heads. A value that there isn't is empty."""
+    writer = csv.writer(sys.stdout)
+    writer.writerow(heads)
+    writer.writerows(rows)
+
+
+def print_json(heads: Sequence[str], rows: Iterable[Cells]) -> None:
+    """Prints a JSON object a line, with a member for each column."""
+    for row in rows:
+        print_line(dict(zip(heads, row)))
+
+
+def print_line(line: Any) -> None:
+    """Prints a JSON object on a line of its own."""
+    sys.stdout.write(ENCODER.encode(line) + "\n")
+
+
+FORMS = {"table": print_table, "csv": print_csv, "json": print_json}
+
+
+def print_answer(form: str, heads: Sequence[str], rows: Iterable[Cells]) -> None:
+    """Prints rows in a form of FORMS."""
+    FORMS[form](heads, rows)
+
+
+def print_parts(form: str, parts: List[Any]) -> None:
+    """Prints tables one after another: each a name, its heads and its rows. In JSON each object says its table first; in
+    CSV a line has the table, the number of the row, a head and a value."""
+    if form == "csv":
+        cells = [(name, number, head, value) for name, heads, rows in parts for number, row in enumerate(rows, 1)
+                 for head, value in zip(heads, row)]  # fmt: skip
+        print_csv(("table", "row", "column", "value"), cells)
+        return
+    for place, (name, heads, rows) in enumerate(parts):
+        if form == "json":
+            print_json(("table", *heads), [(name, *row) for row in rows])
+        else:
+            sys.stdout.write(f"\n{name}\n" if place else f"{name}\n")
+            print_table(heads, rows)
+
+
+def number_or_none(value: Any) -> Optional[int]:
+    """A number of the database, which stands as text if it is large."""
+    return None if value is None else int(value)

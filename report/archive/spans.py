@@ -1,0 +1,60 @@
+"""Which timecodes of a day clocks and timecode components have, hour by hour."""
+from fractions import Fraction
+from typing import Any, Dict, Iterator, NamedTuple, Optional
+
+from archive.moments import HOURS, Counting
+
+
+class Span(NamedTuple):
+    """Timecodes one after another: the first, how many there are, and whether there may be more than is known."""
+
+    first: str
+    count: int
+    counting: Counting
+    is_open: bool
+
+    def hours(self) -> Iterator[Dict[str, Any]]:
+        """What of them lies in each hour of a day, as rows of the table hours. A day is all that there is."""
+        counting, day = self.counting, self.counting.day()
+        begin = counting.number(self.first)
+        end = begin + min(max(self.count, 1), day)
+        for turn in (0, day):
+            for hour in range(HOURS):
+                border = counting.number(f"{hour:02}:00:00:00") + turn
+                after = border + day // HOURS
+                if begin < after and border < end:
+                    yield {
+                        "hour": hour, "base": counting.base, "is_drop": int(counting.is_drop), "is_open": int(self.is_open),
+                        "first": counting.label(max(begin, border) - turn), "last": counting.label(min(end, after) - 1 - turn),
+                    }  # fmt: skip
+
+
+def span_of_clock(line: Dict[str, Any], rate: Optional[Fraction]) -> Span:
+    """The timecodes of a run of a clock. At this rate its positions follow one another, if that is known: a run that is
+    longer than a day has all timecodes. One without an end has all from the first one up to midnight, as far as is known."""
+    counting = Counting(line["base"], ";" in line["first"])
+    begin, day = counting.number(line["first"]), counting.day()
+    if line["count"] is None:
+        return Span(line["first"], day - begin, counting, True)
+    is_long = rate is not None and line["count"] >= 86400 * rate
+    count = day if is_long else (counting.number(line["last"]) - begin) % day + 1
+    return Span(line["first"], count, counting, False)
+
+
+def span_of_component(line: Dict[str, Any], rate: Optional[Fraction]) -> Optional[Span]:
+    """The timecodes of a timecode component in a track of this rate; None if it says none."""
+    if line["at"] is None or not line["base"]:
+        return None
+    counting = Counting(line["base"], ";" in line["at"])
+    begin, duration = counting.number(line["at"]), line["duration"]
+    if duration is None or rate is None:
+        return Span(line["at"], counting.day() - begin, counting, True)
+    exact = duration if round(rate) == counting.base else duration * counting.base / rate
+    return Span(line["at"], int(exact) + (exact != int(exact)), counting, False) if duration > 0 else None
+
+
+def rate_of(text: Optional[str]) -> Optional[Fraction]:
+    """A rate, if both its numbers are above 0."""
+    above, _, below = (text or "").partition("/")
+    is_good = above.isdigit() and below.isdigit() and int(above) > 0 and int(below) > 0
+    return Fraction(int(above), int(below)) if is_good else None
