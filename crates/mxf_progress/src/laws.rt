@@ -1,0 +1,34 @@
+//! The laws of what orders ask for: functions that do nothing, whose clauses hold of all values.
+ghost use Rattle.std.specs.Prelude.{◌≡◌, ◌⊎◌, ℕ, false, true, List, Some};
+ghost use Rattle.mxf_klv.specs.Parts.{NoteParts};
+ghost use Rattle.mxf_klv.specs.Rising.{In};
+ghost use Rattle.mxf_catalogue.specs.Content.{IsContent};
+ghost use Rattle.mxf_catalogue.specs.Runs.{LiesIn};
+ghost use Rattle.mxf_places.specs.AtHand.{AreAtHand, AtHandParts};
+ghost use Rattle.mxf_places.specs.Held.{IsHeld};
+ghost use Rattle.mxf_restore.specs.Orders.{WasHandedIn};
+ghost use Rattle.mxf_restore.specs.Plan.{LiesInOrder, plan_of};
+ghost use Rattle.mxf_restore.specs.declared.plan.Order.{Order};
+ghost use Rattle.mxf_progress.specs.Progress.{IsLackedAt, IsUngivenAt, LacksOfHead};
+
+/// A law of [`Plan::orders`](mxf_restore::Plan::orders): each order that isn't `again` asks for a byte that isn't
+/// there. It has an offset that isn't held and isn't at hand; or it begins with a head of whose key and length a byte
+/// isn't given, and all the rest of it is at hand. If it has an end, some offset below that isn't given. Each order
+/// that is `again` was handed in: all its offsets are given, or the first 25 are at hand if it has no end.
+pub fn each_order_asks_for_a_byte()
+    ensures new { (at : AtHandParts) (notes : List NoteParts) (o : Order) → IsContent notes → AreAtHand at
+        → In o (plan_of at notes).orders → o.again ≡ false
+        → ((x : ℕ) × IsLackedAt at notes o x) ⊎ LacksOfHead at notes o }
+    ensures ungiven { (at : AtHandParts) (notes : List NoteParts) (o : Order) (end : ℕ) → IsContent notes
+        → AreAtHand at → In o (plan_of at notes).orders → o.again ≡ false → o.end ≡ Some end
+        → (x : ℕ) × IsUngivenAt at o x }
+    ensures again { (at : AtHandParts) (notes : List NoteParts) (o : Order) → IsContent notes → AreAtHand at
+        → In o (plan_of at notes).orders → o.again ≡ true → WasHandedIn at o.start o.end }
+{}
+
+/// A law of [`Plan::orders`](mxf_restore::Plan::orders): of an order that lies inside a packet no byte is held, and
+/// none is at hand.
+pub fn orders_inside_lack_all()
+    ensures { (at : AtHandParts) (notes : List NoteParts) (o : Order) (x : ℕ) → IsContent notes → AreAtHand at
+        → In o (plan_of at notes).orders → o.inside ≡ true → LiesInOrder o x → IsLackedAt at notes o x }
+{}
