@@ -1,14 +1,14 @@
 -- What an order asks for that isn't there.
-use Rattle.mxf_views.proofs.Common.{◌≡◌, ◌↔◌, ◌⊎◌, ◌∙◌, ◌<◌, ◌≤◌, ◌+◌, ℕ, Bool, true, false, IsTrue, List, [], ◌∷◌}
-use Rattle.mxf_views.proofs.Common.{Option, None, Some, max, refl, sym, ap, subst, inl, inr, arith, cases_lt, same_Some}
-use Rattle.mxf_views.proofs.Common.{false≢true, NoteParts, covered_end, covers_first, In, IsContent, IsCover, LiesIn}
+use Rattle.mxf_views.proofs.Common.{◌≡◌, ◌⊎◌, ◌∙◌, ◌<◌, ◌≤◌, ℕ, true, false, IsTrue, List, [], ◌∷◌}
+use Rattle.mxf_views.proofs.Common.{None, Some, max, refl, sym, ap, subst, inl, inr, arith, cases_lt, same_Some}
+use Rattle.mxf_views.proofs.Common.{false≢true, NoteParts, covers_first, In, IsContent, IsCover, LiesIn}
 use Rattle.mxf_catalogue.specs.declared.run.Run.{Run}
-use Rattle.mxf_places.specs.AtHand.{AreAtHand, AtHandParts, LiesBetween, LiesInRange, has_offset, has_offsets}
-use Rattle.mxf_places.specs.AtHand.{IsLacking, is_none, lacking, runs_end}
+use Rattle.mxf_places.specs.AtHand.{AreAtHand, AtHandParts, LiesBetween, has_offset, has_offsets}
+use Rattle.mxf_places.specs.AtHand.{is_none, lacking, runs_end}
 use Rattle.mxf_places.specs.Held.{IsHeld}
 use Rattle.mxf_places.specs.declared.at_hand.OffsetRange.{OffsetRange}
 use Rattle.mxf_places.proofs.AtHandLaws.{has_offset-says, has_offsets-says, lacked_is, lacked_there, runs_end-bound}
-use Rattle.mxf_restore.specs.Orders.{IsAsked, IsLackingIn, IsOrder, IsStartOf, IsWholeNeeded, WasHandedIn}
+use Rattle.mxf_restore.specs.Orders.{IsLackingIn, IsOrder, IsStartOf, IsWholeNeeded, WasHandedIn}
 use Rattle.mxf_restore.specs.Plan.{LiesInOrder, plan_of}
 use Rattle.mxf_restore.specs.Sections.{LiesInSection, sections_of}
 use Rattle.mxf_restore.specs.declared.section.Section.{Section}
@@ -50,7 +50,7 @@ module _ (at : AtHandParts) (notes : List NoteParts) (content : IsContent notes)
   section_free p x k l h =
       let are = are_sections notes content in (are.holes p k).none_held x (are.within p x k l) h
 
-  start_le : (p : Section) (start : ℕ) → IsStartOf notes p.first start → start ≤ p.first
+  pub start_le : (p : Section) (start : ℕ) → IsStartOf notes p.first start → start ≤ p.first
   start_le p start (inl s) =
       let end = s.1.ends in
       let begins = s.1.begins in

@@ -1,15 +1,18 @@
 //! The laws of what orders ask for: functions that do nothing, whose clauses hold of all values.
-ghost use Rattle.std.specs.Prelude.{◌≡◌, ◌⊎◌, ℕ, false, true, List, Some};
+ghost use Rattle.std.specs.Prelude.{◌≡◌, ◌↔◌, ◌⊎◌, ℕ, false, true, List, [], Some};
 ghost use Rattle.mxf_klv.specs.Parts.{NoteParts};
 ghost use Rattle.mxf_klv.specs.Rising.{In};
 ghost use Rattle.mxf_catalogue.specs.Content.{IsContent};
 ghost use Rattle.mxf_catalogue.specs.Runs.{LiesIn};
 ghost use Rattle.mxf_places.specs.AtHand.{AreAtHand, AtHandParts};
 ghost use Rattle.mxf_places.specs.Held.{IsHeld};
-ghost use Rattle.mxf_restore.specs.Orders.{WasHandedIn};
+ghost use Rattle.mxf_places.specs.declared.at_hand.OffsetRange.{OffsetRange};
+ghost use Rattle.mxf_restore.specs.Orders.{IsAsked, WasHandedIn};
 ghost use Rattle.mxf_restore.specs.Plan.{LiesInOrder, plan_of};
+ghost use Rattle.mxf_restore.specs.Sections.{IsHole, sections_of};
+ghost use Rattle.mxf_restore.specs.declared.section.Section.{Section};
 ghost use Rattle.mxf_restore.specs.declared.plan.Order.{Order};
-ghost use Rattle.mxf_progress.specs.Progress.{IsLackedAt, IsUngivenAt, LacksOfHead};
+ghost use Rattle.mxf_progress.specs.Progress.{IsBeyondAll, IsLackedAt, IsUngivenAt, LacksOfHead};
 
 /// A law of [`Plan::orders`](mxf_restore::Plan::orders): each order that isn't `again` asks for a byte that isn't
 /// there. It has an offset that isn't held and isn't at hand; or it begins with a head of whose key and length a byte
@@ -31,4 +34,15 @@ pub fn each_order_asks_for_a_byte()
 pub fn orders_inside_lack_all()
     ensures { (at : AtHandParts) (notes : List NoteParts) (o : Order) (x : ℕ) → IsContent notes → AreAtHand at
         → In o (plan_of at notes).orders → o.inside ≡ true → LiesInOrder o x → IsLackedAt at notes o x }
+{}
+
+/// A law of [`Plan::orders`](mxf_restore::Plan::orders): a plan has no order exactly if nothing is asked for of a
+/// section, and exactly if nothing says that a byte lies in a hole. So where a hole ends at something that is held, or
+/// a pack speaks of a place in it, something is ordered.
+pub fn nothing_is_ordered_where_nothing_lacks()
+    ensures sections { (at : AtHandParts) (notes : List NoteParts) → IsContent notes → AreAtHand at
+        → ((plan_of at notes).orders ≡ [])
+        ↔ ((p : Section) (o : Order) → In p (sections_of notes) → ¬ IsAsked at notes p o) }
+    ensures holes { (at : AtHandParts) (notes : List NoteParts) → IsContent notes → AreAtHand at
+        → ((plan_of at notes).orders ≡ []) ↔ ((h : OffsetRange) → IsHole notes h → IsBeyondAll at notes h) }
 {}
