@@ -1,2 +1,3 @@
 pub mod OrderLaws
 pub mod NoOrders
+pub mod RoundLaws

@@ -151,7 +151,7 @@ module _ (at : AtHandParts) (notes : List NoteParts) (content : IsContent notes)
       );
     }
 
-    -- Where nothing lacks, what is asked for has an end, and all of it from the first byte of the section on is at hand.
+    -- Where nothing lacks, all that is asked for from the first byte of the section on is at hand.
     all_there : ((r : OffsetRange) → IsLackingIn at p asked r → ⊥) → (x : ℕ) → LiesBetween p.first asked.end x
         → LiesIn at.hand x
     all_there none x l = elim (lies_or_not at.hand x) [

@@ -1,5 +1,5 @@
 //! The laws of what orders ask for: functions that do nothing, whose clauses hold of all values.
-ghost use Rattle.std.specs.Prelude.{◌≡◌, ◌↔◌, ◌⊎◌, ℕ, false, true, List, [], Some};
+ghost use Rattle.std.specs.Prelude.{◌≡◌, ◌↔◌, ◌⊎◌, ◌<◌, ◌≤◌, ℕ, false, true, length, List, [], Some};
 ghost use Rattle.mxf_klv.specs.Parts.{NoteParts};
 ghost use Rattle.mxf_klv.specs.Rising.{In};
 ghost use Rattle.mxf_catalogue.specs.Content.{IsContent};
@@ -12,6 +12,8 @@ ghost use Rattle.mxf_restore.specs.Plan.{LiesInOrder, plan_of};
 ghost use Rattle.mxf_restore.specs.Sections.{IsHole, sections_of};
 ghost use Rattle.mxf_restore.specs.declared.section.Section.{Section};
 ghost use Rattle.mxf_restore.specs.declared.plan.Order.{Order};
+ghost use Rattle.mxf_hand.specs.Given.{IsGiven, SourceParts};
+ghost use Rattle.mxf_progress.specs.Restoring.{AreGivenBy, AreRounds, IsRound, ungiven_of};
 ghost use Rattle.mxf_progress.specs.Progress.{IsBeyondAll, IsLackedAt, IsUngivenAt, LacksOfHead};
 
 /// A law of [`Plan::orders`](mxf_restore::Plan::orders): each order that isn't `again` asks for a byte that isn't
@@ -45,4 +47,20 @@ pub fn nothing_is_ordered_where_nothing_lacks()
         ↔ ((p : Section) (o : Order) → In p (sections_of notes) → ¬ IsAsked at notes p o) }
     ensures holes { (at : AtHandParts) (notes : List NoteParts) → IsContent notes → AreAtHand at
         → ((plan_of at notes).orders ≡ []) ↔ ((h : OffsetRange) → IsHole notes h → IsBeyondAll at notes h) }
+{}
+
+/// A law of [`Plan::orders`](mxf_restore::Plan::orders): whoever restores by plans gets on with each round. What was
+/// given is given still, and a byte of the file is given that wasn't. So fewer bytes of the file aren't given, and there
+/// are no more rounds than there were such bytes. It holds of any contents, so of those that are put together too.
+pub fn restores_end()
+    ensures keeps { (file : List ℕ) (before after : List SourceParts) (x : ℕ) → IsRound file before after
+        → IsGiven before x → IsGiven after x }
+    ensures gains { (file : List ℕ) (before after : List SourceParts) → IsRound file before after
+        → (x : ℕ) × (x < length file) × (¬ IsGiven before x) × IsGiven after x }
+    ensures falls { (file : List ℕ) (before after : List SourceParts) (at then : AtHandParts)
+        → IsRound file before after → AreGivenBy before at → AreGivenBy after then
+        → ungiven_of file then.given < ungiven_of file at.given }
+    ensures ends { (file : List ℕ) (sources : List SourceParts) (at : AtHandParts)
+        (rounds : List (List SourceParts)) → AreGivenBy sources at → AreRounds file sources rounds
+        → length rounds ≤ ungiven_of file at.given }
 {}
