@@ -1,3 +1,4 @@
 pub mod OrderLaws
 pub mod NoOrders
+pub mod UnitOrders
 pub mod RoundLaws

@@ -29,7 +29,7 @@ lies_or_not runs x =
     ] refl
 
 -- Where runs don't have all offsets from one up to another, one of these lies in none.
-lacked_one : (runs : List Run) → IsCover runs → (from to : ℕ) → (IsTrue (has_offsets runs from to) → ⊥)
+pub lacked_one : (runs : List Run) → IsCover runs → (from to : ℕ) → (IsTrue (has_offsets runs from to) → ⊥)
     → (x : ℕ) × (from ≤ x) × (x < to) × (LiesIn runs x → ⊥)
 lacked_one runs cover from to not = elim (lacking runs from (Some to)) as (λ gs. lacking runs from (Some to) ≡ gs
     → (x : ℕ) × (from ≤ x) × (x < to) × (LiesIn runs x → ⊥)) [

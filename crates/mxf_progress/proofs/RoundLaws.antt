@@ -1,14 +1,16 @@
 -- With each round of restoring more of the file is given.
 use Rattle.mxf_views.proofs.Common.{◌≡◌, ◌↔◌, ◌∙◌, ◌<◌, ◌≤◌, ℕ, Bool, true, false, not, List, [], ◌∷◌}
-use Rattle.mxf_views.proofs.Common.{None, Some, count_by, count_by-cons, length, zero, suc, refl, sym, ap, subst, inl, inr}
+use Rattle.mxf_views.proofs.Common.{None, Some, count_by, count_by-cons, drop, ◌-◌, IsContent, NoteParts, length, zero, suc, refl, sym, ap, subst, inl, inr}
 use Rattle.mxf_views.proofs.Common.{arith, false≢true, false_from_ne_true, not-true-false, not_true, same_Some, slice_get, tally, In, range_with_len}
 use Rattle.mxf_klv.proofs.Counts.{In-range, some-count}
 use Rattle.mxf_places.specs.AtHand.{AreAtHand, AtHandParts, has_offset}
 use Rattle.mxf_places.proofs.AtHandLaws.{has_offset-says}
 use Rattle.mxf_hand.specs.Given.{IsGiven, SourceParts}
 use Rattle.mxf_progress.specs.Progress.{IsUngivenAt}
-use Rattle.mxf_progress.specs.Restoring.{AreGivenBy, AreRounds, HasUpTo, IsRound, ungiven_of}
+use Rattle.mxf_progress.specs.Restoring.{AreGivenBy, AreRounds, HasUpTo, IsOrderOf, IsRound, ungiven_of}
+use Rattle.mxf_restore.specs.declared.plan.Order.{Order}
 use Rattle.mxf_progress.proofs.OrderLaws.{ungiven_there}
+use Rattle.mxf_progress.proofs.UnitOrders.{metadata_ungiven, unit_ungiven}
 
 -- ---- counts
 
@@ -65,7 +67,7 @@ asks_new file before after r = elim r.order.end as (λ d. r.order.end ≡ d
       | None ↦ λ e. subst (HasUpTo file r.at r.order) e r.has
       | Some end ↦ λ e.
           let most : end ≤ length file = subst (HasUpTo file r.at r.order) e r.has in
-          let s = ungiven_there r.at r.notes r.content (are_at_hand before r.at r.given) r.order r.ordered end r.new e in (
+          let s = ungiven_for r.at r.notes r.content (are_at_hand before r.at r.given) r.order r.ordered end r.new e in (
             s.0,
             s.1,
             elim s.1.lies.1 [
@@ -81,6 +83,48 @@ asks_new file before after r = elim r.order.end as (λ d. r.order.end ≡ d
       hand = g.hand.cover;
       within = λ x l. (g.given x).1 ((g.hand.offsets x).0 l).given;
     }
+
+    ungiven_for : (at : AtHandParts) (notes : List NoteParts) → IsContent notes → AreAtHand at → (o : Order)
+        → IsOrderOf at notes o → (end : ℕ) → o.again ≡ false → o.end ≡ Some end → (x : ℕ) × IsUngivenAt at o x
+    ungiven_for at notes content hand o k end new ends = elim k [
+      | inl i ↦ ungiven_there at notes content hand o i end new ends
+      | inr k ↦ elim k [
+        | inl u ↦ (
+            let hand = subst AreAtHand (sym u.beside) hand in
+            let s = unit_ungiven u.wanted u.plan o end u.is_plan hand u.among new ends in
+            (s.0, subst (λ (a : AtHandParts). IsUngivenAt a o s.0) u.beside s.1))
+        | inr i ↦ metadata_ungiven at notes o end hand i new ends
+      ]
+    ]
+
+-- A source of all bytes of the file from the order's start on gives what is ordered.
+pub begins : (file : List ℕ) (sources : List SourceParts) (at : AtHandParts) (notes : List NoteParts) (o : Order)
+    → IsContent notes → AreGivenBy sources at → IsOrderOf at notes o → o.again ≡ false → HasUpTo file at o o.end
+    → (after : List SourceParts) × IsRound file sources after
+begins file sources at notes o content given ordered new has =
+    let s : SourceParts = record { offset = o.start; bytes = drop o.start file } in (
+      s ∷ sources,
+      record {
+        notes = notes;
+        content = content;
+        at = at;
+        given = given;
+        order = o;
+        ordered = ordered;
+        new = new;
+        has = has;
+        restored = (s, inl refl, λ x byte lies is. record { from = lies.0; is = from_start file o.start x lies.0 ∙ is });
+        kept = λ t k. inr k;
+      },
+    )
+  where
+    from_start : (xs : List ℕ) (start x : ℕ) → start ≤ x → slice_get (drop start xs) (x - start) ≡ slice_get xs x
+    from_start xs zero x l = let same : x - 0 ≡ x = omega arith in ap (λ (k : ℕ). slice_get xs k) same
+    from_start [] (suc start) x l = refl
+    from_start (y ∷ xs) (suc start) zero l = absurd (omega (arith, l))
+    from_start (y ∷ xs) (suc start) (suc x) l =
+        let same : suc x - suc start ≡ x - start = omega arith in
+        ap (λ (k : ℕ). slice_get (drop start xs) k) same ∙ from_start xs start x (omega (arith, l))
 
 pub gains : (file : List ℕ) (before after : List SourceParts) → IsRound file before after
     → (x : ℕ) × (x < length file) × (IsGiven before x → ⊥) × IsGiven after x

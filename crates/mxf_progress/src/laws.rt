@@ -13,7 +13,10 @@ ghost use Rattle.mxf_restore.specs.Sections.{IsHole, sections_of};
 ghost use Rattle.mxf_restore.specs.declared.section.Section.{Section};
 ghost use Rattle.mxf_restore.specs.declared.plan.Order.{Order};
 ghost use Rattle.mxf_hand.specs.Given.{IsGiven, SourceParts};
-ghost use Rattle.mxf_progress.specs.Restoring.{AreGivenBy, AreRounds, IsRound, ungiven_of};
+ghost use Rattle.mxf_partial.specs.MetadataPlans.{metadata_plan};
+ghost use Rattle.mxf_partial.specs.Orders.{IsUnitPlan, UnitPlanParts};
+ghost use Rattle.mxf_partial.specs.Wanted.{WantedParts, hand_of};
+ghost use Rattle.mxf_progress.specs.Restoring.{AreGivenBy, AreRounds, HasUpTo, IsOrderOf, IsRound, ungiven_of};
 ghost use Rattle.mxf_progress.specs.Progress.{IsBeyondAll, IsLackedAt, IsUngivenAt, LacksOfHead};
 
 /// A law of [`Plan::orders`](mxf_restore::Plan::orders): each order that isn't `again` asks for a byte that isn't
@@ -49,10 +52,30 @@ pub fn nothing_is_ordered_where_nothing_lacks()
         → ((plan_of at notes).orders ≡ []) ↔ ((h : OffsetRange) → IsHole notes h → IsBeyondAll at notes h) }
 {}
 
-/// A law of [`Plan::orders`](mxf_restore::Plan::orders): whoever restores by plans gets on with each round. What was
-/// given is given still, and a byte of the file is given that wasn't. So fewer bytes of the file aren't given, and there
-/// are no more rounds than there were such bytes. It holds of any contents, so of those that are put together too.
+/// A law of [`UnitPlan::orders`](mxf_partial::UnitPlan::orders): each order of a plan for edit units, or of one for
+/// header metadata, that isn't `again` and has an end asks for a byte that isn't given. Each that is `again` was handed
+/// in: all its offsets are given, or the first 25 are at hand if it has no end.
+pub fn each_order_for_units_asks_for_a_byte()
+    ensures ungiven { (w : WantedParts) (p : UnitPlanParts) (o : Order) (end : ℕ) → IsUnitPlan w p
+        → AreAtHand (hand_of w) → In o p.orders → o.again ≡ false → o.end ≡ Some end
+        → (x : ℕ) × IsUngivenAt (hand_of w) o x }
+    ensures again { (w : WantedParts) (p : UnitPlanParts) (o : Order) → IsUnitPlan w p → AreAtHand (hand_of w)
+        → In o p.orders → o.again ≡ true → WasHandedIn (hand_of w) o.start o.end }
+    ensures metadata_ungiven { (at : AtHandParts) (notes : List NoteParts) (o : Order) (end : ℕ) → AreAtHand at
+        → In o (metadata_plan at notes).orders → o.again ≡ false → o.end ≡ Some end → (x : ℕ) × IsUngivenAt at o x }
+    ensures metadata_again { (at : AtHandParts) (notes : List NoteParts) (o : Order) → AreAtHand at
+        → In o (metadata_plan at notes).orders → o.again ≡ true → WasHandedIn at o.start o.end }
+{}
+
+/// A law of [`Plan::orders`](mxf_restore::Plan::orders) and of [`UnitPlan::orders`](mxf_partial::UnitPlan::orders):
+/// whoever restores by plans gets on with each round. What was given is given still, and a byte of the file is given
+/// that wasn't. So fewer bytes of the file aren't given, and there are no more rounds than there were such bytes. A
+/// round can be made as long as there is an order that isn't `again`, and the file has what is ordered. It holds of any
+/// contents, so of those that are put together too.
 pub fn restores_end()
+    ensures begins { (file : List ℕ) (sources : List SourceParts) (at : AtHandParts) (notes : List NoteParts)
+        (o : Order) → IsContent notes → AreGivenBy sources at → IsOrderOf at notes o → o.again ≡ false
+        → HasUpTo file at o o.end → (after : List SourceParts) × IsRound file sources after }
     ensures keeps { (file : List ℕ) (before after : List SourceParts) (x : ℕ) → IsRound file before after
         → IsGiven before x → IsGiven after x }
     ensures gains { (file : List ℕ) (before after : List SourceParts) → IsRound file before after
