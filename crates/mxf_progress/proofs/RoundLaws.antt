@@ -1,14 +1,15 @@
 -- With each round of restoring more of the file is given.
-use Rattle.mxf_views.proofs.Common.{◌≡◌, ◌↔◌, ◌∙◌, ◌<◌, ◌≤◌, ℕ, Bool, true, false, not, List, [], ◌∷◌}
-use Rattle.mxf_views.proofs.Common.{None, Some, count_by, count_by-cons, drop, ◌-◌, IsContent, NoteParts, length, zero, suc, refl, sym, ap, subst, inl, inr}
-use Rattle.mxf_views.proofs.Common.{arith, false≢true, false_from_ne_true, not-true-false, not_true, same_Some, slice_get, tally, In, range_with_len}
+use Rattle.mxf_views.proofs.Common.{◌≡◌, ◌↔◌, ◌⊎◌, ◌∙◌, ◌<◌, ◌≤◌, ℕ, Bool, true, false, not, List, [], ◌∷◌}
+use Rattle.mxf_views.proofs.Common.{Option, None, Some, ◌-◌, arith, ap, count_by, count_by-cons, drop, false≢true}
+use Rattle.mxf_views.proofs.Common.{false_from_ne_true, inl, inr, length, not-true-false, not_true, refl}
+use Rattle.mxf_views.proofs.Common.{range_with_len, same_Some, slice_get, subst, suc, sym, tally, zero, In, IsContent, NoteParts}
 use Rattle.mxf_klv.proofs.Counts.{In-range, some-count}
 use Rattle.mxf_places.specs.AtHand.{AreAtHand, AtHandParts, has_offset}
 use Rattle.mxf_places.proofs.AtHandLaws.{has_offset-says}
+use Rattle.mxf_restore.specs.declared.plan.Order.{Order}
 use Rattle.mxf_hand.specs.Given.{IsGiven, SourceParts}
 use Rattle.mxf_progress.specs.Progress.{IsUngivenAt}
 use Rattle.mxf_progress.specs.Restoring.{AreGivenBy, AreRounds, HasUpTo, IsOrderOf, IsRound, ungiven_of}
-use Rattle.mxf_restore.specs.declared.plan.Order.{Order}
 use Rattle.mxf_progress.proofs.OrderLaws.{ungiven_there}
 use Rattle.mxf_progress.proofs.UnitOrders.{metadata_ungiven, unit_ungiven}
 
@@ -67,16 +68,18 @@ asks_new file before after r = elim r.order.end as (λ d. r.order.end ≡ d
       | None ↦ λ e. subst (HasUpTo file r.at r.order) e r.has
       | Some end ↦ λ e.
           let most : end ≤ length file = subst (HasUpTo file r.at r.order) e r.has in
-          let s = ungiven_for r.at r.notes r.content (are_at_hand before r.at r.given) r.order r.ordered end r.new e in (
-            s.0,
-            s.1,
-            elim s.1.lies.1 [
-              | inl none ↦ absurd (cc (e, none))
-              | inr t ↦ (let same = same_Some end t.0 (sym e ∙ t.1) in let less = t.2 in omega (arith, same, less, most))
-            ],
-          )
+          let hand = are_at_hand before r.at r.given in
+          let s = ungiven_for r.at r.notes r.content hand r.order r.ordered end r.new e in
+          let below = ends_below r.order.end end s.0 e s.1.lies.1 in (s.0, s.1, omega (arith, below, most))
     ] refl
   where
+    ends_below : (last : Option ℕ) (end x : ℕ) → last ≡ Some end
+        → ((last ≡ None) ⊎ ((e : ℕ) × (last ≡ Some e) × (x < e))) → x < end
+    ends_below last end x e (inl none) = absurd (cc (e, none))
+    ends_below last end x e (inr t) =
+        let same = same_Some end t.0 (sym e ∙ t.1) in
+        let less = t.2 in omega (arith, same, less)
+
     are_at_hand : (sources : List SourceParts) (at : AtHandParts) → AreGivenBy sources at → AreAtHand at
     are_at_hand sources at g = record {
       given = g.cover;
@@ -113,7 +116,11 @@ begins file sources at notes o content given ordered new has =
         ordered = ordered;
         new = new;
         has = has;
-        restored = (s, inl refl, λ x byte lies is. record { from = lies.0; is = from_start file o.start x lies.0 ∙ is });
+        restored = (
+          s,
+          inl refl,
+          λ x byte lies is. record { from = lies.0; is = from_start file o.start x lies.0 ∙ is },
+        );
         kept = λ t k. inr k;
       },
     )

@@ -1,6 +1,7 @@
 -- What orders of plans for edit units ask for that isn't there.
 use Rattle.mxf_views.proofs.Common.{◌≡◌, ◌∙◌, ◌+◌, ℕ, Bool, true, false, List, []}
-use Rattle.mxf_views.proofs.Common.{Option, None, Some, if◌then◌else◌, filter, flat_map, option_map, refl, sym, ap, subst, inl, inr}
+use Rattle.mxf_views.proofs.Common.{Option, None, Some, if◌then◌else◌, filter, flat_map, option_map, refl, sym, ap}
+use Rattle.mxf_views.proofs.Common.{subst, inl, inr}
 use Rattle.mxf_views.proofs.Common.{false≢true, same_Some, slice_get, NoteParts, In, In-filter, In-flat_map, In-map}
 use Rattle.mxf_views.proofs.Common.{In-union, option_to_list}
 use Rattle.mxf_places.specs.AtHand.{AreAtHand, AtHandParts}
