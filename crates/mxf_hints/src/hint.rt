@@ -2,7 +2,7 @@
 use crate::fault::{RunFault, ToldClock};
 use crate::refusal::is_timecode;
 use crate::shift::Shift;
-use crate::sized::SizedWord;
+use crate::sized::sized_source;
 use mxf_saving::{
     Beginning, NOT_FOUND, OutputRefusal, SaveFault, Source, SystemFault, TOO_MANY_FILES,
     begins_with_scheme,
@@ -170,7 +170,7 @@ fn write_source<W: fmt::Write>(
     word: &str,
     beginning: Option<Beginning>,
 ) -> fmt::Result {
-    match (beginning, SizedWord::of(word)) {
+    match (beginning, sized_source(word)) {
         (Some(Beginning::Label), _) => write!(
             f,
             "{word} begins with a packet: name it at:0:{word}, or at:OFFSET:{word} if it isn't the recording's beginning"
@@ -178,6 +178,10 @@ fn write_source<W: fmt::Write>(
         (Some(Beginning::Catalogue), _) => write!(
             f,
             "{word} looks like a catalogue: name it cat:{word}"
+        ),
+        (_, Some(slice @ Source::Slice { .. })) => write!(
+            f,
+            "OFFSET and LENGTH are numbers of bytes: name it {slice}"
         ),
         (_, Some(sized)) => write!(f, "OFFSET is a number of bytes: name it {sized}"),
         _ if word.as_bytes().starts_with(b"\xef\xbb\xbf") => {

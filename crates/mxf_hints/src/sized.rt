@@ -1,44 +1,45 @@
-//! An OFFSET with a letter for its unit, as `10M`, which names no source.
+//! A number of a source with a letter for its unit, as `10M`, which names none.
 use mxf_klv::MAX;
-use std::fmt;
+use mxf_saving::Source;
 
 /// The letters, and how many bytes each stands for.
 const UNITS: [(&str, u64); 3] = [("K", 1_024), ("M", 1_048_576), ("G", 1_073_741_824)];
 
-/// A word that would name a source if its OFFSET were a number of bytes. It prints as the word that does.
-#[derive(Clone, Copy)]
-pub struct SizedWord<'a> {
-    scheme: &'a str,
-    offset: u64,
-    path: &'a str,
-}
-
-impl<'a> SizedWord<'a> {
-    /// The word, if its OFFSET ends with such a letter.
-    pub fn of(word: &'a str) -> Option<SizedWord<'a>> {
-        let (scheme, rest) = word.split_once(':')?;
-        if scheme != "at" && scheme != "range" {
-            return None;
+/// The source that the word would name, if its OFFSET, or the LENGTH of a slice, ends with such a letter.
+pub fn sized_source(word: &str) -> Option<Source<'_>> {
+    let (scheme, rest) = word.split_once(':')?;
+    let (size, path) = rest.split_once(':')?;
+    match scheme {
+        "at" => Some(Source::Piece {
+            offset: bytes_of(size)?,
+            path,
+        }),
+        "range" => Some(Source::Range {
+            offset: bytes_of(size)?,
+            path,
+        }),
+        "slice" => {
+            let (length, path) = path.split_once(':')?;
+            sized_slice(size, length, path)
         }
-        let (size, path) = rest.split_once(':')?;
-        let offset = bytes_of(size)?;
-        Some(SizedWord {
-            scheme,
-            offset,
-            path,
-        })
+        _ => None,
     }
 }
 
-impl fmt::Display for SizedWord<'_> {
-    fn fmt<W: fmt::Write>(&self, f: &mut fmt::Formatter<W>) -> fmt::Result {
-        let SizedWord {
-            scheme,
-            offset,
-            path,
-        } = *self;
-        write!(f, "{scheme}:{offset}:{path}")
-    }
+/// The slice of the file at the path with this OFFSET and LENGTH, if one of them ends with such a letter.
+fn sized_slice<'a>(offset: &str, length: &str, path: &'a str) -> Option<Source<'a>> {
+    let (offset, length) = match (bytes_of(offset), bytes_of(length)) {
+        (Some(offset), Some(length)) => (offset, length),
+        (Some(offset), None) => (offset, length.parse().ok()?),
+        (None, Some(length)) => (offset.parse().ok()?, length),
+        (None, None) => return None,
+    };
+    let end = offset.checked_add(length)?;
+    (length > 0 && end <= MAX).then_some(Source::Slice {
+        offset,
+        length,
+        path,
+    })
 }
 
 /// How many bytes decimal digits and a letter stand for, if that is an offset.

@@ -1,1 +1,2 @@
 pub mod PassedLaws
+pub mod RangeLaws

@@ -1,6 +1,5 @@
 //! What sources hold, each by itself.
 use crate::opened::{open_source, open_sources, ungathered};
-use crate::system::System;
 use mxf_catalogue::Catalogue;
 use mxf_hints::{Contents, RunFault, gather_each, gather_one, line_on_screen};
 use mxf_saving::{LastFault, Source};
@@ -18,8 +17,8 @@ pub fn names_of(alloc: Global, sources: &[Source<'_>]) -> Result<Vec<String>, Al
 }
 
 /// What each source holds by itself. All are opened before the first is read.
-pub fn read_each<'a, R: System>(
-    rt: &R,
+pub fn read_each<'a>(
+    rt: &HostRuntime,
     screen: Screen,
     sources: &[Source<'a>],
 ) -> Result<Contents, RunFault<'a>> {
@@ -32,8 +31,8 @@ pub fn read_each<'a, R: System>(
 }
 
 /// What each source holds by itself. One after the other is opened and read.
-pub fn read_all_alone<'a, R: System>(
-    rt: &R,
+pub fn read_all_alone<'a>(
+    rt: &HostRuntime,
     screen: Screen,
     sources: &[Source<'a>],
 ) -> Result<Vec<Catalogue>, RunFault<'a>> {
@@ -48,8 +47,8 @@ pub fn read_all_alone<'a, R: System>(
 }
 
 /// What a source holds by itself. It is opened and read.
-pub fn read_alone<'a, R: System>(
-    rt: &R,
+pub fn read_alone<'a>(
+    rt: &HostRuntime,
     screen: Screen,
     source: &Source<'a>,
 ) -> Result<Catalogue, RunFault<'a>> {

@@ -5,11 +5,10 @@ ghost use Rattle.mxf_read.specs.Gathering.{AllTell, HandedBy, reports_of};
 ghost use Rattle.mxf_read.specs.SkimGathering.{IsTheSkim, SkimHandedBy};
 ghost use Rattle.mxf_places.specs.AtHand.{nothing_at_hand};
 ghost use Rattle.mxf_skim.specs.declared.scan.Scan.TheVariants.{Full, Skim};
-ghost use Rattle.mxf_sources.specs.Ranges.{IsUntouched, has_range};
+ghost use Rattle.mxf_sources.specs.Ranges.{IsUntouched, has_range, settled_reports};
 
 use crate::opened::{Opened, open_sources, ungathered};
 use crate::reopened::Reopened;
-use crate::system::System;
 use mxf_hand::{
     Excerpt, Extent, Given, PutTogether, SourceFault, excerpts, put_together_by, settle,
 };
@@ -33,35 +32,38 @@ pub struct HeldBySources {
 }
 
 /// What the sources hold together, by a reading or a skim. All are opened before the first is read.
-pub fn hold_sources<'a, R: System>(
-    rt: &R,
+pub fn hold_sources<'a>(
+    rt: &HostRuntime,
     screen: Screen,
     scan: Scan,
     sources: &[Source<'a>],
 ) -> Result<HeldBySources, RunFault<'a>> {
     let last = LastFault::new();
     let opened = open_sources(rt, screen, scan, sources, &last)?;
-    hold_opened(rt, scan, opened, sources, &last)
+    hold_opened(rt, scan, opened, &last)
 }
 
 /// What sources hold together that were opened. If one of them is a range, packets are put together of bytes at hand.
-pub fn hold_opened<'r, 'a, R: System, F: PassOver + Drop>(
-    rt: &'r R,
+pub fn hold_opened<'r, 'a, F: PassOver + Drop>(
+    rt: &'r HostRuntime,
     scan: Scan,
-    opened: Opened<F>,
-    sources: &[Source<'a>],
+    opened: Opened<'_, 'a, F>,
     last: &'r LastFault,
 ) -> Result<HeldBySources, RunFault<'a>>
-    ensures run { scan ≡ Full → has_range sources.now ≡ false → AllTell F.remaining opened.parts.items
-        → IfOk result (λ held. IsTheRun (HandedBy F.remaining opened.parts.items) held.gathered.views) }
-    ensures skim { scan ≡ Skim → has_range sources.now ≡ false → AllTell F.remaining opened.parts.items
-        → IfOk result (λ held. IsTheSkim (SkimHandedBy F.remaining opened.parts.items) held.gathered.views) }
-    ensures reports { AllTell F.remaining opened.parts.items
-        → IfOk result (λ held. held.gathered.reports ≡ reports_of F.remaining opened.parts.items) }
-    ensures hand { has_range sources.now ≡ false → IfOk result (λ held. held.at_hand ≡ nothing_at_hand) }
-    ensures extents { IfOk result (λ held. held.extents ≡ opened.extents) }
+    ensures run { scan ≡ Full → has_range opened.entry.sources.now ≡ false → AllTell F.remaining opened.entry.parts.items
+        → IfOk result (λ held. IsTheRun (HandedBy F.remaining opened.entry.parts.items) held.gathered.views) }
+    ensures skim { scan ≡ Skim → has_range opened.entry.sources.now ≡ false → AllTell F.remaining opened.entry.parts.items
+        → IfOk result (λ held. IsTheSkim (SkimHandedBy F.remaining opened.entry.parts.items) held.gathered.views) }
+    ensures reports { AllTell F.remaining opened.entry.parts.items
+        → IfOk result (λ held. held.gathered.reports ≡ reports_of F.remaining opened.entry.parts.items) }
+    ensures hand { has_range opened.entry.sources.now ≡ false → IfOk result (λ held. held.at_hand ≡ nothing_at_hand) }
+    ensures extents { IfOk result (λ held. held.extents ≡ opened.entry.extents) }
 {
-    let Opened { parts, extents } = opened;
+    let Opened {
+        sources,
+        parts,
+        extents,
+    } = opened;
     match gather_by(rt.alloc(), scan, parts) {
         Ok(gathered) => complete(rt, scan, gathered, extents, sources, last),
         Err(fault) => Err(ungathered(&fault, sources, last)),
@@ -92,7 +94,13 @@ pub fn settled<'a>(
     alloc: Global,
     held: HeldBySources,
     sources: &[Source<'_>],
-) -> Result<HeldBySources, RunFault<'a>> {
+) -> Result<HeldBySources, RunFault<'a>>
+    ensures views { IfOk result (λ s. s.gathered.views ≡ held.gathered.views) }
+    ensures hand { IfOk result (λ s. s.at_hand ≡ held.at_hand) }
+    ensures extents { IfOk result (λ s. s.extents ≡ held.extents) }
+    ensures reports { IfOk result (λ s. s.gathered.reports
+        ≡ settled_reports sources.now held.gathered.views held.extents.items held.gathered.reports) }
+{
     let HeldBySources {
         gathered,
         at_hand,
@@ -114,7 +122,9 @@ pub fn settled_reports<'a>(
     extents: &[Extent],
     reports: PieceReports,
     sources: &[Source<'_>],
-) -> Result<PieceReports, RunFault<'a>> {
+) -> Result<PieceReports, RunFault<'a>>
+    ensures { IfOk result (λ r. r ≡ settled_reports sources.now views.now extents.now reports) }
+{
     if !has_range(sources) {
         return Ok(reports);
     }
@@ -132,8 +142,8 @@ fn has_range(sources: &[Source<'_>]) -> bool
 }
 
 /// Puts packets together of bytes at hand.
-fn complete<'r, 'a, R: System>(
-    rt: &'r R,
+fn complete<'r, 'a>(
+    rt: &'r HostRuntime,
     scan: Scan,
     gathered: Gathered,
     extents: Vec<Extent>,
@@ -156,8 +166,8 @@ fn complete<'r, 'a, R: System>(
 }
 
 /// Puts packets together of bytes at hand, if one of the sources is a range.
-pub fn completed<'r, 'a, R: System>(
-    rt: &'r R,
+pub fn completed<'r, 'a>(
+    rt: &'r HostRuntime,
     scan: Scan,
     views: Views,
     extents: &[Extent],
@@ -178,8 +188,8 @@ pub fn completed<'r, 'a, R: System>(
 
 /// Puts packets together of bytes at hand: the files of the sources are opened once more where their bytes are asked
 /// for.
-fn put_views_together<R: System>(
-    rt: &R,
+fn put_views_together(
+    rt: &HostRuntime,
     scan: Scan,
     views: Views,
     extents: &[Extent],

@@ -6,12 +6,13 @@
 //! | the sources that words and lists name | [`read_lists`], then [`sources_of`] |
 //! | what they hold together, with what is put together of bytes at hand | [`hold_sources`], [`hold_opened`] |
 //! | the same, with the stops as ends that what is held makes up for | [`settled`] |
-//! | what earlier and later sources hold | [`hold_both`] |
+//! | what earlier and later sources hold | [`hold_both`], [`hold_sides`] |
+//! | how they stand to a reference | [`verify_opened`] |
 //! | what each holds by itself | [`read_each`], [`read_all_alone`], [`read_alone`] |
 //!
 //! A skim takes the file of a source as a [`SourceFile`] does: no byte that was appended since it was opened, and by
-//! seeking. A slice is taken so by a reading too. All that a run takes of the system is a [`System`]. What is proved: what
-//! later sources hold together are all their notes. What is read of files is tested.
+//! seeking. A slice is taken so by a reading too. What is proved: sources that are opened hold what was gathered of them,
+//! each side of a renewal that of its own. What is read of files is tested.
 #![tactic(auto)]
 
 mod alone;
@@ -21,12 +22,12 @@ mod opened;
 mod reopened;
 mod sides;
 mod source_file;
-mod system;
+mod verifying;
 
 pub use alone::{names_of, read_all_alone, read_alone, read_each};
 pub use held::{HeldBySources, hold_opened, hold_sources, settled};
 pub use lists::{Lists, read_lists, sources_of};
 pub use opened::{Opened, open_sources, ungathered};
-pub use sides::{Later, Sides, hold_both};
+pub use sides::{Later, Sides, hold_both, hold_sides};
 pub use source_file::SourceFile;
-pub use system::System;
+pub use verifying::verify_opened;

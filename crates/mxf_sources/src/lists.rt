@@ -6,7 +6,6 @@ use mxf_saving::{Source, SystemFault, parse_source};
 use std::alloc::Global;
 use std::fs;
 use std::io::{self, ErrorKind, Input, Read};
-use std::rt::Files;
 
 /// The bytes of the lists of a run.
 #[derive(Drop)]
@@ -16,8 +15,8 @@ pub struct Lists {
 }
 
 /// Reads the list of the sources, and that of the sources beside them. One at most is standard input.
-pub fn read_lists<'a, R: Files + Input + AllocGlobal>(
-    rt: &R,
+pub fn read_lists<'a>(
+    rt: &HostRuntime,
     named: Option<&'a str>,
     beside: Option<&'a str>,
 ) -> Result<Lists, RunFault<'a>> {
@@ -30,10 +29,7 @@ pub fn read_lists<'a, R: Files + Input + AllocGlobal>(
 }
 
 /// The bytes of the list at the path, none if there is no list. `-` is standard input.
-fn read_list<'a, R: Files + Input + AllocGlobal>(
-    rt: &R,
-    path: Option<&'a str>,
-) -> Result<Vec<u8>, RunFault<'a>> {
+fn read_list<'a>(rt: &HostRuntime, path: Option<&'a str>) -> Result<Vec<u8>, RunFault<'a>> {
     let mut bytes = Vec::new(rt.alloc());
     let Some(path) = path else {
         return Ok(bytes);
@@ -50,7 +46,7 @@ fn read_list<'a, R: Files + Input + AllocGlobal>(
 }
 
 /// Reads the file at the path, and answers how many bytes it has.
-fn read_file<R: Files>(rt: &R, path: &str, bytes: &mut Vec<u8>) -> io::Result<usize> {
+fn read_file(rt: &HostRuntime, path: &str, bytes: &mut Vec<u8>) -> io::Result<usize> {
     fs::open(rt, path)?.read_to_end(bytes)
 }
 

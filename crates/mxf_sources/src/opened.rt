@@ -1,8 +1,10 @@
 //! Sources that are open.
+ghost use Rattle.std.specs.Prelude.{◌≡◌, IfOk};
+ghost use Rattle.mxf_sources.specs.Ranges.{AreExtentsOf, IsExtentOf};
+
 use crate::lists::unread;
 use crate::reopened::extent_of;
 use crate::source_file::SourceFile;
-use crate::system::System;
 use mxf_hand::Extent;
 use mxf_hints::{RunFault, part_of};
 use mxf_read::{GatherFault, Part};
@@ -12,42 +14,50 @@ use mxf_watching::{Screen, Watched};
 use std::fs::{self, File};
 use std::io;
 
-/// Sources that are open, and where their bytes lie in the recording.
+/// Sources that are open: for each its part, and where its bytes lie in the recording, in their order.
 #[derive(Drop)]
-pub struct Opened<F> {
+pub struct Opened<'s, 'a, F> {
+    pub sources: &'s [Source<'a>],
     pub parts: Vec<Part<F>>,
     pub extents: Vec<Extent>,
 }
 
 /// The sources, opened in their order, to be read or skimmed.
-pub fn open_sources<'r, 'a, R: System>(
-    rt: &'r R,
+pub fn open_sources<'r, 's, 'a>(
+    rt: &'r HostRuntime,
     screen: Screen,
     scan: Scan,
-    sources: &[Source<'a>],
+    sources: &'s [Source<'a>],
     last: &'r LastFault,
-) -> Result<Opened<SourceFile<Watched<'r, R, R::File>>>, RunFault<'a>> {
-    let mut opened = Opened {
-        parts: Vec::new(rt.alloc()),
-        extents: Vec::new(rt.alloc()),
-    };
-    for source in sources {
+) -> Result<Opened<'s, 'a, SourceFile<Watched<'r, HostRuntime, File>>>, RunFault<'a>>
+    ensures sources { IfOk result (λ opened. opened.sources ≡ sources.entry) }
+    ensures extents { IfOk result (λ opened. AreExtentsOf sources.now opened.extents.items) }
+{
+    let mut parts = Vec::new(rt.alloc());
+    let mut extents = Vec::new(rt.alloc());
+    'sources: for source in sources {
         let (part, extent) = open_source(rt, screen, scan, source, last)?;
-        if opened.parts.push(part).is_err() || opened.extents.push(extent).is_err() {
+        if parts.push(part).is_err() || extents.push(extent).is_err() {
             return Err(RunFault::OutOfMemory);
         }
     }
-    Ok(opened)
+    Ok(Opened {
+        sources,
+        parts,
+        extents,
+    })
 }
 
 /// The part that a source names, opened to be read or skimmed, and where its bytes lie in the recording.
-pub fn open_source<'r, 'a, R: System>(
-    rt: &'r R,
+pub fn open_source<'r, 'a>(
+    rt: &'r HostRuntime,
     screen: Screen,
     scan: Scan,
     source: &Source<'a>,
     last: &'r LastFault,
-) -> Result<(Part<SourceFile<Watched<'r, R, R::File>>>, Extent), RunFault<'a>> {
+) -> Result<(Part<SourceFile<Watched<'r, HostRuntime, File>>>, Extent), RunFault<'a>>
+    ensures { IfOk result (λ opened. IsExtentOf source.now opened.1) }
+{
     let path = source.path();
     let (file, size) = match open_sized(rt, path) {
         Ok(opened) => opened,
@@ -59,7 +69,7 @@ pub fn open_source<'r, 'a, R: System>(
 }
 
 /// The file at the path, opened, and the number of its bytes; 0 of what is no regular file.
-fn open_sized<R: System>(rt: &R, path: &str) -> io::Result<(File, u64)> {
+fn open_sized(rt: &HostRuntime, path: &str) -> io::Result<(File, u64)> {
     let file = fs::open(rt, path)?;
     let found = file.metadata()?;
     let size = if found.is_file() { found.len() } else { 0 };

@@ -9,7 +9,6 @@ use mxf_read::Step;
 use mxf_saving::{LastFault, Source};
 use std::fs::{self, File};
 use std::io::{self, ErrorKind, Read, Seek, SeekFrom};
-use std::rt::Files;
 
 /// A file that is open, and the number of its source.
 #[derive(Drop)]
@@ -44,8 +43,8 @@ impl Rest {
 /// Excerpts of the sources of a run, whose files are opened again where their bytes are asked for. Two at most are
 /// open: those that are compared.
 #[derive(Drop)]
-pub struct Reopened<'r, 's, R: Files<File = File>> {
-    rt: &'r R,
+pub struct Reopened<'r, 's> {
+    rt: &'r HostRuntime,
     sources: &'s [Source<'s>],
     extents: &'s [Extent],
     excerpts: &'s [Excerpt],
@@ -54,15 +53,15 @@ pub struct Reopened<'r, 's, R: Files<File = File>> {
     last: &'r LastFault,
 }
 
-impl<'r, 's, R: Files<File = File>> Reopened<'r, 's, R> {
+impl<'r, 's> Reopened<'r, 's> {
     /// None is open yet. The extents are those of the sources. What the system says of a failed call is kept in `last`.
     pub fn new(
-        rt: &'r R,
+        rt: &'r HostRuntime,
         sources: &'s [Source<'s>],
         extents: &'s [Extent],
         excerpts: &'s [Excerpt],
         last: &'r LastFault,
-    ) -> Reopened<'r, 's, R> {
+    ) -> Reopened<'r, 's> {
         Reopened {
             rt,
             sources,
@@ -131,7 +130,7 @@ fn file_of(open: &mut Option<OpenFile>, source: usize) -> Option<File> {
     }
 }
 
-impl<R: Files<File = File>> Sources for Reopened<'_, '_, R> {
+impl Sources for Reopened<'_, '_> {
     fn read_at(&mut self, source: usize, position: u64, room: &mut [u8]) -> Step {
         match self.read_behind(source, position, room) {
             Ok(0) => Step::Ended,

@@ -1,15 +1,18 @@
 //! What is renewed, and what it is renewed by.
-ghost use Rattle.std.specs.Prelude.{◌≡◌, IfOk};
+ghost use Rattle.std.specs.Prelude.{◌≡◌, IfOk, false};
+ghost use Rattle.mxf_views.specs.Headline.{IsTheRun};
+ghost use Rattle.mxf_read.specs.Gathering.{AllTell, HandedBy};
 ghost use Rattle.mxf_readings.specs.Readings.{all_notes};
+ghost use Rattle.mxf_sources.specs.Ranges.{has_range};
+ghost use Rattle.mxf_sources.specs.Sides.{AreAllOf};
 
 use crate::held::{HeldBySources, completed, hold_opened, settled, settled_reports};
 use crate::opened::{Opened, open_sources, ungathered};
-use crate::system::System;
 use mxf_catalogue::Catalogue;
 use mxf_hand::{Extent, PutTogether};
 use mxf_hints::{Contents, RunFault, Shift, gather_each};
 use mxf_klv::OutOfMemory;
-use mxf_read::PieceReports;
+use mxf_read::{PassOver, PieceReports};
 use mxf_readings::joined;
 use mxf_saving::{LastFault, Source};
 use mxf_skim::Scan;
@@ -34,8 +37,8 @@ pub struct Sides {
 }
 
 /// What the earlier sources hold together, and what the later ones do. All are opened before the first is read.
-pub fn hold_both<'a, R: System>(
-    rt: &R,
+pub fn hold_both<'a>(
+    rt: &HostRuntime,
     screen: Screen,
     earlier_sources: &[Source<'a>],
     later_sources: &[Source<'a>],
@@ -43,21 +46,43 @@ pub fn hold_both<'a, R: System>(
     let last = LastFault::new();
     let earlier = open_sources(rt, screen, Scan::Full, earlier_sources, &last)?;
     let later = open_sources(rt, screen, Scan::Full, later_sources, &last)?;
-    let earlier = hold_opened(rt, Scan::Full, earlier, earlier_sources, &last)?;
-    let earlier = settled(rt.alloc(), earlier, earlier_sources)?;
-    let later = hold_later(rt, later, later_sources, &last)?;
+    hold_sides(rt, earlier, later, &last)
+}
+
+/// What earlier sources hold together that were opened, and what later ones do.
+pub fn hold_sides<'r, 'a, F: PassOver + Drop>(
+    rt: &'r HostRuntime,
+    earlier: Opened<'_, 'a, F>,
+    later: Opened<'_, 'a, F>,
+    last: &'r LastFault,
+) -> Result<Sides, RunFault<'a>>
+    ensures earlier { has_range earlier.entry.sources.now ≡ false → AllTell F.remaining earlier.entry.parts.items
+        → IfOk result (λ s. IsTheRun (HandedBy F.remaining earlier.entry.parts.items) s.earlier.gathered.views) }
+    ensures later { has_range later.entry.sources.now ≡ false → AllTell F.remaining later.entry.parts.items
+        → IfOk result (λ s. AreAllOf F.remaining later.entry.parts.items s.later.views) }
+{
+    let sources = earlier.sources;
+    let earlier = hold_opened(rt, Scan::Full, earlier, last)?;
+    let earlier = settled(rt.alloc(), earlier, sources)?;
+    let later = hold_later(rt, later, last)?;
     Ok(Sides { earlier, later })
 }
 
 /// What sources hold together that were opened. Each is read by itself, so that it is known what its own partition
 /// packs say.
-fn hold_later<'r, 'a, R: System, F: Read + Drop>(
-    rt: &'r R,
-    opened: Opened<F>,
-    sources: &[Source<'a>],
+fn hold_later<'r, 'a, F: Read + Drop>(
+    rt: &'r HostRuntime,
+    opened: Opened<'_, 'a, F>,
     last: &'r LastFault,
-) -> Result<Later, RunFault<'a>> {
-    let Opened { parts, extents } = opened;
+) -> Result<Later, RunFault<'a>>
+    ensures { has_range opened.entry.sources.now ≡ false → AllTell F.remaining opened.entry.parts.items
+        → IfOk result (λ later. AreAllOf F.remaining opened.entry.parts.items later.views) }
+{
+    let Opened {
+        sources,
+        parts,
+        extents,
+    } = opened;
     match gather_each(rt.alloc(), parts) {
         Ok(contents) => later_of(rt, contents, extents, sources, last),
         Err(fault) => Err(ungathered(&fault, sources, last)),
@@ -65,13 +90,16 @@ fn hold_later<'r, 'a, R: System, F: Read + Drop>(
 }
 
 /// What several contents hold together, with what is put together of bytes at hand.
-fn later_of<'r, 'a, R: System>(
-    rt: &'r R,
+fn later_of<'r, 'a>(
+    rt: &'r HostRuntime,
     contents: Contents,
     extents: Vec<Extent>,
     sources: &[Source<'a>],
     last: &'r LastFault,
-) -> Result<Later, RunFault<'a>> {
+) -> Result<Later, RunFault<'a>>
+    ensures { has_range sources.now ≡ false
+        → IfOk result (λ later. later.views ≡ all_notes contents.contents.items) }
+{
     let Contents {
         contents,
         shifts,

@@ -34,7 +34,7 @@ use mxf_saving::{
     BUFFER_BYTES, LastFault, Reservation, SaveFault, Source, SystemFault, WatchedWriter, refusal_of,
 };
 use mxf_skim::{Scan, with_heads};
-use mxf_sources::{HeldBySources, Lists, System, hold_sources, read_lists, settled, sources_of};
+use mxf_sources::{HeldBySources, Lists, hold_sources, read_lists, settled, sources_of};
 use mxf_units::{UnitRange, Units};
 use mxf_verify::Renewed;
 use mxf_watching::Screen;
@@ -57,7 +57,7 @@ pub struct Inputs<'s, 'a> {
 }
 
 /// Runs the program on the arguments that it was started with.
-pub fn run<R: System>(rt: &R, screen: Screen) -> Exit {
+pub fn run(rt: &HostRuntime, screen: Screen) -> Exit {
     let telling = Telling::of(screen, Hints::Auto);
     let arguments = match env::args(rt) {
         Ok(arguments) => arguments,
@@ -71,7 +71,7 @@ pub fn run<R: System>(rt: &R, screen: Screen) -> Exit {
 }
 
 /// Runs the program on these arguments.
-fn run_on<R: System>(rt: &R, screen: Screen, arguments: &[String]) -> Exit {
+fn run_on(rt: &HostRuntime, screen: Screen, arguments: &[String]) -> Exit {
     let telling = Telling::of(screen, Hints::among(arguments));
     let Ok(command) = command(rt.alloc()) else {
         return tell(rt, telling, &RunFault::OutOfMemory);
@@ -83,7 +83,7 @@ fn run_on<R: System>(rt: &R, screen: Screen, arguments: &[String]) -> Exit {
 }
 
 /// Does what arguments ask for that `clap` took, unless a number is refused that it takes.
-fn matched<R: System>(rt: &R, screen: Screen, matches: &ArgMatches<'_>) -> Exit {
+fn matched(rt: &HostRuntime, screen: Screen, matches: &ArgMatches<'_>) -> Exit {
     let Some((name, inner)) = matches.subcommand() else {
         return Exit::Usage;
     };
@@ -105,7 +105,7 @@ fn matched<R: System>(rt: &R, screen: Screen, matches: &ArgMatches<'_>) -> Exit 
 }
 
 /// Reports why there are no arguments.
-fn unread_arguments<R: System>(rt: &R, telling: Telling, fault: &io::Error) -> Exit {
+fn unread_arguments(rt: &HostRuntime, telling: Telling, fault: &io::Error) -> Exit {
     if fault.kind() == io::ErrorKind::OutOfMemory {
         return tell(rt, telling, &RunFault::OutOfMemory);
     }
@@ -118,8 +118,8 @@ fn unread_arguments<R: System>(rt: &R, telling: Telling, fault: &io::Error) -> E
 }
 
 /// Prints what `clap` says of arguments that it refused, or its help.
-fn refused<R: System>(
-    rt: &R,
+fn refused(
+    rt: &HostRuntime,
     telling: Telling,
     arguments: &[String],
     refusal: &clap::Error,
@@ -144,7 +144,7 @@ fn refused<R: System>(
 }
 
 /// Ends a run whose arguments were refused: if hints are told, it tells what one may have been meant for.
-fn refused_with<R: System>(rt: &R, telling: Telling, arguments: &[String]) -> Exit {
+fn refused_with(rt: &HostRuntime, telling: Telling, arguments: &[String]) -> Exit {
     if telling.has_hints {
         if let Some(hint) = RefusalHint::of(arguments) {
             if tell_on_screen(rt, &hint).is_err() {
@@ -156,7 +156,7 @@ fn refused_with<R: System>(rt: &R, telling: Telling, arguments: &[String]) -> Ex
 }
 
 /// Does what is asked for, and reports a fault.
-fn perform<R: System>(rt: &R, telling: Telling, request: &Request<'_, '_>) -> Exit {
+fn perform(rt: &HostRuntime, telling: Telling, request: &Request<'_, '_>) -> Exit {
     match read_lists(rt, request.named.list, request.beside.list) {
         Ok(lists) => perform_with(rt, telling, request, &lists),
         Err(fault) => tell(rt, telling, &fault),
@@ -164,8 +164,8 @@ fn perform<R: System>(rt: &R, telling: Telling, request: &Request<'_, '_>) -> Ex
 }
 
 /// Does what is asked for if the lists have these bytes, and reports a fault.
-fn perform_with<R: System>(
-    rt: &R,
+fn perform_with(
+    rt: &HostRuntime,
     telling: Telling,
     request: &Request<'_, '_>,
     lists: &Lists,
@@ -192,8 +192,8 @@ fn perform_with<R: System>(
 }
 
 /// Does what is asked for.
-fn perform_on<'a, R: System>(
-    rt: &R,
+fn perform_on<'a>(
+    rt: &HostRuntime,
     inputs: Inputs<'_, 'a>,
     task: Task<'a>,
 ) -> Result<Exit, RunFault<'a>> {
@@ -208,8 +208,8 @@ fn perform_on<'a, R: System>(
 }
 
 /// Prints what is asked for of what the sources hold together.
-fn print_told<'a, R: System>(
-    rt: &R,
+fn print_told<'a>(
+    rt: &HostRuntime,
     inputs: Inputs<'_, 'a>,
     asked: Told<'a>,
 ) -> Result<Exit, RunFault<'a>> {
@@ -226,8 +226,8 @@ fn print_told<'a, R: System>(
 }
 
 /// Ends a run that checked: if hints are told, it tells of a skim that essence wasn't read.
-fn told_skim<'a, R: System>(
-    rt: &R,
+fn told_skim<'a>(
+    rt: &HostRuntime,
     inputs: Inputs<'_, 'a>,
     exit: Exit,
 ) -> Result<Exit, RunFault<'a>> {
@@ -239,8 +239,8 @@ fn told_skim<'a, R: System>(
 }
 
 /// Prints what is asked for of what is held of the sources.
-fn print_held<'a, R: System>(
-    rt: &R,
+fn print_held<'a>(
+    rt: &HostRuntime,
     inputs: Inputs<'_, 'a>,
     asked: Told<'a>,
     held: &HeldBySources,
@@ -262,8 +262,8 @@ fn print_held<'a, R: System>(
 }
 
 /// Writes the catalogue of what the sources hold together, and prints how many notes it has.
-fn print_joined<'a, R: System>(
-    rt: &R,
+fn print_joined<'a>(
+    rt: &HostRuntime,
     inputs: Inputs<'_, 'a>,
     saving: Saving<'a>,
 ) -> Result<Exit, RunFault<'a>> {
@@ -272,8 +272,8 @@ fn print_joined<'a, R: System>(
 }
 
 /// Prints how many notes the catalogue has that was saved of what is held of the sources.
-fn print_saved<'a, R: System>(
-    rt: &R,
+fn print_saved<'a>(
+    rt: &HostRuntime,
     inputs: Inputs<'_, 'a>,
     is_strict: bool,
     held: &HeldBySources,
@@ -287,8 +287,8 @@ fn print_saved<'a, R: System>(
 
 /// Ends a run of which this is held: if hints are told, it tells of pieces that weren't noted whole, and what of the
 /// sources doesn't go together.
-fn told_held<'a, R: System>(
-    rt: &R,
+fn told_held<'a>(
+    rt: &HostRuntime,
     inputs: Inputs<'_, 'a>,
     held: &HeldBySources,
     with_stops: bool,
@@ -304,8 +304,8 @@ fn told_held<'a, R: System>(
 }
 
 /// Writes the catalogue of what the sources hold together. Its place is held before the first source is opened.
-fn join<'a, R: System>(
-    rt: &R,
+fn join<'a>(
+    rt: &HostRuntime,
     inputs: Inputs<'_, 'a>,
     saving: Saving<'a>,
 ) -> Result<HeldBySources, RunFault<'a>> {
@@ -317,8 +317,8 @@ fn join<'a, R: System>(
 }
 
 /// Refuses `out` where no catalogue is saved, with these sources.
-fn allow_output<'a, R: System>(
-    rt: &R,
+fn allow_output<'a>(
+    rt: &HostRuntime,
     out: &'a str,
     sources: &[Source<'_>],
 ) -> Result<(), RunFault<'a>> {
@@ -330,11 +330,11 @@ fn allow_output<'a, R: System>(
 }
 
 /// Writes the catalogue of what the sources hold together to a place that is held.
-fn join_at<'a, 'r, R: System>(
-    rt: &'r R,
+fn join_at<'a, 'r>(
+    rt: &'r HostRuntime,
     inputs: Inputs<'_, 'a>,
     out: &'a str,
-    place: Reservation<'r, R>,
+    place: Reservation<'r, HostRuntime>,
 ) -> Result<HeldBySources, RunFault<'a>> {
     let held = hold_sources(rt, inputs.telling.screen, inputs.scan, inputs.sources)?;
     let held = settled(rt.alloc(), held, inputs.sources)?;
@@ -345,11 +345,11 @@ fn join_at<'a, 'r, R: System>(
 }
 
 /// Saves a catalogue to a place that is held: of a skim the heads of packets that were passed over.
-fn save<'r, R: System>(
-    rt: &'r R,
+fn save<'r>(
+    rt: &'r HostRuntime,
     scan: Scan,
     catalogue: &Catalogue,
-    place: Reservation<'r, R>,
+    place: Reservation<'r, HostRuntime>,
 ) -> Result<(), SaveFault> {
     match scan {
         Scan::Full => place.save(rt, catalogue),
@@ -371,8 +371,8 @@ fn unsaved(path: &str, fault: SaveFault) -> RunFault<'_> {
 }
 
 /// Ends a run that was answered: if hints are told, it tells of pieces that weren't noted whole.
-fn told<'a, R: System>(
-    rt: &R,
+fn told<'a>(
+    rt: &HostRuntime,
     has_hints: bool,
     sources: &[Source<'_>],
     reports: &[PieceReport],
@@ -466,8 +466,8 @@ fn print_lines<W: Write>(
 }
 
 /// Prints lines on standard output.
-fn print_answer<'a, R: System>(
-    rt: &R,
+fn print_answer<'a>(
+    rt: &HostRuntime,
     printed: Printed<'_, '_, '_>,
     form: Form,
 ) -> Result<Exit, RunFault<'a>> {

@@ -4,10 +4,10 @@ use mxf_catalogue::Catalogue;
 use mxf_forms::Form;
 use mxf_hints::{Contents, Exit, RunFault};
 use mxf_readings::Readings;
-use mxf_sources::{System, names_of, read_each};
+use mxf_sources::{names_of, read_each};
 
 /// Prints what each source holds, and which source has which disputed note.
-pub fn print_beside<'a, R: System>(rt: &R, inputs: Inputs<'_, 'a>) -> Result<Exit, RunFault<'a>> {
+pub fn print_beside<'a>(rt: &HostRuntime, inputs: Inputs<'_, 'a>) -> Result<Exit, RunFault<'a>> {
     let Ok(names) = names_of(rt.alloc(), inputs.sources) else {
         return Err(RunFault::OutOfMemory);
     };
@@ -16,8 +16,8 @@ pub fn print_beside<'a, R: System>(rt: &R, inputs: Inputs<'_, 'a>) -> Result<Exi
 }
 
 /// Prints what was read of each source with these names.
-fn print_read<'a, R: System>(
-    rt: &R,
+fn print_read<'a>(
+    rt: &HostRuntime,
     inputs: Inputs<'_, 'a>,
     names: &[String],
     read: &Contents,
@@ -34,8 +34,8 @@ fn print_read<'a, R: System>(
 }
 
 /// Prints on standard output which of the sources with these names and contents holds which note.
-fn print_contents<'a, R: System>(
-    rt: &R,
+fn print_contents<'a>(
+    rt: &HostRuntime,
     form: Form,
     names: &[String],
     contents: &[Catalogue],

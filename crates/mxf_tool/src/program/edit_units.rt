@@ -9,7 +9,7 @@ use mxf_hints::{Exit, FoundUnits, RunFault, UnitSpan, found_units, tell_unsettle
 use mxf_klv::OutOfMemory;
 use mxf_partial::{ManyUnits, UnitPlan};
 use mxf_places::Holdings;
-use mxf_sources::{HeldBySources, System};
+use mxf_sources::HeldBySources;
 use mxf_tracks::preferred_tracks;
 use mxf_units::Units;
 use mxf_views::Views;
@@ -31,8 +31,8 @@ pub fn clocks_told(
 }
 
 /// Prints where the edit units lie that are asked for.
-pub fn print_units<'a, R: System>(
-    rt: &R,
+pub fn print_units<'a>(
+    rt: &HostRuntime,
     inputs: Inputs<'_, 'a>,
     asked: IndexedUnits<'a>,
     held: &HeldBySources,
@@ -50,8 +50,8 @@ pub fn print_units<'a, R: System>(
 
 /// Prints what to restore for the edit units that are asked for. If no unit is known by the timecode, since no copy of
 /// the header metadata is finished, that is what tells of one.
-pub fn print_unit_plan<'a, R: System>(
-    rt: &R,
+pub fn print_unit_plan<'a>(
+    rt: &HostRuntime,
     inputs: Inputs<'_, 'a>,
     asked: IndexedUnits<'a>,
     held: &HeldBySources,
@@ -74,8 +74,8 @@ pub fn print_unit_plan<'a, R: System>(
 
 /// Prints what to restore for the edit units from a first one up to a last one. By a timecode they may be more than are
 /// told one by one, if they lie side by side.
-fn print_plan_for<'a, R: System>(
-    rt: &R,
+fn print_plan_for<'a>(
+    rt: &HostRuntime,
     inputs: Inputs<'_, 'a>,
     asked: IndexedUnits<'a>,
     units: &Units<'_>,
@@ -101,8 +101,8 @@ fn waits_for_metadata(views: &Views, fault: &RunFault<'_>) -> bool {
 }
 
 /// Prints what to restore of header metadata; if there is nothing, it ends with the fault.
-fn print_metadata_plan<'a, R: System>(
-    rt: &R,
+fn print_metadata_plan<'a>(
+    rt: &HostRuntime,
     inputs: Inputs<'_, 'a>,
     held: &HeldBySources,
     fault: RunFault<'a>,
@@ -116,8 +116,8 @@ fn print_metadata_plan<'a, R: System>(
 }
 
 /// If hints are told, it tells that units aren't there while packets of the only source are disputed.
-fn told_unsettled<'a, R: System>(
-    rt: &R,
+fn told_unsettled<'a>(
+    rt: &HostRuntime,
     inputs: Inputs<'_, 'a>,
     views: &Views,
 ) -> Result<(), RunFault<'a>> {

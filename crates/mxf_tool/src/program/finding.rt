@@ -6,12 +6,12 @@ use mxf_hints::{Exit, RunFault};
 use mxf_klv::OutOfMemory;
 use mxf_lines::Searched;
 use mxf_saving::Source;
-use mxf_sources::{System, names_of, read_all_alone, read_alone};
+use mxf_sources::{names_of, read_all_alone, read_alone};
 use std::alloc::{AllocError, Global};
 
 /// Prints in which recordings each fragment lies. The fragments are read first, each by itself, and then one recording
 /// after the other. Nothing is printed before all are read.
-pub fn print_found_in<'a, R: System>(rt: &R, inputs: Inputs<'_, 'a>) -> Result<Exit, RunFault<'a>> {
+pub fn print_found_in<'a>(rt: &HostRuntime, inputs: Inputs<'_, 'a>) -> Result<Exit, RunFault<'a>> {
     let Ok(names) = names_of(rt.alloc(), inputs.beside) else {
         return Err(RunFault::OutOfMemory);
     };
@@ -22,8 +22,8 @@ pub fn print_found_in<'a, R: System>(rt: &R, inputs: Inputs<'_, 'a>) -> Result<E
 
 /// In which recordings the fragments with these contents lie. One recording after the other is read, and kept no longer
 /// than the fragments are looked up in it.
-fn search<'a, R: System>(
-    rt: &R,
+fn search<'a>(
+    rt: &HostRuntime,
     inputs: Inputs<'_, 'a>,
     contents: &[Catalogue],
 ) -> Result<Vec<Searched>, RunFault<'a>> {

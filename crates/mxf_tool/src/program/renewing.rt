@@ -6,7 +6,7 @@ use mxf_hints::{Exit, RunFault, Shift, is_contradicted, tell_offsets, tell_on_sc
 use mxf_klv::OutOfMemory;
 use mxf_read::PieceReport;
 use mxf_saving::{Reservation, Source};
-use mxf_sources::{HeldBySources, Later, Sides, System, hold_both};
+use mxf_sources::{HeldBySources, Later, Sides, hold_both};
 use mxf_verify::{Renewed, renew};
 use std::alloc::{AllocError, Global};
 
@@ -15,8 +15,8 @@ use std::alloc::{AllocError, Global};
 ///
 /// Unless all is to be dropped, nothing is written if all partition packs of a later source say that its OFFSET is
 /// wrong by one number of bytes, or if more essence of the earlier sources is dropped than the later ones have of it.
-pub fn print_renewal<'a, R: System>(
-    rt: &R,
+pub fn print_renewal<'a>(
+    rt: &HostRuntime,
     inputs: Inputs<'_, 'a>,
     renewing: Renewing<'a>,
 ) -> Result<Exit, RunFault<'a>> {
@@ -39,11 +39,11 @@ fn all_sources<'a>(alloc: Global, inputs: Inputs<'_, 'a>) -> Result<Vec<Source<'
 }
 
 /// Writes the renewed catalogue to a place that is held, and prints what was dropped.
-fn renew_at<'a, 'r, R: System>(
-    rt: &'r R,
+fn renew_at<'a, 'r>(
+    rt: &'r HostRuntime,
     inputs: Inputs<'_, 'a>,
     renewing: Renewing<'a>,
-    place: Reservation<'r, R>,
+    place: Reservation<'r, HostRuntime>,
 ) -> Result<Exit, RunFault<'a>> {
     let Sides { earlier, later } = hold_both(
         rt,
@@ -87,15 +87,15 @@ fn judge_offsets<'a>(sources: &[Source<'a>], shifts: &[Option<Shift>]) -> Result
 }
 
 /// Tells of each earlier and later source that begins at another offset by its partition packs.
-fn tell_both_offsets<R: System>(rt: &R, inputs: Inputs<'_, '_>) -> Result<(), AllocError> {
+fn tell_both_offsets(rt: &HostRuntime, inputs: Inputs<'_, '_>) -> Result<(), AllocError> {
     tell_offsets(rt, inputs.beside)?;
     tell_offsets(rt, inputs.sources)?;
     Ok(())
 }
 
 /// Ends a run that printed what was renewed: if hints are told, it tells of pieces that weren't noted whole.
-fn told_both<'a, R: System>(
-    rt: &R,
+fn told_both<'a>(
+    rt: &HostRuntime,
     inputs: Inputs<'_, 'a>,
     is_strict: bool,
     earlier: &HeldBySources,
@@ -111,11 +111,11 @@ fn told_both<'a, R: System>(
 }
 
 /// Renews the earlier catalogue by the later one, writes it to the place that is held, and prints what was dropped.
-fn save_renewed<'a, 'r, R: System>(
-    rt: &'r R,
+fn save_renewed<'a, 'r>(
+    rt: &'r HostRuntime,
     inputs: Inputs<'_, 'a>,
     renewing: Renewing<'a>,
-    place: Reservation<'r, R>,
+    place: Reservation<'r, HostRuntime>,
     earlier: &HeldBySources,
     later: Catalogue,
 ) -> Result<Exit, RunFault<'a>> {
@@ -137,8 +137,8 @@ fn save_renewed<'a, 'r, R: System>(
 }
 
 /// Prints what would have been dropped of a renewal that isn't saved, and if hints are told, why it isn't.
-fn print_unrenewed<'a, R: System>(
-    rt: &R,
+fn print_unrenewed<'a>(
+    rt: &HostRuntime,
     inputs: Inputs<'_, 'a>,
     renewed: &Renewed<'_>,
 ) -> Result<Exit, RunFault<'a>> {

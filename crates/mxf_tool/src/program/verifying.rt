@@ -12,13 +12,13 @@ use mxf_hints::{
 use mxf_klv::OutOfMemory;
 use mxf_lines::{Verified, timecodes_shown};
 use mxf_places::AtHand;
-use mxf_read::{Gathered, Part};
+use mxf_read::Gathered;
 use mxf_saving::LastFault;
 use mxf_skim::Scan;
-use mxf_sources::{HeldBySources, System, hold_opened, open_sources, ungathered};
+use mxf_sources::{HeldBySources, Opened, hold_opened, open_sources, verify_opened};
 use mxf_timed::ShownTimecodes;
 use mxf_units::{UnitRange, Units};
-use mxf_verify::{Verification, VerifiedUnits, VerifyFault, verify};
+use mxf_verify::{Verification, VerifiedUnits};
 use mxf_views::Views;
 use std::alloc::{AllocError, Global};
 use std::fmt;
@@ -26,38 +26,32 @@ use std::io::Read;
 
 /// Prints how the sources stand to what those of the reference hold together. All are opened before the first is read,
 /// those of the reference first, and are read in that order.
-pub fn print_verified<'a, R: System>(
-    rt: &R,
+pub fn print_verified<'a>(
+    rt: &HostRuntime,
     inputs: Inputs<'_, 'a>,
     asked: Verifying<'a>,
 ) -> Result<Exit, RunFault<'a>> {
     let last = LastFault::new();
     let reference = open_sources(rt, inputs.telling.screen, Scan::Full, inputs.beside, &last)?;
     let opened = open_sources(rt, inputs.telling.screen, Scan::Full, inputs.sources, &last)?;
-    let HeldBySources { gathered, .. } = hold_opened(
-        rt,
-        Scan::Full,
-        reference,
-        inputs.beside,
-        &last,
-    )?;
-    verify_by(rt, inputs, asked, &gathered, opened.parts, &last)
+    let HeldBySources { gathered, .. } = hold_opened(rt, Scan::Full, reference, &last)?;
+    verify_by(rt, inputs, asked, &gathered, opened, &last)
 }
 
-/// Prints how the parts stand, which were opened of the sources, to what was gathered of the reference. The edit units
-/// that are asked for are known before the first part is read.
-fn verify_by<'a, R: System, F: Read + Drop>(
-    rt: &R,
+/// Prints how the sources stand that were opened to what was gathered of the reference. The edit units that are asked for
+/// are known before the first source is read.
+fn verify_by<'a, F: Read + Drop>(
+    rt: &HostRuntime,
     inputs: Inputs<'_, 'a>,
     asked: Verifying<'a>,
     gathered: &Gathered,
-    parts: Vec<Part<F>>,
+    opened: Opened<'_, 'a, F>,
     last: &LastFault,
 ) -> Result<Exit, RunFault<'a>> {
     let views = &gathered.views;
     let at_hand = AtHand::nothing(rt.alloc());
     let Some(units) = asked.units else {
-        let verification = verified(rt.alloc(), inputs, views, parts, last)?;
+        let verification = verify_opened(rt.alloc(), views.catalogue(), opened, last)?;
         let told = ToldUnits {
             units: None,
             shown: None,
@@ -67,24 +61,9 @@ fn verify_by<'a, R: System, F: Read + Drop>(
     let clocks = clocks_told(rt.alloc(), views, units.with_timecodes)?;
     let FoundUnits { units, span } = found_units(rt, views, &at_hand, &clocks, units)?;
     let range = span.range()?;
-    let verification = verified(rt.alloc(), inputs, views, parts, last)?;
+    let verification = verify_opened(rt.alloc(), views.catalogue(), opened, last)?;
     let told = told_units(rt.alloc(), &verification, &units, range, &clocks)?;
     print_by(rt, inputs, asked.is_whole, gathered, &verification, &told)
-}
-
-/// What the parts verify, which were opened of the sources, of what is held of the reference.
-fn verified<'a, 'v, F: Read + Drop>(
-    alloc: Global,
-    inputs: Inputs<'_, 'a>,
-    views: &'v Views,
-    parts: Vec<Part<F>>,
-    last: &LastFault,
-) -> Result<Verification<'v>, RunFault<'a>> {
-    match verify(alloc, views.catalogue(), parts) {
-        Ok(verification) => Ok(verification),
-        Err(VerifyFault::OutOfMemory) => Err(RunFault::OutOfMemory),
-        Err(VerifyFault::Part(fault)) => Err(ungathered(&fault, inputs.sources, last)),
-    }
 }
 
 /// What is told of edit units of the reference, if some are asked for: how they stand, and which timecodes they show.
@@ -121,8 +100,8 @@ fn units_beside(
 
 /// Prints what was verified of the reference, with the edit units that are told, and if hints are told, what that
 /// leaves open.
-fn print_by<'a, R: System>(
-    rt: &R,
+fn print_by<'a>(
+    rt: &HostRuntime,
     inputs: Inputs<'_, 'a>,
     is_whole: bool,
     gathered: &Gathered,
@@ -185,8 +164,8 @@ fn open_of(is_whole: bool, verification: &Verification<'_>) -> Option<Open>
 
 /// Tells where packets lie that differ, and what a verification leaves open. If no packet is the same, it
 /// says which source has no packet or a run-in, or else asks whether OFFSET is right; and which is wrong by its source.
-fn tell_open<R: System>(
-    rt: &R,
+fn tell_open(
+    rt: &HostRuntime,
     inputs: Inputs<'_, '_>,
     is_whole: bool,
     verification: &Verification<'_>,
