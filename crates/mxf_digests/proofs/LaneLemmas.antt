@@ -81,3 +81,20 @@ lane-set x j k v = map-set (λ v. slice_index v j) x k v
 -- one word for each message
 pub same_in_each : (a j : ℕ) → j < 4 → slice_index (a ∷ a ∷ a ∷ a ∷ []) j ≡ a
 same_in_each a = below_four (λ j. slice_index (a ∷ a ∷ a ∷ a ∷ []) j ≡ a) refl refl refl refl
+
+-- the eight words of a hash value
+pub lane_of_eight : (x : List (List ℕ)) (j : ℕ) → length x ≡ 8 → lane j x
+    ≡ slice_index (slice_index_or x 0 []) j ∷ slice_index (slice_index_or x 1 []) j
+    ∷ slice_index (slice_index_or x 2 []) j ∷ slice_index (slice_index_or x 3 []) j
+    ∷ slice_index (slice_index_or x 4 []) j ∷ slice_index (slice_index_or x 5 []) j
+    ∷ slice_index (slice_index_or x 6 []) j ∷ slice_index (slice_index_or x 7 []) j ∷ []
+lane_of_eight (a ∷ b ∷ c ∷ d ∷ e ∷ f ∷ g ∷ h ∷ []) j long = refl
+lane_of_eight [] j long = absurd (omega arith)
+lane_of_eight (a ∷ []) j long = absurd (omega arith)
+lane_of_eight (a ∷ b ∷ []) j long = absurd (omega arith)
+lane_of_eight (a ∷ b ∷ c ∷ []) j long = absurd (omega arith)
+lane_of_eight (a ∷ b ∷ c ∷ d ∷ []) j long = absurd (omega arith)
+lane_of_eight (a ∷ b ∷ c ∷ d ∷ e ∷ []) j long = absurd (omega arith)
+lane_of_eight (a ∷ b ∷ c ∷ d ∷ e ∷ f ∷ []) j long = absurd (omega arith)
+lane_of_eight (a ∷ b ∷ c ∷ d ∷ e ∷ f ∷ g ∷ []) j long = absurd (omega arith)
+lane_of_eight (a ∷ b ∷ c ∷ d ∷ e ∷ f ∷ g ∷ h ∷ i ∷ x) j long = absurd (omega arith)

@@ -1,2 +1,4 @@
-pub mod LaneLemmas
 pub mod FewerSteps
+pub mod LaneLemmas
+pub mod PaddingLemmas
+pub mod QueueLemmas
