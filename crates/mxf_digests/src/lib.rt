@@ -3,5 +3,8 @@
 
 mod lanes;
 mod padding;
+mod queue;
 mod rounds;
 mod words;
+
+pub use queue::digests;
