@@ -1,6 +1,7 @@
 -- What holds of each of four words side by side.
-use Rattle.std.proofs.Common.{◌≡◌, ℕ, zero, suc, ◌<◌, ◌+◌, ◌-◌, ◌*◌, ◌/◌, ◌%◌, ◌^◌, List, [], ◌∷◌, length, slice_index, slice_index_or, slice_set, bit_or, bit_xor, bit_and, arith, refl, sym, ap, ◌∙◌, w32}
-use Rattle.std.proofs.lemmas.Simd.{get_or-zip2, length-zip2, Each1-all}
+use Rattle.std.proofs.Common.{◌≡◌, ℕ, zero, suc, ◌<◌, ◌-◌, ◌*◌, ◌/◌, ◌%◌, ◌^◌, List, [], ◌∷◌, length, slice_index}
+use Rattle.std.proofs.Common.{slice_index_or, slice_set, bit_or, arith, refl, ◌∙◌, w32}
+use Rattle.std.proofs.lemmas.Simd.{get_or-zip2, length-zip2}
 use Rattle.std.proofs.Math.ListN.{get_or-map}
 use Rattle.std.proofs.lemmas.List.{length-map, map-set}
 use Rattle.std.specs.Int.{rotate_right}
@@ -75,7 +76,8 @@ pub length-lane : (x : List (List ℕ)) (j : ℕ) → length (lane j x) ≡ leng
 length-lane x j = length-map x (λ v. slice_index v j)
 
 -- a vector that is written is a word of each message
-pub lane-set : (x : List (List ℕ)) (j k : ℕ) (v : List ℕ) → lane j (slice_set x k v) ≡ slice_set (lane j x) k (slice_index v j)
+pub lane-set : (x : List (List ℕ)) (j k : ℕ) (v : List ℕ)
+    → lane j (slice_set x k v) ≡ slice_set (lane j x) k (slice_index v j)
 lane-set x j k v = map-set (λ v. slice_index v j) x k v
 
 -- one word for each message

@@ -1,5 +1,5 @@
 -- Four messages side by side: a vector has one word of each.
-use Rattle.std.specs.Prelude.{ℕ, List, [], ◌∷◌, map, slice_index, slice_index_or}
+use Rattle.std.specs.Prelude.{ℕ, List, [], map, slice_index, slice_index_or}
 
 -- the words of message j
 abbrev pub lane : ℕ → List (List ℕ) → List ℕ

@@ -1,5 +1,5 @@
 -- What four lanes are at, of messages that are hashed in their order.
-use Rattle.std.specs.Prelude.{◌≡◌, ◌≢◌, ℕ, ◌+◌, ◌-◌, ◌≤◌, ◌<◌, List, [], length, slice_index, slice_index_or}
+use Rattle.std.specs.Prelude.{◌≡◌, ◌≢◌, ℕ, ◌-◌, ◌≤◌, ◌<◌, List, [], length, slice_index, slice_index_or}
 use Rattle.sha2.specs.Sha256.{hash_after, initial_hash_256, padded_message, sha256}
 use Rattle.mxf_digests.specs.Blocks.{block_count}
 use Rattle.mxf_digests.specs.Lanes.{lane}
@@ -23,8 +23,10 @@ abbrev pub left : List (List ℕ) → Lanes → ℕ → ℕ
 left ms lanes j = block_count (message ms (slice_index lanes.value j)) - slice_index lanes.done j
 
 -- the lanes are at the messages before `next`: each of these that no lane has any more has its digest
-pub record IsHashing (ms : List (List ℕ)) (lanes : Lanes) (state : List (List ℕ)) (next : ℕ) (ds : List (List ℕ)) : Type 0 where
+pub record IsHashing (ms : List (List ℕ)) (lanes : Lanes) (state : List (List ℕ)) (next : ℕ)
+    (ds : List (List ℕ)) : Type 0 where
   pub long : length ds ≡ length ms
   pub low : next ≤ length ms
   pub under_way : (j : ℕ) → j < 4 → IsUnderWay ms lanes state j
-  pub hashed : (i : ℕ) → i < next → ((j : ℕ) → j < 4 → slice_index lanes.value j ≢ i) → slice_index_or ds i [] ≡ sha256 (message ms i)
+  pub hashed : (i : ℕ) → i < next → ((j : ℕ) → j < 4 → slice_index lanes.value j ≢ i)
+      → slice_index_or ds i [] ≡ sha256 (message ms i)

@@ -12,7 +12,14 @@ use std::simd::u32x4;
 
 // The initial hash value (section 5.3.3).
 const INITIAL_HASH: [u32; 8] = [
-    0x6a09_e667, 0xbb67_ae85, 0x3c6e_f372, 0xa54f_f53a, 0x510e_527f, 0x9b05_688c, 0x1f83_d9ab, 0x5be0_cd19,
+    0x6a09_e667,
+    0xbb67_ae85,
+    0x3c6e_f372,
+    0xa54f_f53a,
+    0x510e_527f,
+    0x9b05_688c,
+    0x1f83_d9ab,
+    0x5be0_cd19,
 ];
 
 /// Value `index`. One that isn't among them is empty.
@@ -92,7 +99,8 @@ impl Lanes {
     /// How many blocks the lane at `place` has left. An idle lane has more than any value.
     pub(crate) fn left<V: AsSlice<u8>>(&self, values: &[V], place: usize) -> usize
         requires { place < 4 }
-        ensures busy { slice_index self.now.value place < length values.now → result ≡ left (map V.items values.now) self.now place }
+        ensures busy { slice_index self.now.value place < length values.now
+            → result ≡ left (map V.items values.now) self.now place }
         ensures idle { length values.now ≤ slice_index self.now.value place → result ≡ 2 ^ 64 - 1 }
     {
         let index = self.value[place];
@@ -106,7 +114,8 @@ impl Lanes {
     /// The place of the lane that ends first.
     pub(crate) fn first_to_end<V: AsSlice<u8>>(&self, values: &[V]) -> usize
         ensures place { result < 4 }
-        ensures first { (j : ℕ) → j < 4 → slice_index self.now.value result < length values.now → slice_index self.now.value j < length values.now
+        ensures first { (j : ℕ) → j < 4 → slice_index self.now.value result < length values.now
+            → slice_index self.now.value j < length values.now
             → left (map V.items values.now) self.now result ≤ left (map V.items values.now) self.now j }
     {
         let mut first = 0;
@@ -136,15 +145,23 @@ impl Lanes {
     }
 
     /// Takes the next `steps` blocks of each lane's value.
-    pub(crate) fn advance<V: AsSlice<u8>>(&mut self, state: &mut [u32x4; 8], values: &[V], steps: usize)
+    pub(crate) fn advance<V: AsSlice<u8>>(
+        &mut self,
+        state: &mut [u32x4; 8],
+        values: &[V],
+        steps: usize,
+    )
         ensures value { self.new.value ≡ self.old.value }
         ensures counts { length self.new.done ≡ 4 }
         ensures done { (j : ℕ) → j < 4
-            → slice_index self.old.done j + steps ≤ block_count (message (map V.items values.now) (slice_index self.old.value j))
+            → slice_index self.old.done j + steps
+            ≤ block_count (message (map V.items values.now) (slice_index self.old.value j))
             → slice_index self.new.done j ≡ slice_index self.old.done j + steps }
         ensures taken { (j : ℕ) → j < 4
-            → slice_index self.old.done j + steps ≤ block_count (message (map V.items values.now) (slice_index self.old.value j))
-            → IsUnderWay (map V.items values.now) self.old state.old j → IsUnderWay (map V.items values.now) self.new state.new j }
+            → slice_index self.old.done j + steps
+            ≤ block_count (message (map V.items values.now) (slice_index self.old.value j))
+            → IsUnderWay (map V.items values.now) self.old state.old j
+            → IsUnderWay (map V.items values.now) self.new state.new j }
     {
         let first = value_at(values, self.value[0]);
         let second = value_at(values, self.value[1]);

@@ -9,7 +9,11 @@ pub(crate) fn count_blocks(value: &[u8]) -> usize
     ensures { result ≡ block_count value.now }
 {
     let whole = value.len() / 64;
-    if value.len() % 64 < 56 { whole + 1 } else { whole + 2 }
+    if value.len() % 64 < 56 {
+        whole + 1
+    } else {
+        whole + 2
+    }
 }
 
 // The bytes after the last full block of a value of `total` bytes, with the padding. What is left is zeros.

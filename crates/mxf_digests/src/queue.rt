@@ -42,6 +42,19 @@ fn hash_alone<V: AsSlice<u8>>(values: &[V], digests: &mut [[u8; 32]], index: usi
     }
 }
 
+// Hashes the values from `start` on, one after another.
+fn hash_from<V: AsSlice<u8>>(values: &[V], digests: &mut [[u8; 32]], start: usize)
+    requires long { length digests.old ≡ length values.now }
+    requires low { start ≤ length values.now }
+    requires hashed { (i : ℕ) → i < start
+        → slice_index_or digests.old i [] ≡ sha256 (message (map V.items values.now) i) }
+    ensures { digests.new ≡ map (λ v. sha256 (V.items v)) values.now }
+{
+    'values: for index in start..values.len() {
+        hash_alone(values, digests, index);
+    }
+}
+
 // Hashes from their start the values that the lanes have left, and those that no lane has had.
 fn hash_the_rest<V: AsSlice<u8>>(lanes: &Lanes, values: &[V], digests: &mut [[u8; 32]], next: usize)
     requires long { length digests.old ≡ length values.now }
@@ -53,16 +66,11 @@ fn hash_the_rest<V: AsSlice<u8>>(lanes: &Lanes, values: &[V], digests: &mut [[u8
     'places: for place in 0..4 {
         hash_alone(values, digests, lanes.value(place));
     }
-    'rest: for index in next..values.len() {
-        hash_alone(values, digests, index);
-    }
+    hash_from(values, digests, next);
 }
 
-/// Writes the SHA-256 digest of each value (FIPS 180-4, section 6.2) to its place in `digests`.
-///
-/// Four values are hashed side by side, each in a lane of its own. A lane that has ended its value takes the next one
-/// in order. A value that is left alone is hashed by `sha2`.
-pub fn digests<V: AsSlice<u8>>(values: &[V], digests: &mut [[u8; 32]])
+// Hashes the values in four lanes, which take one after another in their order.
+fn hash_in_lanes<V: AsSlice<u8>>(values: &[V], digests: &mut [[u8; 32]])
     requires { length digests.old ≡ length values.now }
     ensures { digests.new ≡ map (λ v. sha256 (V.items v)) values.now }
 {
@@ -77,4 +85,20 @@ pub fn digests<V: AsSlice<u8>>(values: &[V], digests: &mut [[u8; 32]])
         next = end_first(&mut lanes, &mut state, values, digests, next);
     }
     hash_the_rest(&lanes, values, digests, next);
+}
+
+/// Writes the SHA-256 digest of each value (FIPS 180-4, section 6.2) to its place in `digests`, which has one for each.
+///
+/// Three and more values are hashed side by side, in four lanes. A lane that has ended its value takes the next one.
+/// One or two values, and a value of which more than half is left when all others are done, are hashed by `sha2`. It
+/// takes no memory.
+pub fn digests<V: AsSlice<u8>>(values: &[V], digests: &mut [[u8; 32]])
+    requires { length digests.old ≡ length values.now }
+    ensures { digests.new ≡ map (λ v. sha256 (V.items v)) values.now }
+{
+    if values.len() < 3 {
+        hash_from(values, digests, 0);
+    } else {
+        hash_in_lanes(values, digests);
+    }
 }

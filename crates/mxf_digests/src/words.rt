@@ -33,7 +33,8 @@ fn shift_right(x: u32x4, count: u32) -> u32x4
 /// Ch, in one operation fewer than the standard's form.
 #[inline(always)]
 pub(crate) fn ch(x: u32x4, y: u32x4, z: u32x4) -> u32x4
-    ensures { (j : ℕ) → j < 4 → slice_index result j ≡ ch (slice_index x j) (slice_index y j) (slice_index z j) }
+    ensures { (j : ℕ) → j < 4
+        → slice_index result j ≡ ch (slice_index x j) (slice_index y j) (slice_index z j) }
 {
     z ^ (x & (y ^ z))
 }
@@ -41,14 +42,16 @@ pub(crate) fn ch(x: u32x4, y: u32x4, z: u32x4) -> u32x4
 /// Maj. One round's `x ^ y` is the next round's `y ^ z`, so it is computed once.
 #[inline(always)]
 pub(crate) fn maj(x: u32x4, y: u32x4, z: u32x4) -> u32x4
-    ensures { (j : ℕ) → j < 4 → slice_index result j ≡ maj (slice_index x j) (slice_index y j) (slice_index z j) }
+    ensures { (j : ℕ) → j < 4
+        → slice_index result j ≡ maj (slice_index x j) (slice_index y j) (slice_index z j) }
 {
     y ^ ((x ^ y) & (y ^ z))
 }
 
 #[inline(always)]
 fn xor(x: u32x4, y: u32x4, z: u32x4) -> u32x4
-    ensures { (j : ℕ) → j < 4 → slice_index result j ≡ bit_xor (bit_xor (slice_index x j) (slice_index y j)) (slice_index z j) }
+    ensures { (j : ℕ) → j < 4
+        → slice_index result j ≡ bit_xor (bit_xor (slice_index x j) (slice_index y j)) (slice_index z j) }
 {
     x ^ y ^ z
 }

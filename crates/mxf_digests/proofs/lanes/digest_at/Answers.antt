@@ -1,4 +1,4 @@
-use Rattle.std.proofs.Common.{rules, ◌≡◌, ◌*◌, arith, sym, ◌∙◌}
+use Rattle.std.proofs.Common.{rules, ◌≡◌, arith, sym, ◌∙◌}
 use Rattle.std.proofs.lemmas.List.{take_all}
 use Rattle.std.proofs.lemmas.Slice.{overwrites}
 use Rattle.sha2.specs.Sha256.{digest_bytes}
@@ -15,7 +15,8 @@ pub words-preserved : goal.words-preserved
 words-preserved c = (
   search (rules, overwrites),
   digest_more c.words.digest (lane c.args.place c.args.state.now) _ c.words.i _ c.words.invariant.1 (omega arith)
-      (c.copy_from_slice.ensures.after ∙ rw (word_of_lane c.args.state.now c.args.place c.words.i) c.to_be_bytes.ensures),
+      (c.copy_from_slice.ensures.after
+      ∙ rw (word_of_lane c.args.state.now c.args.place c.words.i) c.to_be_bytes.ensures),
 )
 
 pub returns : goal.returns

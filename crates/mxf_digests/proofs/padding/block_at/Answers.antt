@@ -1,4 +1,4 @@
-use Rattle.std.proofs.Common.{◌*◌, ◌/◌, length, drop, take, arith, refl}
+use Rattle.std.proofs.Common.{◌*◌, ◌/◌, length, arith, refl}
 use Rattle.std.proofs.lemmas.List.{take_rest}
 use Rattle.mxf_digests.proofs.PaddingLemmas.{last_block, own_block}
 use Rattle.mxf_digests.proofs.padding.block_at.Goals as goal
@@ -11,5 +11,6 @@ pub returns-then-index-whole-lt2 : goal.returns-then-index-whole-lt2
 returns-then-index-whole-lt2 c low =
     let m = c.args.value.now in
     let w = length m / 64 in
-    last_block m c.padded-tail.result _ _ c.args.index w _ refl c.if-index-whole.false low (omega arith) (take_rest m (64 * w)) c.padded-tail.ensures
+    last_block m c.padded-tail.result _ _ c.args.index w _ refl c.if-index-whole.false low (omega arith)
+    (take_rest m (64 * w)) c.padded-tail.ensures
     c.copy_from_slice-then-index-whole-lt2.ensures.after

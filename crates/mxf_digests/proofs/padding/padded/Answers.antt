@@ -12,5 +12,6 @@ returns c =
     ] in
     let zeros = drop {A = ℕ} (length rest) (replicate 128 0) in
     let marked = λ (front : List ℕ). slice_set (front ++ zeros) (length rest) 0x80 in
-    padded_rest rest (marked c.copy_from_slice.new.self) c.copy_from_slice-2.new.self c.args.total _ c.if-rest-lt56.end c.requires
+    padded_rest rest (marked c.copy_from_slice.new.self) c.copy_from_slice-2.new.self c.args.total _
+    c.if-rest-lt56.end c.requires
     (ap marked c.copy_from_slice.ensures.after) (c.copy_from_slice-2.ensures.after ∙ c.to_be_bytes.ensures) end

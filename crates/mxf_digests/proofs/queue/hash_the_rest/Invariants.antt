@@ -11,11 +11,3 @@ invariant-places g l =
       hashed : (i : ℕ) → i < l.next → ((j : ℕ) → l.place ≤ j → j < 4 → slice_index l.lanes.value j ≢ i)
           → slice_index_or l.digests i [] ≡ sha256 (message ms i);
     }
-
-abbrev pub invariant-rest : goal.invariant-rest
-invariant-rest g l =
-    let ms = map g.V.AsSlice.items l.values in
-    record {
-      long : length l.digests ≡ length l.values;
-      hashed : (i : ℕ) → i < l.index → slice_index_or l.digests i [] ≡ sha256 (message ms i);
-    }

@@ -8,4 +8,5 @@ invariant-load l = (length l.window ≡ 16) × ((k : ℕ) → k < l.i → (j : �
     → slice_index (slice_index_or l.window k []) j ≡ word_at (block l.blocks j) (4 * k))
 
 abbrev pub invariant-schedule : goal.invariant-schedule
-invariant-schedule l = (j : ℕ) → j < 4 → IsRoundsAt (block l.blocks j) (lane j l.state) (lane j l.window) (lane j l.v) (16 * l.turn)
+invariant-schedule l = (j : ℕ) → j < 4 → IsRoundsAt (block l.blocks j) (lane j l.state) (lane j l.window) (lane j l.v)
+    (16 * l.turn)

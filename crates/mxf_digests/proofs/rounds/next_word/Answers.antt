@@ -9,7 +9,10 @@ returns-clause-value c j h =
     let at : place % 16 ≡ place = omega arith in
     rw (
       at,
-      word_of_lane w j ((place + 14) % 16), word_of_lane w j ((place + 9) % 16), word_of_lane w j ((place + 1) % 16), word_of_lane w j place,
+      word_of_lane w j ((place + 14) % 16),
+      word_of_lane w j ((place + 9) % 16),
+      word_of_lane w j ((place + 1) % 16),
+      word_of_lane w j place,
       c.add-word.ensures j h,
       c.add-2.ensures j h,
       c.add.ensures j h,

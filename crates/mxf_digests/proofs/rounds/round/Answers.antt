@@ -6,8 +6,14 @@ pub returns : goal.returns
 returns c j h =
     let v = c.args.v in
     rw (
-      word_of_lane v j 0, word_of_lane v j 1, word_of_lane v j 2, word_of_lane v j 3,
-      word_of_lane v j 4, word_of_lane v j 5, word_of_lane v j 6, word_of_lane v j 7,
+      word_of_lane v j 0,
+      word_of_lane v j 1,
+      word_of_lane v j 2,
+      word_of_lane v j 3,
+      word_of_lane v j 4,
+      word_of_lane v j 5,
+      word_of_lane v j 6,
+      word_of_lane v j 7,
       c.add-2.ensures j h,
       c.add-3.ensures j h,
       c.add-second.ensures j h,

@@ -1,4 +1,4 @@
-use Rattle.std.proofs.Common.{◌∙◌, w32, ap}
+use Rattle.std.proofs.Common.{w32}
 use Rattle.mxf_digests.proofs.FewerSteps.{ch_short}
 use Rattle.mxf_digests.proofs.LaneLemmas.{at_lane, four_lanes, lane_fits}
 use Rattle.mxf_digests.proofs.words.ch.Goals as goal
@@ -14,4 +14,5 @@ returns c j h =
       at_lane _ x _ j c.fits-x.0 inner h,
       at_lane _ y z j c.fits-y.0 c.fits-z.0 h,
     )
-    (ch_short w32 _ _ _ (lane_fits x j c.fits-x.0 c.fits-x.1 h) (lane_fits y j c.fits-y.0 c.fits-y.1 h) (lane_fits z j c.fits-z.0 c.fits-z.1 h))
+    (ch_short w32 _ _ _ (lane_fits x j c.fits-x.0 c.fits-x.1 h) (lane_fits y j c.fits-y.0 c.fits-y.1 h)
+    (lane_fits z j c.fits-z.0 c.fits-z.1 h))

@@ -10,4 +10,5 @@ invariant-steps g l =
     let ms = map g.V.AsSlice.items l.values in
     (j : ℕ) → j < 4 → slice_index l.done j + l.steps ≤ block_count (message ms (slice_index l.fn.self.value j))
     → HasTaken (message ms (slice_index l.fn.self.value j)) (slice_index l.done j) (lane j l.fn.state)
-    → lane j l.state ≡ hash_after initial_hash_256 (padded_message (message ms (slice_index l.fn.self.value j))) (slice_index l.done j + l.step)
+    → lane j l.state ≡ hash_after initial_hash_256 (padded_message (message ms (slice_index l.fn.self.value j)))
+    (slice_index l.done j + l.step)

@@ -1,4 +1,4 @@
-use Rattle.std.proofs.Common.{◌≡◌, ◌-◌, ◌≤◌, ◌<◌, ◌^◌, ℕ, length, map, slice_index}
+use Rattle.std.proofs.Common.{◌≡◌, ◌≤◌, ◌<◌, ℕ, length, map, slice_index}
 use Rattle.mxf_digests.specs.Queue.{left}
 use Rattle.mxf_digests.proofs.lanes.Lanes.first_to_end.Given as goal
 

@@ -1,6 +1,6 @@
 use Rattle.std.proofs.Common.{◌≡◌, ◌≤◌, ◌<◌, ℕ, length, map, slice_index}
 use Rattle.mxf_digests.specs.Queue.{IsHashing}
-use Rattle.mxf_digests.proofs.queue.digests.Given as goal
+use Rattle.mxf_digests.proofs.queue.hash_in_lanes.Given as goal
 
 abbrev pub invariant-places : goal.invariant-places
 invariant-places g l = record {
