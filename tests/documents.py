@@ -25,7 +25,7 @@ TOP = pathlib.Path(__file__).resolve().parent.parent
 LINK = re.compile(r"\[[^\]]*\]\(([^)\s]+)\)")
 CONTRACT = re.compile(r"\[`([\w:]+)`\]\(([^)\s]+\.rt)\)(?: \(((?:`\w+`,? ?)+))?")
 LIBRARIES = (
-    "mxf_klv", "mxf_sets", "mxf_catalogue", "mxf_skim", "mxf_views", "mxf_references", "mxf_findings", "mxf_tracks", "mxf_clocks",
+    "mxf_digests", "mxf_klv", "mxf_sets", "mxf_catalogue", "mxf_skim", "mxf_views", "mxf_references", "mxf_findings", "mxf_tracks", "mxf_clocks",
     "mxf_places", "mxf_restore", "mxf_map", "mxf_units", "mxf_timed", "mxf_partial", "mxf_read", "mxf_readings",
     "mxf_verify", "mxf_hand", "mxf_find", "mxf_forms", "mxf_lines", "mxf_skimmed", "mxf_progress",
 )

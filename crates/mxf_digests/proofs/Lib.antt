@@ -1,0 +1,4 @@
+pub mod FewerSteps
+pub mod LaneLemmas
+pub mod PaddingLemmas
+pub mod QueueLemmas

@@ -1,0 +1,7 @@
+use Rattle.std.proofs.Common.{◌≡◌, ◌*◌, length, take}
+use Rattle.sha2.specs.Sha256.{digest_bytes}
+use Rattle.mxf_digests.specs.Lanes.{lane}
+use Rattle.mxf_digests.proofs.lanes.digest_at.Given as goal
+
+abbrev pub invariant-words : goal.invariant-words
+invariant-words l = (length l.digest ≡ 32) × (take (4 * l.i) l.digest ≡ digest_bytes (lane l.place l.state) l.i)

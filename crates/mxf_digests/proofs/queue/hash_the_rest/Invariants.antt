@@ -1,0 +1,13 @@
+use Rattle.std.proofs.Common.{◌≡◌, ◌≢◌, ◌≤◌, ◌<◌, ℕ, [], length, map, slice_index, slice_index_or}
+use Rattle.mxf_digests.specs.Queue.{message}
+use Rattle.sha2.specs.Sha256.{sha256}
+use Rattle.mxf_digests.proofs.queue.hash_the_rest.Given as goal
+
+abbrev pub invariant-places : goal.invariant-places
+invariant-places g l =
+    let ms = map g.V.AsSlice.items l.values in
+    record {
+      long : length l.digests ≡ length l.values;
+      hashed : (i : ℕ) → i < l.next → ((j : ℕ) → l.place ≤ j → j < 4 → slice_index l.lanes.value j ≢ i)
+          → slice_index_or l.digests i [] ≡ sha256 (message ms i);
+    }
