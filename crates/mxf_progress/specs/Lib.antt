@@ -1,2 +1,4 @@
 pub mod Progress
 pub mod Restoring
+pub mod RestoredFirst
+pub mod WayEnds

@@ -1,11 +1,14 @@
 //! The laws of what orders ask for: functions that do nothing, whose clauses hold of all values.
-ghost use Rattle.std.specs.Prelude.{◌≡◌, ◌↔◌, ◌⊎◌, ◌<◌, ◌≤◌, ℕ, false, true, length, List, [], Some};
+ghost use Rattle.std.specs.Prelude.{◌≡◌, ◌≢◌, ◌↔◌, ◌⊎◌, ◌<◌, ◌≤◌, ℕ, Bool, IsTrue, false, true, length, List, [], Some};
+ghost use Rattle.mxf_klv.specs.Kind.{kind_of};
 ghost use Rattle.mxf_klv.specs.Parts.{NoteParts};
 ghost use Rattle.mxf_klv.specs.Rising.{In};
+ghost use Rattle.mxf_klv.specs.declared.kinds.Kind.TheVariants.{Fill};
 ghost use Rattle.mxf_catalogue.specs.Content.{IsContent};
 ghost use Rattle.mxf_catalogue.specs.Runs.{LiesIn};
 ghost use Rattle.mxf_places.specs.AtHand.{AreAtHand, AtHandParts};
 ghost use Rattle.mxf_places.specs.Held.{IsHeld};
+ghost use Rattle.mxf_places.specs.Named.{StandsAlone};
 ghost use Rattle.mxf_places.specs.declared.at_hand.OffsetRange.{OffsetRange};
 ghost use Rattle.mxf_restore.specs.Orders.{IsAsked, WasHandedIn};
 ghost use Rattle.mxf_restore.specs.Plan.{LiesInOrder, plan_of};
@@ -13,11 +16,16 @@ ghost use Rattle.mxf_restore.specs.Sections.{IsHole, sections_of};
 ghost use Rattle.mxf_restore.specs.declared.section.Section.{Section};
 ghost use Rattle.mxf_restore.specs.declared.plan.Order.{Order};
 ghost use Rattle.mxf_hand.specs.Given.{IsGiven, SourceParts};
+ghost use Rattle.mxf_views.specs.Partitions.{PartitionParts};
+ghost use Rattle.mxf_partial.specs.Helping.{helping_of};
 ghost use Rattle.mxf_partial.specs.MetadataPlans.{metadata_plan};
-ghost use Rattle.mxf_partial.specs.Orders.{IsUnitPlan, UnitPlanParts};
-ghost use Rattle.mxf_partial.specs.Wanted.{WantedParts, hand_of};
+ghost use Rattle.mxf_partial.specs.Orders.{IsUnitPlan, UnitPlanParts, helping_orders};
+ghost use Rattle.mxf_partial.specs.Wanted.{WantedParts, hand_of, notes_of};
+ghost use Rattle.mxf_partial.specs.Ways.{end_of_way, way_of};
 ghost use Rattle.mxf_progress.specs.Restoring.{AreGivenBy, AreRounds, HasUpTo, IsOrderOf, IsRound, ungiven_of};
 ghost use Rattle.mxf_progress.specs.Progress.{IsBeyondAll, IsLackedAt, IsUngivenAt, LacksOfHead};
+ghost use Rattle.mxf_progress.specs.RestoredFirst.{Helps, HelpsUnits};
+ghost use Rattle.mxf_progress.specs.WayEnds.{GoesOnAt, IsOnWay, IsWayEnd};
 
 /// A law of [`Plan::orders`](mxf_restore::Plan::orders): each order that isn't `again` asks for a byte that isn't
 /// there. It has an offset that isn't held and isn't at hand; or it begins with a head of whose key and length a byte
@@ -86,4 +94,32 @@ pub fn restores_end()
     ensures ends { (file : List ℕ) (sources : List SourceParts) (at : AtHandParts)
         (rounds : List (List SourceParts)) → AreGivenBy sources at → AreRounds file sources rounds
         → length rounds ≤ ungiven_of file at.given }
+{}
+
+/// A law of [`UnitPlan::of`](mxf_partial::UnitPlan::of): what is restored first of a section goes by the place at which
+/// its packet begins. Of the header partition it is the front. Of a footer partition that a pack names, and of index
+/// table segments, it is all that is ordered. Of header metadata it is so if their end is known, and else the front;
+/// but nothing, if the preferred copy is finished and each wanted unit is indexed. Of all else it is nothing.
+pub fn helping_by_definition()
+    ensures sections { (described : Bool) (at : AtHandParts) (notes : List NoteParts) (p : Section) (o : Order)
+        → IsContent notes → AreAtHand at
+        → In o (helping_of described at notes p) ↔ Helps (IsTrue described) at notes p o }
+    ensures units { (w : WantedParts) (o : Order) → IsContent (notes_of w) → AreAtHand (hand_of w)
+        → In o (helping_orders w) ↔ HelpsUnits w o }
+{}
+
+/// A law of [`UnitPlan::of`](mxf_partial::UnitPlan::of): the way from a partition pack goes over its header metadata,
+/// then over its index table segments, and over the fills before and after them. It ends where it isn't known what
+/// begins, if the pack counts bytes there, or after all of these. Each byte of it is of one of the two or of a fill, and
+/// no fill begins where it ends. A unit asks for the end of a way if nothing is held there, and the file may reach so
+/// far.
+pub fn ways_by_definition()
+    ensures ends { (notes : List NoteParts) (p : PartitionParts) (x : ℕ) → IsContent notes
+        → (end_of_way notes p ≡ Some x) ↔ IsWayEnd notes p x }
+    ensures goes_on { (notes : List NoteParts) (p : PartitionParts) (x : ℕ) → IsContent notes
+        → (way_of notes p ≡ Some x) ↔ GoesOnAt notes p x }
+    ensures bytes { (notes : List NoteParts) (p : PartitionParts) (x y : ℕ) → IsContent notes
+        → IsWayEnd notes p x → p.end ≤ y → y < x → IsOnWay notes p y }
+    ensures no_fill { (notes : List NoteParts) (p : PartitionParts) (x : ℕ) (n : NoteParts) → IsWayEnd notes p x
+        → StandsAlone notes n x → kind_of n.key ≢ Fill }
 {}

@@ -1,5 +1,5 @@
 //! That asking what to restore, and restoring it, comes to an end (this project's profile): what an order of a plan
-//! asks for that isn't there yet, and how many rounds there can be.
+//! asks for that isn't there yet, and how many rounds there can be. And what is restored first for edit units.
 //!
 //! What is proved:
 //!
@@ -11,10 +11,13 @@
 //!   ([`laws::nothing_is_ordered_where_nothing_lacks`]).
 //! - Each round of restoring gives a byte of the file that no source gave. So there are no more rounds than such bytes
 //!   ([`laws::restores_end`]).
+//! - What is restored first for edit units is what helps to find them: which orders these are is said sentence by
+//!   sentence ([`laws::helping_by_definition`]), and so is where the way from a partition pack to its essence ends
+//!   ([`laws::ways_by_definition`]).
 //!
-//! The last is said of what sources give, so of runs with a range: in others nothing is given. It is said of orders that
-//! aren't `again` and whose bytes the file has. That these are all, and that no order is left in the end, is tried, not
-//! proved: a file whose packs name wrong places can go on asking for more.
+//! That there are no more rounds is said of what sources give, so of runs with a range: in others nothing is given. It
+//! is said of orders that aren't `again` and whose bytes the file has. That these are all, and that no order is left in
+//! the end, is tried, not proved: a file whose packs name wrong places can go on asking for more.
 //!
 //! There is nothing to call here but laws.
 #![tactic(auto)]
