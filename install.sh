@@ -47,5 +47,5 @@ for name in mxf_tool mxf_report mxf_archive; do
   put 644 "$completions/$name.bash" "share/bash-completion/completions/$name"
 done
 put 644 "$example/Makefile" share/mxf-tool/archive/Makefile
-for name in lacking recording side_by_side stretches slurm/run; do put 755 "$example/$name" "share/mxf-tool/archive/$name"; done
+for name in lacking names recording side_by_side stretches slurm/run; do put 755 "$example/$name" "share/mxf-tool/archive/$name"; done
 for name in GUIDE FORMATS ARCHIVE; do put 644 "$pages/$name.md" "share/doc/mxf-tool/$name.md"; done

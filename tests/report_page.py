@@ -3,14 +3,17 @@
 
     tests/report_page.py TOOL PAGE WORDS..    a page of one recording: WORDS are those that it was made by, of which --read
                                               and --skim say whether essence was read; the lines are those of a reading
-    tests/report_page.py --form PAGE          the form of a page alone: its tags are balanced, and it loads nothing
+    tests/report_page.py --form PAGE          the form of a page alone: its tags are balanced, it loads nothing, and runs no
+                                              script but one whose SHA-256 its policy names
     tests/report_page.py --text PAGE          the text of a page that is seen, a word a line
     tests/report_page.py --rows PAGE [TABLE]  the rows of its first table, or of that of this caption, a line each
     tests/report_page.py --words              the words of the report are those of docs/GUIDE.md and docs/FORMATS.md
 
 Each difference is a line. Nothing is printed of a page that is right.
 """
+import base64
 import collections
+import hashlib
 import html.parser
 import importlib.machinery
 import importlib.util
@@ -30,7 +33,7 @@ LOADING = {
     "script", "iframe", "object", "embed", "link", "img", "base", "form", "audio", "video", "image", "use", "foreignobject",
 }  # fmt: skip
 ALLOWED_ADDRESS = re.compile(r"\./[^:]*")
-UNSEEN = {"style", "title", "head", "defs"}
+UNSEEN = {"style", "script", "title", "head", "defs"}
 INLINE = {"bdi", "code", "strong", "span", "tspan", "a"}
 CUT = 200
 NAMED = 8  # sources of a reading that are named
@@ -59,6 +62,8 @@ class Page(html.parser.HTMLParser):
         self.text = collections.defaultdict(str)
         self.seen = ""
         self.cell = None
+        self.allowed = []
+        self.script = ""
         self.feed(text)
         self.close()
         self.faults += [f"<{tag}> isn't closed" for tag in self.open]
@@ -71,7 +76,9 @@ class Page(html.parser.HTMLParser):
                 self.faults.append(f"<{tag} {name}={value!r}>")
             if "url(" in (value or "") and not re.fullmatch(r"url\(#[\w-]+\)", value):
                 self.faults.append(f"<{tag} {name}={value!r}>")
-        if tag in LOADING:
+        if tag == "meta" and ("http-equiv", "Content-Security-Policy") in attrs:
+            self.allowed = re.findall(r"'sha256-([^']+)'", dict(attrs)["content"])
+        if tag in LOADING and not (tag == "script" and self.allowed and not attrs):
             self.faults.append(f"<{tag}>")
         if tag not in EMPTY:
             self.open.append(tag)
@@ -96,6 +103,8 @@ class Page(html.parser.HTMLParser):
             self.faults.append(f"</{tag}> ends {self.open[-1:]}")
             return
         self.open.pop()
+        if tag == "script" and base64.b64encode(hashlib.sha256(self.script.encode()).digest()).decode() not in self.allowed:
+            self.faults.append("<script> isn't the one that the policy names")
         self.seen += "" if tag in INLINE else " "
         if tag == "td" or tag == "th" and "tbody" in self.open:
             self.tables[-1].rows[-1].append(self.cell)
@@ -107,6 +116,7 @@ class Page(html.parser.HTMLParser):
     def handle_data(self, data):
         """Takes a text."""
         section = self.sections[-1] if self.sections else "top"
+        self.script += data if self.open[-1:] == ["script"] else ""
         if "svg" in self.open and self.open[-1] == "title":
             self.titles[section].append(data)
         elif not UNSEEN.intersection(self.open):

@@ -5,7 +5,7 @@ import sqlite3
 import sys
 from typing import List
 
-from archive import answering, asking, database, gathering, printing, storing
+from archive import asking, database, gathering, printing, storing
 from archive.faults import DATA, NO_PROGRAM, READ, USAGE, OwnFault
 from archive.rows import Recording, recordings_of
 
@@ -37,8 +37,7 @@ def add(words: argparse.Namespace) -> int:
 
 def lines(words: argparse.Namespace) -> int:
     """Prints the lines of a recording, which load takes."""
-    for line in gathered_of(words).gather():
-        printing.print_line(line)
+    printing.print_lines(gathered_of(words).gather())
     return 0
 
 
@@ -86,6 +85,8 @@ def lines_of(path: str) -> List[asking.Line]:
 
 def verify(words: argparse.Namespace) -> int:
     """Verifies a recording, and keeps what comes of it. The status is that of mxf_tool."""
+    from archive import answering
+
     sources = asking.sources_of(words.source, words.sources)
     if not sources.each():
         raise OwnFault(USAGE, "no source is named")

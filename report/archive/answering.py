@@ -25,6 +25,15 @@ LISTS = {
     "unverified": LIST + "WHERE r.verified < ? ORDER BY r.verified, r.name",
 }
 
+# What a page of all recordings shows: those of LIST, whether each is damaged, and how many packets differed when it was
+# last verified.
+OVERVIEW = """
+SELECT r.name AS recording, r.title AS name, r.length, r.timecode, s."end", s.missing, s.orders, s.findings, s.disputes,
+  nullif(r.verified, '') AS verified, r.is_damaged, coalesce((SELECT v.differs FROM verifications v
+    WHERE v.recording = r.id ORDER BY v.number DESC LIMIT 1), 0) AS differs
+FROM recordings r JOIN states s ON s.recording = r.id AND s.number = r.state ORDER BY r.name
+"""
+
 BY_UMID = """
 SELECT r.name AS recording, 'package' AS what, p.uid AS text
 FROM packages p JOIN recordings r ON r.id = p.recording WHERE substr(p.uid, -16) = ?

@@ -1,13 +1,11 @@
 """Asking mxf_tool, and the words that name sources."""
 import contextlib
-import hashlib
 import json
 import os
-import pathlib
 import re
 import stat
 import subprocess
-import tempfile
+import threading
 from typing import Any, Callable, Dict, Iterator, List, NamedTuple, Optional, Sequence, Tuple
 
 from archive import moments
@@ -121,6 +119,8 @@ def origin_of(number: int, source: Source) -> Line:
 
 def sha256_of(path: str) -> str:
     """The SHA-256 of a file."""
+    import hashlib
+
     digest = hashlib.sha256()
     try:
         with open(path, "rb") as file:
@@ -147,11 +147,12 @@ def program() -> str:
     """The program that is asked: the one that MXF_TOOL names, the one beside this one, or the one on the PATH."""
     if os.environ.get("MXF_TOOL"):
         return os.environ["MXF_TOOL"]
-    here = pathlib.Path(__file__).resolve().parent
+    above = [os.path.realpath(__file__)]
+    for _ in range(4):
+        above.append(os.path.dirname(above[-1]))
     # In a folder of packaging/release, in the repository, and below a prefix.
-    folders = (here.parent, here.parent.parent, here.parent.parent.parent / "bin")
-    beside = [folder / "mxf_tool" for folder in folders if (folder / "mxf_tool").is_file()]
-    return str(beside[0]) if beside else "mxf_tool"
+    programs = [os.path.join(*folder, "mxf_tool") for folder in ((above[2],), (above[3],), (above[4], "bin"))]
+    return next((path for path in programs if os.path.isfile(path)), "mxf_tool")
 
 
 def version_of(path: str) -> str:
@@ -165,6 +166,34 @@ def version_of(path: str) -> str:
     return done.stdout.decode("utf-8", "replace").strip()
 
 
+class Beside:
+    """What goes on beside the reading of what a program prints: it is handed a list, and what it says of faults is kept."""
+
+    def __init__(self, process: Any, given: bytes) -> None:
+        self.process = process
+        self.told = b""
+        works = [(self.hand, (given,))] * bool(process.stdin) + [(self.hear, ())] * bool(process.stderr)
+        self.threads = [threading.Thread(target=work, args=words) for work, words in works]
+
+    def hand(self, given: bytes) -> None:
+        """Hands the list to the program, which may end before it has read all."""
+        with contextlib.suppress(OSError), self.process.stdin:
+            self.process.stdin.write(given)
+
+    def hear(self) -> None:
+        """Keeps what the program says."""
+        self.told = self.process.stderr.read()
+
+    def __enter__(self) -> "Beside":
+        for thread in self.threads:
+            thread.start()
+        return self
+
+    def __exit__(self, *_: Any) -> None:
+        for thread in self.threads:
+            thread.join()
+
+
 class Tool:
     """mxf_tool. Its first question says its faults and how far it is by itself. The launcher of the repository looks at each
     call whether the program is current; once is enough, and then the program itself is asked."""
@@ -172,50 +201,43 @@ class Tool:
     def __init__(self) -> None:
         launcher = program()
         self.version = version_of(launcher)
-        built = pathlib.Path(launcher).resolve().parent / "crates" / "mxf_tool" / "out" / "mxf_tool"
-        self.program = str(built) if built.is_file() else launcher
+        built = os.path.join(os.path.dirname(os.path.realpath(launcher)), "crates", "mxf_tool", "out", "mxf_tool")
+        self.program = built if os.path.isfile(built) else launcher
         self.calls = 0
         self.status = 0
 
     def ask(self, words: Sequence[str], sources: Sources, keeps: Callable[[bytes], bool] = lambda _: True) -> List[Line]:
         """The lines that a command prints of the sources, as far as they are kept. A call that fails is a fault."""
         self.calls += 1
-        with contextlib.ExitStack() as opened:
-            given = opened.enter_context(tempfile.TemporaryFile())
-            given.write("".join(f"{word}\n" for word in sources.listed).encode())
-            given.seek(0)
-            told = None if self.calls == 1 else opened.enter_context(tempfile.TemporaryFile())
-            handed = ["--sources", "-"] if sources.listed else []
-            return list(self.run([self.program, *words, "--json", *handed, *sources.words], given, told, keeps))
+        handed = ["--sources", "-"] if sources.listed else []
+        given = "".join(f"{word}\n" for word in sources.listed).encode()
+        return list(self.run([self.program, *words, "--json", *handed, *sources.words], given, keeps))
 
-    def run(self, words: List[str], given: Any, told: Any, keeps: Callable[[bytes], bool]) -> Iterator[Line]:
-        """The lines of a call that reads one file and says its faults to another."""
+    def run(self, words: List[str], given: bytes, keeps: Callable[[bytes], bool]) -> Iterator[Line]:
+        """The lines of a call that is handed a list."""
+        said = None if self.calls == 1 else subprocess.PIPE
         try:
-            process = subprocess.Popen(words, stdin=given, stdout=subprocess.PIPE, stderr=told)
+            process = subprocess.Popen(words, stdin=subprocess.PIPE if given else subprocess.DEVNULL,
+                                       stdout=subprocess.PIPE, stderr=said)  # fmt: skip
         except OSError as fault:
             raise OwnFault(NO_PROGRAM, f"{words[0]} can't be run: {fault.strerror}") from fault
         closing, is_whole, texts = b'{"line":"%s"' % CLOSING[words[1]].encode(), False, []
-        with process:
+        with process, Beside(process, given) as beside:
             for text in process.stdout:
                 is_whole = is_whole or text.startswith(closing)
                 if keeps(text):
                     texts.append(text)
-        self.check(process.returncode, told)
+        self.check(process.returncode, beside.told)
         if not is_whole:
             raise OwnFault(NO_PROGRAM, f"{words[0]} {words[1]} prints no line {CLOSING[words[1]]}")
         for text in texts:
             yield line_of(text, words[0])
 
-    def check(self, status: int, told: Any) -> None:
+    def check(self, status: int, told: bytes) -> None:
         """Sees that a call ended with status 0 or 1, or reports the fault that it said."""
         self.status = status
-        if status in (0, 1):
-            return
-        message = b""
-        if told:
-            told.seek(0)
-            message = told.read()
-        raise ToolFault(status if status > 0 else 128 - status, message)
+        if status not in (0, 1):
+            raise ToolFault(status if status > 0 else 128 - status, told)
 
 
 def line_of(text: bytes, name: str) -> Line:

@@ -1,7 +1,6 @@
 """The database file: opening it, its version, waiting for other writers, and transactions."""
 import contextlib
 import os
-import pathlib
 import sqlite3
 import sys
 import time
@@ -21,9 +20,14 @@ def check_library() -> None:
         raise OwnFault(NO_PROGRAM, f"SQLite {least} is needed, and this Python has {sqlite3.sqlite_version}")
 
 
+# Bytes of a path that stand for themselves in an address.
+PLAIN = frozenset(b"abcdefghijklmnopqrstuvwxyzABCDEFGHIJKLMNOPQRSTUVWXYZ0123456789/._-")
+
+
 def address_of(path: str, mode: str) -> str:
     """The address of a database file, opened in this mode."""
-    return f"{pathlib.Path(os.path.abspath(path)).as_uri()}?mode={mode}"
+    path_bytes = os.fsencode(os.path.abspath(path))
+    return "file://" + "".join(chr(byte) if byte in PLAIN else f"%{byte:02X}" for byte in path_bytes) + f"?mode={mode}"
 
 
 def is_locked(fault: sqlite3.Error) -> bool:

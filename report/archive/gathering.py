@@ -3,8 +3,8 @@
 The first line names the recording; a line for each source comes after it. Then a line `asked` names a command, and its
 lines follow. The last line says how many there are, so a part of them is no recording.
 """
-import pathlib
-import tempfile
+import contextlib
+import os
 from typing import List, NamedTuple, Optional
 
 from archive import moments
@@ -45,12 +45,12 @@ class Gathering:
             "skim": asked.is_skim,
         })  # fmt: skip
         self.lines += origins
-        with tempfile.TemporaryDirectory(prefix="mxf_archive.") as folder:
-            self.ask_all(self.to_ask(pathlib.Path(folder) / "joined"))
+        with contextlib.ExitStack() as opened:
+            self.ask_all(self.to_ask(opened))
         self.lines.append({"line": "recorded", "name": asked.name, "lines": len(self.lines) + 1})
         return self.lines
 
-    def to_ask(self, joined: pathlib.Path) -> Sources:
+    def to_ask(self, opened: contextlib.ExitStack) -> Sources:
         """The sources that are asked. Ranges tell themselves which bytes are at hand, and a skim reads little; all else is
         read once, and then its catalogue is asked. Which source is damaged that doesn't tell, so it is asked for if the
         join says that there may be one."""
@@ -64,7 +64,10 @@ class Gathering:
             return asked.sources
         if len(sources) == 1 and sources[0].form == "cat":
             return asked.sources
-        self.tool.ask(["join", "--strict", "--out", str(joined)], asked.sources)
+        import tempfile
+
+        joined = os.path.join(opened.enter_context(tempfile.TemporaryDirectory(prefix="mxf_archive.")), "joined")
+        self.tool.ask(["join", "--strict", "--out", joined], asked.sources)
         if self.tool.status == 1:
             self.lines.append({"line": "asked", "command": "check"})
             self.lines += [line for line in self.tool.ask(["check"], asked.sources) if line["line"] == "stop"]

@@ -3,7 +3,6 @@ import argparse
 import os
 import sqlite3
 import sys
-import tempfile
 from typing import Any, Dict, Iterable, List, NamedTuple, Set, Tuple
 
 from archive import asking, database, printing
@@ -75,6 +74,8 @@ def catalogues_of(connection: sqlite3.Connection, recording: int) -> List[Candid
 def found_in(tool: asking.Tool, candidates: List[Candidate], sources: asking.Sources) -> List[asking.Line]:
     """What `find` prints of the fragments in the candidates, whose numbers are their places. A path with a newline stands
     in no list, so such candidates come first."""
+    import tempfile
+
     candidates.sort(key=lambda one: "\n" not in one.path)
     named = [part for one in candidates if "\n" in one.path for part in ("--in", f"cat:{one.path}")]
     with tempfile.NamedTemporaryFile(prefix="mxf_archive.") as file:

@@ -1,14 +1,10 @@
-"""Answers as a table for people, as CSV or as JSON."""
-import csv
-import json
+"""Answers as a table for people, as CSV or as JSON. What a form alone needs is loaded for it."""
 import re
 import sys
-from typing import Any, Iterable, List, Optional, Sequence
+from typing import Any, Iterable, List, Optional, Sequence, Set
 
 # Characters of control, line ends of Unicode, and marks of direction: a terminal may obey them.
 CONTROL = re.compile("[\x00-\x1f\x7f-\x9f\u2028\u2029\u202a-\u202e\u2066-\u2069]")
-
-ENCODER = json.JSONEncoder(ensure_ascii=False, separators=(",", ":"))
 
 Cells = Sequence[Any]
 
@@ -18,23 +14,25 @@ def cell(value: Any) -> str:
     return "-" if value is None else CONTROL.sub("?", str(value))
 
 
-def cells(column: Cells) -> List[str]:
-    """The values of a column."""
-    texts = ["-" if value is None else str(value) for value in column]
+def cells(column: Cells, kinds: Set[type]) -> List[str]:
+    """The values of a column that has values of these kinds alone."""
+    texts = column if kinds == {str} else ["-" if value is None else str(value) for value in column]
     return texts if "".join(texts).isprintable() else [CONTROL.sub("?", text) for text in texts]
 
 
 def print_table(heads: Sequence[str], rows: Iterable[Cells]) -> None:
     """Prints columns side by side, with numbers on the right. Nothing stands after the last column."""
     columns = list(zip(*rows)) or [()] * len(heads)
-    texts = [[head, *cells(column)] for head, column in zip(heads, columns)]
-    numeric = [any(isinstance(value, int) for value in column) for column in columns]
-    form = "  ".join(f"{{:{'>' if is_number else '<'}{max(map(len, text))}}}" for text, is_number in zip(texts, numeric))
-    sys.stdout.writelines(form.format(*line).rstrip() + "\n" for line in zip(*texts))
+    kinds = [set(map(type, column)) for column in columns]
+    texts = [[head, *cells(column, kind)] for head, column, kind in zip(heads, columns, kinds)]
+    form = "  ".join(f"%{'' if int in kind else '-'}{max(map(len, text))}s" for text, kind in zip(texts, kinds))
+    sys.stdout.write("".join([(form % line).rstrip() + "\n" for line in zip(*texts)]))
 
 
 def print_csv(heads: Sequence[str], rows: Iterable[Cells]) -> None:
     """Prints CSV by RFC 4180, with a line of heads. A value that there isn't is empty."""
+    import csv
+
     writer = csv.writer(sys.stdout)
     writer.writerow(heads)
     writer.writerows(rows)
@@ -42,13 +40,15 @@ def print_csv(heads: Sequence[str], rows: Iterable[Cells]) -> None:
 
 def print_json(heads: Sequence[str], rows: Iterable[Cells]) -> None:
     """Prints a JSON object a line, with a member for each column."""
-    for row in rows:
-        print_line(dict(zip(heads, row)))
+    print_lines(dict(zip(heads, row)) for row in rows)
 
 
-def print_line(line: Any) -> None:
-    """Prints a JSON object on a line of its own."""
-    sys.stdout.write(ENCODER.encode(line) + "\n")
+def print_lines(lines: Iterable[Any]) -> None:
+    """Prints JSON objects, each on a line of its own."""
+    import json
+
+    encoder = json.JSONEncoder(ensure_ascii=False, separators=(",", ":"))
+    sys.stdout.writelines(encoder.encode(line) + "\n" for line in lines)
 
 
 FORMS = {"table": print_table, "csv": print_csv, "json": print_json}

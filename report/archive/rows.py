@@ -1,6 +1,5 @@
 """What the lines of a recording say, as rows of the tables of the database."""
 import collections
-from fractions import Fraction
 from typing import Any, Dict, Iterable, Iterator, List, Optional
 
 from archive import moments, spans
@@ -227,7 +226,7 @@ class Recording:
         number = self.add_numbered("clocks", index_sid=line["index-sid"], told_by=line["by"], **row)
         self.add_hours(spans.span_of_clock(line, self.rate_of_index(line["index-sid"])), clock=number, timecode=None)
 
-    def rate_of_index(self, index_sid: int) -> Optional[Fraction]:
+    def rate_of_index(self, index_sid: int) -> Optional[spans.Rate]:
         """The edit units a second of an index, by the essence track of its package."""
         packages = {row["number"] for row in self.rows["packages"] if row["index_sid"] == index_sid}
         tracks = [row for row in self.rows["tracks"] if row["package"] in packages]

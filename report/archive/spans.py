@@ -1,5 +1,4 @@
 """Which timecodes of a day clocks and timecode components have, hour by hour."""
-from fractions import Fraction
 from typing import Any, Dict, Iterator, NamedTuple, Optional
 
 from archive.moments import HOURS, Counting
@@ -29,19 +28,31 @@ class Span(NamedTuple):
                     }  # fmt: skip
 
 
-def span_of_clock(line: Dict[str, Any], rate: Optional[Fraction]) -> Span:
+class Rate(NamedTuple):
+    """Edit units a second: a fraction whose numbers are above 0."""
+
+    above: int
+    below: int
+
+    def nearest(self) -> int:
+        """The whole number that is nearest, the even one of two."""
+        whole, rest = divmod(self.above, self.below)
+        return whole + (2 * rest + whole % 2 > self.below)
+
+
+def span_of_clock(line: Dict[str, Any], rate: Optional[Rate]) -> Span:
     """The timecodes of a run of a clock. At this rate its positions follow one another, if that is known: a run that is
     longer than a day has all timecodes. One without an end has all from the first one up to midnight, as far as is known."""
     counting = Counting(line["base"], ";" in line["first"])
     begin, day = counting.number(line["first"]), counting.day()
     if line["count"] is None:
         return Span(line["first"], day - begin, counting, True)
-    is_long = rate is not None and line["count"] >= 86400 * rate
+    is_long = rate is not None and line["count"] * rate.below >= 86400 * rate.above
     count = day if is_long else (counting.number(line["last"]) - begin) % day + 1
     return Span(line["first"], count, counting, False)
 
 
-def span_of_component(line: Dict[str, Any], rate: Optional[Fraction]) -> Optional[Span]:
+def span_of_component(line: Dict[str, Any], rate: Optional[Rate]) -> Optional[Span]:
     """The timecodes of a timecode component in a track of this rate; None if it says none."""
     if line["at"] is None or not line["base"]:
         return None
@@ -49,12 +60,12 @@ def span_of_component(line: Dict[str, Any], rate: Optional[Fraction]) -> Optiona
     begin, duration = counting.number(line["at"]), line["duration"]
     if duration is None or rate is None:
         return Span(line["at"], counting.day() - begin, counting, True)
-    exact = duration if round(rate) == counting.base else duration * counting.base / rate
-    return Span(line["at"], int(exact) + (exact != int(exact)), counting, False) if duration > 0 else None
+    count = duration if rate.nearest() == counting.base else -(-duration * counting.base * rate.below // rate.above)
+    return Span(line["at"], count, counting, False) if duration > 0 else None
 
 
-def rate_of(text: Optional[str]) -> Optional[Fraction]:
+def rate_of(text: Optional[str]) -> Optional[Rate]:
     """A rate, if both its numbers are above 0."""
     above, _, below = (text or "").partition("/")
     is_good = above.isdigit() and below.isdigit() and int(above) > 0 and int(below) > 0
-    return Fraction(int(above), int(below)) if is_good else None
+    return Rate(int(above), int(below)) if is_good else None
