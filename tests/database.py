@@ -50,6 +50,7 @@ FIELDS = {
                                    "pack": "source", "is_inside": "inside", "is_again": "again"}),
 }  # fmt: skip
 
+DAMAGED = ("not-ul", "bad-length", "too-far")
 COUNTED = ("packets", "end", "held", "hand", "missing", "findings", "disputes", "orders", "ordered", "open")
 TABLES_WITH_TIMES = {"sources": ("modified",), "states": ("gathered",), "verifications": ("verified",), "recordings": ("verified",)}
 
@@ -109,6 +110,45 @@ def compare(tool, database, name, words):
     got = connection.execute('SELECT "offset", "end", key FROM disputes WHERE recording = ? ORDER BY number', (recording["id"],))
     differ("disputes", [(line["offset"], line["end"], line["key"]) for line in notes], [tuple(row) for row in got])
     compare_units(tool, connection, recording["id"], words, said)
+    compare_views(connection, name, said)
+
+
+def lines_in(said, command, name):
+    """The lines of this name that a command printed."""
+    return [line for line in said[command] if line["line"] == name]
+
+
+def compare_views(connection, name, said):
+    """The same of the views by which docs/ARCHIVE.md asks."""
+    (mapped,), (planned,), orders = lines_in(said, "map", "map"), lines_in(said, "plan", "planned"), lines_in(said, "plan", "restore")
+    lacks = [(mapped["missing"], planned["ranges"], planned["bytes"], planned["open"])] if mapped["missing"] or orders else []
+    fields = ("start", "end", "length", "reason", "source", "inside", "again")
+    found = lines_in(said, "check", "finding")
+    damaged = [(f"{line['code']} {line['text']}", line["offset"]) for line in found if line["code"] in ("F04", "F10", "F11")]
+    damaged += [(line["stop"], line.get("at")) for line in lines_in(said, "check", "stop") if line["stop"] in DAMAGED]
+    notes = [line for line in lines_in(said, "show", "note") if line["disputed"]]
+    packages, clips = lines_in(said, "describe", "package"), lines_in(said, "describe", "clip")
+    uids = [(line["uid"], f"{line['kind']} package") for line in packages if "uid" in line]
+    uids += [(line["package"], "clip") for line in clips if "of-track" in line]
+    numbers = wanted_counts(said)
+    wanted = {
+        "missing, orders, ordered, open FROM lacking": lacks,
+        'start, "end", length, reason, pack, is_inside, is_again FROM restores': [tuple(line[field] for field in fields) for line in orders],
+        "what, place FROM damaged": damaged,
+        '"offset", "end", kind, length, key FROM disputed': [
+            tuple(line[field] for field in ("offset", "end", "kind", "length", "key")) for line in notes
+        ],
+        "uid, what FROM umids": uids,
+        'packets, "end", held, missing, findings, disputes, orders FROM last': [
+            tuple(numbers[field] for field in ("packets", "end", "held", "missing", "findings", "disputes", "orders"))
+        ],
+        "1 FROM changed": [],
+        "verified FROM fixity": [("",)],
+    }  # fmt: skip
+    last = "WITH last AS (SELECT *, max(number) FROM history GROUP BY recording)"
+    for question, want in wanted.items():
+        got = [tuple(row) for row in connection.execute(f"{last} SELECT {question} WHERE recording = ?", (name,))]
+        differ(question, sorted(map(str, (tuple(map(value_of, row)) for row in want))), sorted(map(str, got)))
 
 
 def compare_units(tool, connection, recording, words, said):
