@@ -8,5 +8,6 @@ invariant-load l = (length l.window ≡ 16) × ((k : ℕ) → k < l.i → (j : �
     → slice_index (slice_index_or l.window k []) j ≡ word_at (block l.blocks j) (4 * k))
 
 abbrev pub invariant-schedule : goal.invariant-schedule
-invariant-schedule l = (j : ℕ) → j < 4 → IsRoundsAt (block l.blocks j) (lane j l.state) (lane j l.window) (lane j l.v)
+invariant-schedule l = (j : ℕ) → j < 4
+    → IsRoundsAt (block l.blocks j) (lane j l.state) (lane j l.window) (lane j l.working)
     (16 * l.turn)

@@ -7,6 +7,6 @@ use Rattle.mxf_digests.proofs.rounds.first_step.Goals as goal
 pub returns : goal.returns
 returns c j b h low window held =
     let w = lane j c.args.window.now in
-    rounds_first b h w (lane j c.args.v) c.args.t _ _ _ c.requires window held refl
-    (sym (word_of_lane c.args.window.now j c.args.t))
+    rounds_first b h w (lane j c.args.working) c.args.number _ _ _ c.requires window held refl
+    (sym (word_of_lane c.args.window.now j c.args.number))
     (c.round.ensures j low)

@@ -4,7 +4,7 @@ use Rattle.mxf_digests.proofs.rounds.round.Goals as goal
 
 pub returns : goal.returns
 returns c j h =
-    let v = c.args.v in
+    let v = c.args.working in
     rw (
       word_of_lane v j 0,
       word_of_lane v j 1,
