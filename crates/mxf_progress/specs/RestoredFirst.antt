@@ -1,5 +1,6 @@
--- What of a section says more of where edit units lie, and so is restored first, sentence by sentence (footer partitions,
--- header metadata and index table segments are those of ST 377-1; what is restored first is this project's profile).
+-- What of a section says more of where edit units lie, and so is restored first, sentence by sentence (footer
+-- partitions, header metadata and index table segments are those of ST 377-1; what is restored first is this project's
+-- profile).
 use Rattle.std.specs.Prelude.{◌≡◌, ◌≢◌, ℕ, ◌<◌, ◌≤◌, true, false, List}
 use Rattle.mxf_klv.specs.Parts.{NoteParts}
 use Rattle.mxf_klv.specs.Rising.{In}

@@ -1,5 +1,5 @@
--- Where the way from a partition pack to its essence ends, step by step (ST 377-1, Partition Pack: header metadata, then
--- index table segments, then essence, and fills between; where a way ends is this project's profile).
+-- Where the way from a partition pack to its essence ends, step by step (ST 377-1, Partition Pack: header metadata,
+-- then index table segments, then essence, and fills between; where a way ends is this project's profile).
 use Rattle.std.specs.Prelude.{◌≡◌, ℕ, ◌<◌, ◌≤◌, false, List}
 use Rattle.mxf_klv.specs.Kind.{kind_of}
 use Rattle.mxf_klv.specs.Note.{end_of}
@@ -12,8 +12,8 @@ use Rattle.mxf_places.specs.declared.stretch.Stretch.{Stretch}
 use Rattle.mxf_places.specs.declared.stretch.Zone.{Zone}
 use Rattle.mxf_places.specs.declared.stretch.Zone.TheVariants.{Index, Metadata}
 
--- The way goes on past what a pack counts from an offset on: if it counts no byte, it stays there; else it goes over the
--- fills there, and over as many bytes from the packet on with which that begins.
+-- The way goes on past what a pack counts from an offset on: if it counts no byte, it stays there; else it goes over
+-- the fills there, and over as many bytes from the packet on with which that begins.
 pub data GoesPast (zone : Zone) (notes : List NoteParts) (from count to : ℕ) : Type 0 where
   Nothing : count ≡ 0 → to ≡ from → GoesPast zone notes from count to
   Counted : 0 < count → (s : Stretch) → IsCounted zone notes from count s → to ≡ s.end

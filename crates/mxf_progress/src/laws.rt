@@ -110,9 +110,9 @@ pub fn helping_by_definition()
 
 /// A law of [`UnitPlan::of`](mxf_partial::UnitPlan::of): the way from a partition pack goes over its header metadata,
 /// then over its index table segments, and over the fills before and after them. It ends where it isn't known what
-/// begins, if the pack counts bytes there, or after all of these. Each byte of it is of one of the two or of a fill, and
-/// no fill begins where it ends. A unit asks for the end of a way if nothing is held there, and the file may reach so
-/// far.
+/// begins, if the pack counts bytes there, or after all of these. Each byte of it is of one of the two or of a fill,
+/// and no fill begins where it ends. A unit asks for the end of a way if nothing is held there, and the file may reach
+/// so far.
 pub fn ways_by_definition()
     ensures ends { (notes : List NoteParts) (p : PartitionParts) (x : ℕ) → IsContent notes
         → (end_of_way notes p ≡ Some x) ↔ IsWayEnd notes p x }
