@@ -23,7 +23,9 @@ import api_pages
 
 TOP = pathlib.Path(__file__).resolve().parent.parent
 LINK = re.compile(r"\[[^\]]*\]\(([^)\s]+)\)")
-CONTRACT = re.compile(r"\[`([\w:]+)`\]\(([^)\s]+\.rt)\)(?: \(((?:`\w+`,? ?)+))?")
+CLAUSES = r"(?: \(((?:`\w+`,? ?)+))?"
+CONTRACT = re.compile(r"\[`([\w:]+)`\]\(([^)\s]+\.rt)\)" + CLAUSES)
+PLACED = re.compile(r"`(mxf_\w+(?:::\w+)+)`" + CLAUSES)
 LIBRARIES = (
     "mxf_digests", "mxf_klv", "mxf_sets", "mxf_catalogue", "mxf_skim", "mxf_views", "mxf_references", "mxf_findings", "mxf_tracks", "mxf_clocks",
     "mxf_places", "mxf_restore", "mxf_map", "mxf_units", "mxf_timed", "mxf_partial", "mxf_read", "mxf_readings",
@@ -89,12 +91,25 @@ def fault_of_contract(text, name, clauses):
     return f"no clause {', '.join(missing)}" if missing else None
 
 
+def place_of(name):
+    """The source in which a name stands that begins with its crate and its modules, and what of it comes after them."""
+    crate, *parts = name.split("::")
+    folder = TOP / "crates" / crate / "src"
+    sources = [folder.joinpath(*parts[:count]).with_suffix(".rt") for count in range(1, len(parts) + 1)]
+    count = max((count for count, source in enumerate(sources, 1) if source.exists()), default=0)
+    return (sources[count - 1] if count else folder / "lib.rt"), parts[count:]
+
+
 def verdicts_of_contracts(document):
-    """For each function or type of a source that a link names: its line, its name, and why it isn't there, or None."""
+    """For each function or type of a source that is named: its line, its name, and why it isn't there, or None."""
     for number, line in enumerate(lines_of(document), 1):
         for name, path, clauses in CONTRACT.findall(line):
             text = text_of(document.parent / path)
             yield number, name, fault_of_contract(text, name.split("::")[-1], re.findall(r"\w+", clauses))
+        for name, clauses in PLACED.findall(line):
+            source, own = place_of(name)
+            if own:
+                yield number, name, fault_of_contract(text_of(source), own[-1], re.findall(r"\w+", clauses))
 
 
 def is_there(name):
@@ -107,9 +122,8 @@ def is_there(name):
     if case:
         tables = (text_of(TOP / "crates" / topic / file) for file in ("stdin", "stdout"))
         return all(f"# {case}" in table.splitlines() for table in tables)
-    crate, *modules, last = name.split("::")
-    module = (TOP / "crates" / crate / "src").joinpath(*modules)
-    return (module / f"{last}.rt").exists() or f"fn {last}(" in text_of(module.with_suffix(".rt"))
+    source, own = place_of(name)
+    return source.exists() and (not own or fault_of_contract(text_of(source), own[-1], []) is None)
 
 
 def verdicts_of_names(document):
@@ -291,7 +305,8 @@ def fault_of_trial(words):
 def fault_of_promise(cell):
     """Why nothing carries the promise of a cell: it names no clause and not what tries it; or None."""
     proof, marked, trial = cell.partition("tried")
-    if (proof or not marked) and not CONTRACT.search(proof) and not any(words in proof for words in CARRIED):
+    is_named = CONTRACT.search(proof) or PLACED.search(proof)
+    if (proof or not marked) and not is_named and not any(words in proof for words in CARRIED):
         return "neither a clause nor what it is tried by"
     return fault_of_trial(trial) if marked else None
 
