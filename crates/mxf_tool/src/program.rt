@@ -213,15 +213,25 @@ fn print_told<'a>(
     inputs: Inputs<'_, 'a>,
     asked: Told<'a>,
 ) -> Result<Exit, RunFault<'a>> {
-    let held = hold_sources(rt, inputs.telling.screen, inputs.scan, inputs.sources)?;
-    let held = match asked {
-        Told::Answer(Ask::Show { .. }) => held,
-        _ => settled(rt.alloc(), held, inputs.sources)?,
-    };
+    let held = held_for(rt, inputs, asked)?;
     let exit = print_held(rt, inputs, asked, &held)?;
     match asked {
         Told::Answer(Ask::Check) => told_skim(rt, inputs, exit),
         _ => Ok(exit),
+    }
+}
+
+/// What the sources hold together, with the stops as ends that what is held makes up for; what `show` prints has them as
+/// they were.
+fn held_for<'a>(
+    rt: &HostRuntime,
+    inputs: Inputs<'_, 'a>,
+    asked: Told<'a>,
+) -> Result<HeldBySources, RunFault<'a>> {
+    let held = hold_sources(rt, inputs.telling.screen, inputs.scan, inputs.sources)?;
+    match asked {
+        Told::Answer(Ask::Show { .. }) => Ok(held),
+        _ => settled(rt.alloc(), held, inputs.sources),
     }
 }
 

@@ -8,10 +8,10 @@ use mxf_clocks::Clocks;
 use mxf_hints::{Exit, FoundUnits, RunFault, UnitSpan, found_units, tell_unsettled};
 use mxf_klv::OutOfMemory;
 use mxf_partial::{ManyUnits, UnitPlan};
-use mxf_places::Holdings;
+use mxf_places::{AtHand, Holdings};
 use mxf_sources::HeldBySources;
 use mxf_tracks::preferred_tracks;
-use mxf_units::Units;
+use mxf_units::{UnitRange, Units};
 use mxf_views::Views;
 use std::alloc::Global;
 
@@ -30,6 +30,30 @@ pub fn clocks_told(
     Ok(Some(Clocks::of(alloc, views, &tracks)?))
 }
 
+/// Edit units one after another of what is known, with its clocks.
+#[derive(Drop)]
+pub struct UnitsInRange<'n> {
+    pub units: Units<'n>,
+    pub range: UnitRange,
+    pub clocks: Option<Clocks>,
+}
+
+/// The edit units that are asked for of what is known, if each is told by itself.
+pub fn units_in_range<'n, 'a>(
+    rt: &HostRuntime,
+    views: &'n Views,
+    at_hand: &'n AtHand,
+    asked: IndexedUnits<'a>,
+) -> Result<UnitsInRange<'n>, RunFault<'a>> {
+    let clocks = clocks_told(rt.alloc(), views, asked.with_timecodes)?;
+    let FoundUnits { units, span } = found_units(rt, views, at_hand, &clocks, asked)?;
+    Ok(UnitsInRange {
+        units,
+        range: span.range()?,
+        clocks,
+    })
+}
+
 /// Prints where the edit units lie that are asked for.
 pub fn print_units<'a>(
     rt: &HostRuntime,
@@ -37,13 +61,11 @@ pub fn print_units<'a>(
     asked: IndexedUnits<'a>,
     held: &HeldBySources,
 ) -> Result<Exit, RunFault<'a>> {
-    let views = &held.gathered.views;
-    let clocks = clocks_told(rt.alloc(), views, asked.with_timecodes)?;
-    let FoundUnits { units, span } = found_units(rt, views, &held.at_hand, &clocks, asked)?;
+    let found = units_in_range(rt, &held.gathered.views, &held.at_hand, asked)?;
     let printed = Printed::Units {
-        units: &units,
-        range: span.range()?,
-        clocks: &clocks,
+        units: &found.units,
+        range: found.range,
+        clocks: &found.clocks,
     };
     print_answer(rt, printed, inputs.form)
 }
@@ -58,18 +80,39 @@ pub fn print_unit_plan<'a>(
 ) -> Result<Exit, RunFault<'a>> {
     let views = &held.gathered.views;
     let clocks = clocks_told(rt.alloc(), views, asked.with_timecodes)?;
-    let FoundUnits { units, span } = match found_units(rt, views, &held.at_hand, &clocks, asked) {
-        Ok(found) => found,
-        Err(fault) if waits_for_metadata(views, &fault) => {
-            return print_metadata_plan(rt, inputs, held, fault);
-        }
-        Err(fault) => return Err(fault),
-    };
-    let exit = print_plan_for(rt, inputs, asked, &units, span)?;
+    match found_units(rt, views, &held.at_hand, &clocks, asked) {
+        Ok(found) => print_plan_of(rt, inputs, asked, views, &found),
+        Err(fault) => print_plan_without(rt, inputs, held, fault),
+    }
+}
+
+/// Prints what to restore for the edit units that were found, and tells of what is disputed if there is something.
+fn print_plan_of<'a>(
+    rt: &HostRuntime,
+    inputs: Inputs<'_, 'a>,
+    asked: IndexedUnits<'a>,
+    views: &Views,
+    found: &FoundUnits<'_>,
+) -> Result<Exit, RunFault<'a>> {
+    let exit = print_plan_for(rt, inputs, asked, &found.units, found.span)?;
     if let Exit::Found = exit {
         told_unsettled(rt, inputs, views)?;
     }
     Ok(exit)
+}
+
+/// Prints what to restore of header metadata, if no edit unit was found and they may tell of one.
+fn print_plan_without<'a>(
+    rt: &HostRuntime,
+    inputs: Inputs<'_, 'a>,
+    held: &HeldBySources,
+    fault: RunFault<'a>,
+) -> Result<Exit, RunFault<'a>> {
+    if waits_for_metadata(&held.gathered.views, &fault) {
+        print_metadata_plan(rt, inputs, held, fault)
+    } else {
+        Err(fault)
+    }
 }
 
 /// Prints what to restore for the edit units from a first one up to a last one. By a timecode they may be more than are

@@ -2,13 +2,10 @@
 ghost use Rattle.std.specs.Prelude.{◌≡◌, IfOk};
 ghost use Rattle.mxf_tool.specs.Verifying.{AreToldOf, open_of};
 
-use super::edit_units::clocks_told;
+use super::edit_units::{UnitsInRange, units_in_range};
 use super::{Inputs, Printed, print_answer, told};
-use mxf_asked::Verifying;
-use mxf_clocks::Clocks;
-use mxf_hints::{
-    Exit, FoundUnits, RunFault, found_units, tell_foreign, tell_offsets, tell_on_screen,
-};
+use mxf_asked::{IndexedUnits, Verifying};
+use mxf_hints::{Exit, RunFault, tell_foreign, tell_offsets, tell_on_screen};
 use mxf_klv::OutOfMemory;
 use mxf_lines::{Verified, timecodes_shown};
 use mxf_places::AtHand;
@@ -48,22 +45,42 @@ fn verify_by<'a, F: Read + Drop>(
     opened: Opened<'_, 'a, F>,
     last: &LastFault,
 ) -> Result<Exit, RunFault<'a>> {
-    let views = &gathered.views;
     let at_hand = AtHand::nothing(rt.alloc());
-    let Some(units) = asked.units else {
-        let verification = verify_opened(rt.alloc(), views.catalogue(), opened, last)?;
-        let told = ToldUnits {
+    let wanted = wanted_units(rt, &gathered.views, &at_hand, asked.units)?;
+    let verification = verify_opened(rt.alloc(), gathered.views.catalogue(), opened, last)?;
+    print_with_units(rt, inputs, asked.is_whole, gathered, &verification, &wanted)
+}
+
+/// The edit units of the reference that are asked for, if some are.
+fn wanted_units<'n, 'a>(
+    rt: &HostRuntime,
+    views: &'n Views,
+    at_hand: &'n AtHand,
+    asked: Option<IndexedUnits<'a>>,
+) -> Result<Option<UnitsInRange<'n>>, RunFault<'a>> {
+    match asked {
+        Some(asked) => Ok(Some(units_in_range(rt, views, at_hand, asked)?)),
+        None => Ok(None),
+    }
+}
+
+/// Prints what was verified of the reference, and how the edit units stand that are asked for.
+fn print_with_units<'a>(
+    rt: &HostRuntime,
+    inputs: Inputs<'_, 'a>,
+    is_whole: bool,
+    gathered: &Gathered,
+    verification: &Verification<'_>,
+    wanted: &Option<UnitsInRange<'_>>,
+) -> Result<Exit, RunFault<'a>> {
+    let told = match wanted {
+        Some(wanted) => told_units(rt.alloc(), verification, wanted)?,
+        None => ToldUnits {
             units: None,
             shown: None,
-        };
-        return print_by(rt, inputs, asked.is_whole, gathered, &verification, &told);
+        },
     };
-    let clocks = clocks_told(rt.alloc(), views, units.with_timecodes)?;
-    let FoundUnits { units, span } = found_units(rt, views, &at_hand, &clocks, units)?;
-    let range = span.range()?;
-    let verification = verify_opened(rt.alloc(), views.catalogue(), opened, last)?;
-    let told = told_units(rt.alloc(), &verification, &units, range, &clocks)?;
-    print_by(rt, inputs, asked.is_whole, gathered, &verification, &told)
+    print_by(rt, inputs, is_whole, gathered, verification, &told)
 }
 
 /// What is told of edit units of the reference, if some are asked for: how they stand, and which timecodes they show.
@@ -77,12 +94,10 @@ struct ToldUnits<'c> {
 fn told_units<'c>(
     alloc: Global,
     verification: &Verification<'_>,
-    units: &Units<'_>,
-    range: UnitRange,
-    clocks: &'c Option<Clocks>,
+    wanted: &'c UnitsInRange<'_>,
 ) -> Result<ToldUnits<'c>, OutOfMemory> {
-    let shown = timecodes_shown(alloc, units, range, clocks)?;
-    let units = Some(units_beside(alloc, verification, units, range)?);
+    let shown = timecodes_shown(alloc, &wanted.units, wanted.range, &wanted.clocks)?;
+    let units = Some(units_beside(alloc, verification, &wanted.units, wanted.range)?);
     Ok(ToldUnits { units, shown })
 }
 
