@@ -1,16 +1,15 @@
 #!/usr/bin/env python3
-"""Looks up each link of the documents: the file is there, and has the heading that the link names. Looks up each test
-and case that is named: `crate::module::test`, `cases/TOPIC: NAME` or `end_to_end.d/TOPIC: NAME`; and `crate: NAME`, the
-heading `# NAME` of rows in the `stdin` and `stdout` of a program. If a link is to a source and names a function or a
-type, that is there, and the function has the clauses that stand in parentheses after the link. Sees that each line of a
-block that names a file of crates/ stands in it. Sees that each row of a table stands in a table, which an empty line
-would end, and that the numbers of tests, edits, runs and files that a document gives are those of the scripts and
-crates. Sees that each row of docs/PROMISES.md names a clause or what tries it, and that its list has each public call
-that can be out of memory. Looks up in docs/MODEL.md each definition that a clause of a public function of the libraries
-cites, and compares the table of docs/LAYERS.md with crates.txt. Compares each page of docs/api with what tests/api_pages.py makes of the sources, and what docs/FORMATS.md owns (exit
-statuses, stops, forms of a source, findings, words of lines) with what README.md, docs/GUIDE.md, the man page and the
-sources say of it. Looks up the names of code of docs/MODEL.md and docs/DECISIONS.md in the sources. Only failures are
-printed; the last line is 'N passed, M failed'.
+"""Looks up each link of the documents: the file is there, and has the heading that the link names. If a link is to a
+source and names a function or a type, or if one is named with its crate and modules (`crate::module::call`), that is
+there, and the function has the clauses that stand in parentheses after it. Sees that each line of a block that names a
+file of crates/ stands in it. Sees that each row of a table stands in a table, which an empty line would end, and that
+the numbers of tests, edits, runs and files that a document gives are those of the scripts and crates. Sees that each row
+of docs/PROMISES.md names a clause or what tries it, and that its list has each public call that can be out of memory.
+Looks up in docs/MODEL.md each definition that a clause of a public function of the libraries cites, and compares the
+table of docs/LAYERS.md with crates.txt. Compares each page of docs/api with what tests/api_pages.py makes of the
+sources, and what docs/FORMATS.md owns (exit statuses, stops, forms of a source, findings, words of lines) with what
+README.md, docs/GUIDE.md, the man page and the sources say of it. Looks up the names of code of docs/MODEL.md and
+docs/DECISIONS.md in the sources. Only failures are printed; the last line is 'N passed, M failed'.
 """
 import ast
 import collections
@@ -37,7 +36,6 @@ IMPORT = re.compile(r"^ghost use Rattle\.(mxf_\w+)\.specs\.(\w+)\.\{([^}]*)\};",
 # Modules of small files alone, of which docs/MODEL.md names the file.
 EXAMPLES = re.compile(r"Worked\w+|RefusedFiles")
 QUOTED = re.compile(r"```\w+ (crates/\S+)")
-NAMED = re.compile(r"`(mxf_\w+(?:::\w+)+|(?:mxf_\w+|(?:cases|end_to_end\.d)/\w+): [^`]+)`")
 
 
 def lines_of(document):
@@ -108,29 +106,10 @@ def verdicts_of_contracts(document):
             yield number, name, fault_of_contract(text, name.split("::")[-1], re.findall(r"\w+", clauses))
         for name, clauses in PLACED.findall(line):
             source, own = place_of(name)
-            if own:
-                yield number, name, fault_of_contract(text_of(source), own[-1], re.findall(r"\w+", clauses))
-
-
-def is_there(name):
-    """Whether a test, a module of tests, a case or a heading of rows stands where the name says."""
-    topic, _, case = name.partition(": ")
-    if topic.startswith("cases/"):
-        return re.search(rf"^case {re.escape(case)}(\s+#.*)?$", text_of(TOP / "tests" / f"{topic}.txt"), re.MULTILINE) is not None
-    if topic.startswith("end_to_end.d/"):
-        return case in text_of(TOP / "tests" / topic)
-    if case:
-        tables = (text_of(TOP / "crates" / topic / file) for file in ("stdin", "stdout"))
-        return all(f"# {case}" in table.splitlines() for table in tables)
-    source, own = place_of(name)
-    return source.exists() and (not own or fault_of_contract(text_of(source), own[-1], []) is None)
-
-
-def verdicts_of_names(document):
-    """For each test or case that is named: its line, its name, and that it isn't there, or None."""
-    for number, line in enumerate(lines_of(document), 1):
-        for name in NAMED.findall(line):
-            yield number, name, None if is_there(name) else "no such test or case"
+            is_module = not own and source.exists()
+            yield number, name, None if is_module else fault_of_contract(
+                text_of(source), own[-1] if own else "", re.findall(r"\w+", clauses)
+            )
 
 
 def verdicts_of_tables(document):
@@ -634,7 +613,7 @@ def fault_of_fact(file, owned, there):
 
 VERDICTS = (
     verdicts_of_promises, verdicts_of_memory,
-    verdicts_of_links, verdicts_of_contracts, verdicts_of_names, verdicts_of_tables, verdicts_of_quotes,
+    verdicts_of_links, verdicts_of_contracts, verdicts_of_tables, verdicts_of_quotes,
     verdicts_of_definitions, verdicts_of_layers, verdicts_of_numbers, verdicts_of_api, verdicts_of_code,
     verdicts_of_facts, verdicts_of_declarations,
 )  # fmt: skip
