@@ -414,7 +414,7 @@ def files_of(crate):
     folder = TOP / "crates" / crate / "src"
     for file in sorted(folder.rglob("*.rt"), key=lambda file: file.with_suffix("").parts):
         path = file.relative_to(folder).as_posix()
-        yield f"| [{path}](../../crates/{crate}/src/{path}) | {linked(comment_of(file), crate)} |"
+        yield f"| {path} | {linked(comment_of(file), crate)} |"
 
 
 def files():
@@ -422,7 +422,8 @@ def files():
     rows = (TOP / "crates.txt").read_text(encoding="utf-8").splitlines()
     parts = [FILES]
     for crate in (row.split(":")[0].strip() for row in rows if ":" in row):
-        parts += [f"## {crate}", "\n".join(("| File | Has |", "|---|---|", *files_of(crate)))]
+        head = f"| In [src](../../crates/{crate}/src) | Has |"
+        parts += [f"## {crate}", "\n".join((head, "|---|---|", *files_of(crate)))]
     return "\n\n".join(parts) + "\n"
 
 
