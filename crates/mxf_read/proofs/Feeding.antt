@@ -16,7 +16,7 @@ use Rattle.mxf_read.proofs.Pieces.{apart_packets}
 use Rattle.mxf_read.proofs.Scans.{noted_end, noted_none, with_last_by}
 use Rattle.mxf_read.specs.ValueSoFar.{is_passing, noted_if, passes}
 use Rattle.mxf_read.specs.Coming.{HasCome, HasTaken, IsSamePacket}
-use Rattle.mxf_read.specs.Feeding.{Fails, Fed, Feeds, IsFed, IsNext, Knows, passing_left}
+use Rattle.mxf_read.specs.Feeding.{Fails, Fed, Feeds, IsFed, IsNext, Knows, NotesOne, passing_left}
 use Rattle.mxf_read.specs.declared.coming.ComingValue.{ComingValue}
 use Rattle.mxf_read.specs.declared.piece.Piece.{Piece}
 
@@ -82,29 +82,19 @@ waits scan o m x p q v k come some by notes at stop value head =
     let s = stops p.at r (Truncated p.at) cut in
     fed_more scan o m x p q k by notes at s.0 (next_value scan p.at q.stop q.value q.head.items r v stop value head come some)
 
--- or whole: it is noted
-pub noted : (scan : Scan) (o : ℕ) (m x : List ℕ) (p q : Piece) (v : ComingValue) (n : NoteParts) → Knows scan o m p
-    → HasCome scan p.at v (rest_in o m ++ x)
-    → v.left ≡ 0 → ((y : List ℕ) → HasTaken v y
-    → n ≡ noted_if (is_passing v.so_far) (note_of v.offset (packet_parts v.key v.ber.width y)))
+-- or it is whole: it is noted
+pub noted_packet : (scan : Scan) (o : ℕ) (m x : List ℕ) (p q : Piece) (pk : PacketParts) (n : NoteParts) → Knows scan o m p
+    → packet_at p.at (rest_in o m ++ x) ≡ Some pk → size_of pk ≡ length (rest_in o m ++ x)
+    → n ≡ noted_if (passes scan pk.key (length pk.value)) (note_of p.at pk)
     → q.scan ≡ p.scan → q.notes ≡ reduced_with n p.notes → q.at ≡ end_of n → q.stop ≡ None → q.value ≡ None → q.head.items ≡ []
     → Fed scan o (m ++ x) q
-noted scan o m x p q v n k come none_left note by notes at stop value head =
+noted_packet scan o m x p q pk n k stands size note by notes at stop value head =
     let r = rest_in o m ++ x in
     let here = end_after o (packets_in o m) in
-    let pk = packet_parts v.key v.ber.width come.after in
-    let within = v.within in
-    let offset = come.offset in
-    let counted = come.taken.counted in
-    let whole = whole_value p.at r v.key v.ber come.after come.begins (omega arith) (omega arith) in
-    let one = one_more o m x pk (subst (λ (j : ℕ). packet_at j r ≡ Some pk) k.at whole.stands) whole.size in
+    let one = one_more o m x pk (subst (λ (j : ℕ). packet_at j r ≡ Some pk) k.at stands) size in
     let whole_note = note_of here pk in
-    let spelled : v.ber.value ≡ length come.after = omega (arith, counted, none_left) in
-    let passing : is_passing v.so_far ≡ passes scan whole_note.key whole_note.length =
-    come.passing ∙ ap (passes scan v.key) spelled in
     let is : n ≡ noted_if (passes scan whole_note.key whole_note.length) whole_note =
-    note come.after come.taken ∙ ap (λ (b : Bool). noted_if b (note_of v.offset pk)) passing
-    ∙ ap (λ (j : ℕ). noted_if (passes scan pk.key (length pk.value)) (note_of j pk)) (come.offset ∙ k.at) in
+    note ∙ ap (λ (j : ℕ). noted_if (passes scan pk.key (length pk.value)) (note_of j pk)) k.at in
     let apart : AreApart o (notes_from o (packets_in o m) ++ whole_note ∷ []) =
     subst (AreApart o) one.notes (apart_packets o (packets_in o (m ++ x))) in
     let ends : q.at ≡ end_after o (packets_in o (m ++ x)) =
@@ -121,6 +111,29 @@ noted scan o m x p q v n k come none_left note by notes at stop value head =
       };
       next = grind (arith, next_head, no_head_short, open_at_end);
     }
+
+-- its value has come whole
+pub noted : (scan : Scan) (o : ℕ) (m x : List ℕ) (p q : Piece) (v : ComingValue) (n : NoteParts) → Knows scan o m p
+    → HasCome scan p.at v (rest_in o m ++ x)
+    → v.left ≡ 0 → ((y : List ℕ) → HasTaken v y
+    → n ≡ noted_if (is_passing v.so_far) (note_of v.offset (packet_parts v.key v.ber.width y)))
+    → NotesOne p q n → p.stop ≡ None → p.value ≡ None → p.head.items ≡ []
+    → Fed scan o (m ++ x) q
+noted scan o m x p q v n k come none_left note one stop value head =
+    let r = rest_in o m ++ x in
+    let pk = packet_parts v.key v.ber.width come.after in
+    let within = v.within in
+    let offset = come.offset in
+    let counted = come.taken.counted in
+    let whole = whole_value p.at r v.key v.ber come.after come.begins (omega arith) (omega arith) in
+    let spelled : v.ber.value ≡ length come.after = omega (arith, counted, none_left) in
+    let passing : is_passing v.so_far ≡ passes scan pk.key (length pk.value) =
+    come.passing ∙ ap (passes scan v.key) spelled in
+    let is : n ≡ noted_if (passes scan pk.key (length pk.value)) (note_of p.at pk) =
+    note come.after come.taken ∙ ap (λ (b : Bool). noted_if b (note_of v.offset pk)) passing
+    ∙ ap (λ (j : ℕ). noted_if (passes scan pk.key (length pk.value)) (note_of j pk)) come.offset in
+    noted_packet scan o m x p q pk n k whole.stands whole.size is one.scan one.notes one.at (one.stop ∙ stop)
+    (one.value ∙ value) (one.head ∙ head)
 
 -- ---- bytes of a head
 

@@ -2,6 +2,7 @@ pub mod GoingOn
 pub mod Pieces
 pub mod Taking
 pub mod Feeding
+pub mod WholePackets
 pub mod Scans
 pub mod Reports
 pub mod LevelLaws

@@ -105,18 +105,18 @@ of_range (Some all) (Some rest) offset start window begun f P h =
       ap (start_in offset) (same_window all window f.searched) ∙ f.start_is,
     )
 
-pub range_scanned : (old new : Option (List ℕ)) (offset start size : ℕ) (window begun : List ℕ)
+pub range_scanned : (scan : Scan) (old new : Option (List ℕ)) (offset start size : ℕ) (window begun : List ℕ)
     (notes : List NoteParts) → Begun old new offset start window begun → size ≡ length window
-    → IfSome new (λ rest. notes ≡ reduced_union [] (noted_by Skim (notes_in (offset + start)
+    → IfSome new (λ rest. notes ≡ reduced_union [] (noted_by scan (notes_in (offset + start)
     (begun ++ take (piece_limit - size) rest))))
-    → IfSome old (λ all. notes ≡ reduced_union [] (noted_by Skim (range_notes offset (take piece_limit all))))
-range_scanned old new offset start size window begun notes f is h =
+    → IfSome old (λ all. notes ≡ reduced_union [] (noted_by scan (range_notes offset (take piece_limit all))))
+range_scanned scan old new offset start size window begun notes f is h =
     IfSome_then old (of_range old new offset start window begun f
-    (λ t. notes ≡ reduced_union [] (noted_by Skim (notes_in (offset + start) t)))
-    (subst (λ (n : ℕ). IfSome new (λ rest. notes ≡ reduced_union [] (noted_by Skim (notes_in (offset + start)
+    (λ t. notes ≡ reduced_union [] (noted_by scan (notes_in (offset + start) t)))
+    (subst (λ (n : ℕ). IfSome new (λ rest. notes ≡ reduced_union [] (noted_by scan (notes_in (offset + start)
     (begun ++ take (piece_limit - n) rest))))) is h)) (λ all k.
     let bytes = take piece_limit all in
-    k.0 ∙ ap (λ (l : List NoteParts). reduced_union [] (noted_by Skim l)) (sym (ap (λ (o : Option ℕ).
+    k.0 ∙ ap (λ (l : List NoteParts). reduced_union [] (noted_by scan l)) (sym (ap (λ (o : Option ℕ).
     notes_in (option_map_or (λ p. offset + p) o offset) (option_map_or (λ p. drop p bytes) o [])) k.1)))
 
 abbrev reported : ℕ → ℕ → Report → PieceReport

@@ -6,6 +6,8 @@ use Rattle.mxf_klv.specs.KeyAndLength.{HasNoKeyAndLength}
 use Rattle.mxf_klv.specs.Piece.{end_after, notes_from}
 use Rattle.mxf_klv.specs.PieceReading.{IsOpen, heads_at, packet_at, packets_in, rest_in, stop_of}
 use Rattle.mxf_klv.specs.declared.piece.Stop.{Stop}
+use Rattle.mxf_klv.specs.Note.{end_of}
+use Rattle.mxf_catalogue.specs.Content.{reduced_with}
 use Rattle.mxf_read.specs.Coming.{HasCome}
 use Rattle.mxf_read.specs.ValueSoFar.{is_passing}
 use Rattle.mxf_read.specs.declared.coming.ComingValue.{ComingValue}
@@ -25,6 +27,15 @@ pub record NotesNone (old new : Piece) : Type 0 where
   pub scan : new.scan ≡ old.scan
   pub notes : new.notes ≡ old.notes
   pub at : new.at ≡ old.at
+
+-- The note of the next packet was added, which no byte had come of, and the piece goes on behind it.
+pub record NotesOne (old new : Piece) (n : NoteParts) : Type 0 where
+  pub scan : new.scan ≡ old.scan
+  pub notes : new.notes ≡ reduced_with n old.notes
+  pub at : new.at ≡ end_of n
+  pub stop : new.stop ≡ old.stop
+  pub value : new.value ≡ old.value
+  pub head : new.head.items ≡ old.head.items
 
 -- What has come of the next packet stops the piece; or it isn't a whole key and length, and is held; or it is those and
 -- a front of the value.
@@ -62,6 +73,11 @@ pub record HasTaken (old new : Piece) (bytes : List ℕ) (n : ℕ) : Type 0 wher
 abbrev pub TakesFront : {E : Type 0} → Piece → Piece → List ℕ → Result ℕ E → Type 0
 TakesFront old new bytes (Ok n) = HasTaken old new bytes n
 TakesFront old new bytes (Err e) = NotesNone old new
+
+-- Some bytes were taken from the front of these, `n` in all; or memory ran out among them.
+abbrev pub TakesSome : {E : Type 0} → Piece → Piece → List ℕ → Result ℕ E → Type 0
+TakesSome old new bytes (Ok n) = HasTaken old new bytes n
+TakesSome old new bytes (Err e) = Fails old new bytes
 
 -- The value that has begun, if there is one, has more than `left` bytes to come.
 abbrev pub waits_for_more : Option ComingValue → ℕ → Bool

@@ -1,6 +1,7 @@
 pub mod ValueSoFar
 pub mod Coming
 pub mod Feeding
+pub mod WholePackets
 pub mod Reads
 pub mod Skimming
 pub mod Absorbs

@@ -5,8 +5,8 @@ use Rattle.mxf_read.specs.Feeding.{Feeds}
 use Rattle.mxf_read.specs.Reads.{Takes}
 use Rattle.mxf_read.specs.declared.piece.Piece.{Piece}
 use Rattle.mxf_read.specs.declared.reading.Cause.{Cause}
-use Rattle.mxf_read.specs.declared.skimming.StepFault.{StepFault}
-use Rattle.mxf_read.specs.declared.skimming.StepFault.TheVariants as faults
+use Rattle.mxf_read.specs.declared.reading.StepFault.{StepFault}
+use Rattle.mxf_read.specs.declared.reading.StepFault.TheVariants as faults
 
 -- So many of the bytes that a reader has left are gone: none only at the end.
 pub record Passed (old new : Option (List ℕ)) (count n : ℕ) : Type 0 where
@@ -29,7 +29,7 @@ pub record Skimmed (old new : Option (List ℕ)) (p q : Piece) (left n : ℕ) : 
   pub fed : Feeds p q bytes
   pub ended : n ≡ 0 → IsAtEnd new
 
--- One step of a skim: bytes were taken, or nothing was; or memory ran out among those that were.
+-- One step of a skim, or of a reading: bytes were taken, or nothing was; or memory ran out among those that were.
 abbrev pub SkimsOnce : Option (List ℕ) → Option (List ℕ) → Piece → Piece → ℕ → Result ℕ StepFault → Type 0
 SkimsOnce old new p q left (Ok n) = Skimmed old new p q left n
 SkimsOnce old new p q left (Err faults.OutOfMemory) = (taken : List ℕ) × Takes old new left taken

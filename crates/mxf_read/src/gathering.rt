@@ -1,11 +1,14 @@
 //! Gathering the parts of a run: pieces, ranges and saved catalogues.
-ghost use Rattle.std.specs.Prelude.{◌≡◌, ◌+◌, ◌<◌, ◌≤◌, ℕ, List, [], length, take, IfOk, IfErr, IfSome, OnOk};
+ghost use Rattle.std.specs.Prelude.{◌≡◌, ◌+◌, ◌<◌, ◌≤◌, ◌++◌, ℕ, List, [], length, take, IfOk, IfErr, IfSome};
+ghost use Rattle.std.specs.Prelude.{OnOk};
 ghost use Rattle.mxf_klv.specs.Parts.{NoteParts};
 ghost use Rattle.mxf_klv.specs.PieceReading.{notes_in};
 ghost use Rattle.mxf_catalogue.specs.Content.{reduced_union};
 ghost use Rattle.mxf_catalogue.specs.CatalogueFile.{IsRefused};
 ghost use Rattle.mxf_views.specs.Headline.{IsTheRun};
 ghost use Rattle.mxf_read.specs.Absorbs.{report_of};
+ghost use Rattle.mxf_read.specs.Feeding.{Fed};
+ghost use Rattle.mxf_skim.specs.declared.scan.Scan.TheVariants.{Full};
 ghost use Rattle.mxf_read.specs.Ranges.{LeavesTheRest, no_start, range_notes, range_report};
 ghost use Rattle.mxf_read.specs.Reads.{Takes};
 ghost use Rattle.std.specs.List.{AllByRecursion};
@@ -20,10 +23,11 @@ mod reading;
 mod report;
 mod skimming;
 
-use crate::absorbing::{PieceNotes, notes_from};
+use crate::absorbing::finish;
+use crate::piece::Piece;
 use crate::range::start_of;
+use crate::reading::read_through;
 use crate::report::Report;
-use crate::ticks::ReadTicks;
 pub use fault::{GatherFault, PartFault};
 use levels::Levels;
 use mxf_catalogue::{Catalogue, FileFault};
@@ -52,12 +56,37 @@ pub struct Gathered {
     pub reports: PieceReports,
 }
 
-/// The notes of the piece that a reader gives, and what is reported of it. No more than `limit` bytes are read.
+/// The notes of a piece of which a reader gives the bytes to come, and what is reported of it. No more than `limit`
+/// bytes are read, through the window.
+fn read_on<R: Read>(
+    piece: Piece,
+    from: &mut R,
+    limit: u64,
+    window: &mut Vec<u8>,
+) -> Result<(Catalogue, Report), PartFault>
+    requires { (o : ℕ) × (m : List ℕ) × Fed Full o m piece }
+    ensures report { (o : ℕ) (m : List ℕ) → Fed Full o m piece
+        → IfOk result (λ p. IfSome (R.remaining from.old) (λ all. p.1 ≡ report_of o (m ++ take limit all))) }
+    ensures notes { (o : ℕ) (m : List ℕ) → Fed Full o m piece
+        → IfOk result (λ p. IfSome (R.remaining from.old) (λ all.
+        p.0 ≡ reduced_union [] (notes_in o (m ++ take limit all)))) }
+    ensures left { (taken : List ℕ) × Takes (R.remaining from.old) (R.remaining from.new) limit taken }
+    ensures fault { IfErr result IsOfAnyPart }
+{
+    let mut piece = piece;
+    read_through(&mut piece, from, limit, window)?;
+    let report = finish(&mut piece)?;
+    Ok((piece.into_notes(), report))
+}
+
+/// The notes of the piece that a reader gives, and what is reported of it. No more than `limit` bytes are read, through
+/// the window, which keeps its room for the next piece.
 fn read_piece<R: Read>(
     alloc: Global,
     offset: u64,
     from: &mut R,
     limit: u64,
+    window: &mut Vec<u8>,
 ) -> Result<(Catalogue, Report), PartFault>
     ensures report { IfOk result (λ p. IfSome (R.remaining from.old) (λ all.
         p.1 ≡ report_of offset (take limit all))) }
@@ -66,13 +95,12 @@ fn read_piece<R: Read>(
     ensures left { (taken : List ℕ) × Takes (R.remaining from.old) (R.remaining from.new) limit taken }
     ensures fault { IfErr result IsOfAnyPart }
 {
-    let mut ticks = ReadTicks::new();
-    let PieceNotes { notes, outcome } = notes_from(alloc, offset, from, limit, &mut ticks);
-    Ok((notes, outcome?))
+    read_on(Piece::new(alloc, offset), from, limit, window)
 }
 
 /// The notes of the piece of a range that a reader gives, and what is reported of it as the part with a number. After a
-/// window without a start nothing is read. The window's bytes fill the buffer, which keeps its room for the next range.
+/// window without a start nothing is read. What is read of the piece behind the window comes through it, and it keeps
+/// its room for the next part.
 fn read_range<R: Read>(
     alloc: Global,
     part: usize,
@@ -100,10 +128,10 @@ fn read_range<R: Read>(
         ));
     };
     let offset = offset + start as u64;
-    let begun: &[u8] = &window[start..];
-    let mut piece = begun.chain(from);
-    let limit = GREATEST_PIECE - start as u64;
-    let (notes, report) = read_piece(alloc, offset, &mut piece, limit)?;
+    let mut piece = Piece::new(alloc, offset);
+    piece.feed(&window[start..])?;
+    let limit = GREATEST_PIECE - window.len() as u64;
+    let (notes, report) = read_on(piece, from, limit, window)?;
     Ok((
         notes,
         PieceReport {
@@ -152,7 +180,7 @@ fn read_saved<R: Read>(alloc: Global, from: &mut R) -> Result<Catalogue, PartFau
     }
 }
 
-/// Takes the part with a number: its notes, and the report of a piece or range. The window of a range fills the buffer.
+/// Takes the part with a number: its notes, and the report of a piece or range, which is read through the window.
 fn take_part<R: Read + Drop>(
     alloc: Global,
     levels: &mut Levels,
@@ -168,7 +196,7 @@ fn take_part<R: Read + Drop>(
 {
     match part {
         Part::Piece { offset, from } => {
-            let (notes, report) = read_piece(alloc, *offset, from, GREATEST_PIECE)?;
+            let (notes, report) = read_piece(alloc, *offset, from, GREATEST_PIECE, window)?;
             levels.add(notes)?;
             reports.push(PieceReport {
                 part: number,
@@ -192,7 +220,7 @@ fn take_part<R: Read + Drop>(
 /// What all parts hold together. Of each piece or range 1,099,511,627,776 bytes are read at most; the file of a
 /// catalogue has 1,073,741,824 bytes at most. A range's start is searched for in its first 33,554,432 bytes, which are
 /// held in memory that is kept from range to range. If there is none, the range hands nothing, and nothing more of it
-/// is read.
+/// is read. A piece is read through 65,536 bytes of memory, which grow up to 16,777,216 while reads fill them.
 ///
 /// Whatever the order, the repeats and the joins of the parts, the notes are exactly those that the parts hand: any
 /// calls that were handed the same notes hold the same and write the same bytes. Each view is its function of the

@@ -50,6 +50,7 @@
 
 mod absorbing;
 mod coming;
+mod digesting;
 mod gathering;
 pub mod laws;
 mod pass_over;

@@ -8,6 +8,7 @@ ghost use Rattle.mxf_skim.specs.declared.scan.Scan.{Scan};
 ghost use Rattle.mxf_skim.specs.declared.scan.Scan.TheVariants.{Full};
 
 use crate::coming::ComingValue;
+use crate::digesting::{DigestedPacket, FEWEST, digests_of, packets_at_front};
 use crate::report::Report;
 use mxf_catalogue::Catalogue;
 use mxf_klv::{KEY_AND_LENGTH, Note, OutOfMemory, Stop, next_key_and_length};
@@ -37,8 +38,9 @@ pub struct Piece {
 
 impl Piece {
     ghost use Rattle.mxf_read.specs.Coming.{HasCome};
-    ghost use Rattle.mxf_read.specs.Feeding.{Fails, Fed, Feeds, IsFed, Knows, NotesNone, TakesFront, Tells};
-    ghost use Rattle.mxf_read.specs.Feeding.{begun_heads, option_list, passing_left, waits_for_more};
+    ghost use Rattle.mxf_read.specs.Feeding.{Fails, Fed, Feeds, IsFed, Knows, NotesNone, NotesOne, TakesFront, TakesSome};
+    ghost use Rattle.mxf_read.specs.Feeding.{Tells, begun_heads, option_list, passing_left, waits_for_more};
+    ghost use Rattle.mxf_read.specs.WholePackets.{StandAtFront};
     ghost use Rattle.mxf_read.specs.Absorbs.{report_of};
 
     /// No byte of the piece at a file offset, all values of which are read.
@@ -194,11 +196,60 @@ impl Piece {
     {
         let mut rest = bytes;
         'bytes: while !rest.is_empty() && self.stop.is_none() {
-            let used = self.take(rest)?;
+            let used = self.take_some(rest)?;
             let (_, after) = rest.split_at(used);
             rest = after;
         }
         Ok(())
+    }
+
+    /// Takes bytes of the next packet, or whole packets whose values are digested at once, and says how many bytes.
+    fn take_some(&mut self, bytes: &[u8]) -> Result<usize, OutOfMemory>
+        requires fed { IsFed self.old }
+        requires goes_on { self.old.stop ≡ None }
+        requires more { 0 < length bytes.now }
+        ensures { TakesSome self.old self.new bytes.now result }
+    {
+        if self.reads_next_packet() {
+            let packets = packets_at_front(self.alloc, self.at, bytes)?;
+            if packets.len() >= FEWEST {
+                return self.take_packets(&packets, bytes);
+            }
+        }
+        self.take(bytes)
+    }
+
+    /// Whether the next byte begins a packet, whose value is read.
+    fn reads_next_packet(&self) -> bool
+        ensures value { IsTrue result → self.now.value ≡ None }
+        ensures head { IsTrue result → self.now.head.items ≡ [] }
+        ensures scan { IsTrue result → self.now.scan ≡ Full }
+    {
+        matches!(self.scan, Scan::Full) && self.value.is_none() && self.head.is_empty()
+    }
+
+    /// Notes packets, which stand at the front of the next bytes, and says how many bytes they have. Their values are
+    /// digested at once.
+    fn take_packets(
+        &mut self,
+        packets: &[DigestedPacket<'_>],
+        _bytes: &[u8],
+    ) -> Result<usize, OutOfMemory>
+        requires goes_on { self.old.stop ≡ None }
+        requires value { self.old.value ≡ None }
+        requires head { self.old.head.items ≡ [] }
+        requires scan { self.old.scan ≡ Full }
+        requires stand { StandAtFront self.old.at _bytes.now packets.now }
+        requires some { 0 < length packets.now }
+        requires few { length packets.now ≤ 64 }
+        ensures { TakesSome self.old self.new _bytes.now result }
+    {
+        let start = self.at;
+        let found = digests_of(packets);
+        for (packet, digest) in packets.iter().zip(found.iter()) {
+            self.add_note(packet.note(self.at, *digest))?;
+        }
+        Ok((self.at - start) as usize)
     }
 
     /// Takes bytes of the next packet, and says how many.
@@ -296,7 +347,14 @@ impl Piece {
             self.value = Some(value);
             return Ok(());
         }
-        let note = value.into_note(self.of_nothing);
+        self.add_note(value.into_note(self.of_nothing))
+    }
+
+    /// Adds the note of the next packet, behind which the piece goes on.
+    fn add_note(&mut self, note: Note) -> Result<(), OutOfMemory>
+        ensures added { OnOk result (NotesOne self.old self.new note) }
+        ensures err { OnErr result (NotesNone self.old self.new) }
+    {
         let end = note.end();
         self.notes.add(note)?;
         self.at = end;

@@ -1,7 +1,10 @@
 //! Reading once, and feeding a piece from a reader.
-ghost use Rattle.std.specs.Prelude.{◌≡◌, ◌+◌, ◌<◌, ◌≤◌, None, length};
+ghost use Rattle.std.specs.Prelude.{◌≡◌, ◌+◌, ◌<◌, ◌≤◌, None, OnErr, OnOk, length};
 ghost use Rattle.mxf_read.specs.Feeding.{IsFed};
 ghost use Rattle.mxf_read.specs.Reads.{ReadsAll, ReadsOnce};
+ghost use Rattle.mxf_read.specs.Skimming.{SkimsAll, SkimsOnce};
+ghost use Rattle.mxf_read.specs.declared.reading.Cause.TheVariants as causes;
+ghost use Rattle.mxf_read.specs.declared.reading.StepFault.TheVariants as faults;
 
 use crate::piece::Piece;
 use crate::ticks::ReadTicks;
@@ -10,6 +13,12 @@ use std::io::{ErrorKind, Read};
 
 /// How often an interrupted read of one source is repeated.
 pub const GREATEST_INTERRUPTIONS: u32 = 1024;
+
+/// How many bytes a window has room for at first.
+const LEAST_ROOM: u64 = 65_536;
+
+/// The greatest number of bytes that a window has room for.
+const GREATEST_ROOM: u64 = 16_777_216;
 
 /// What one read came to.
 #[derive(Clone, Copy, Debug, PartialEq, Eq)]
@@ -29,6 +38,30 @@ pub enum Step {
 pub(crate) enum Cause {
     OutOfMemory,
     ReadFault,
+}
+
+impl From<OutOfMemory> for Cause {
+    ghost from_gives = { λ _ e. e ≡ causes.OutOfMemory };
+
+    fn from(_fault: OutOfMemory) -> Cause {
+        Cause::OutOfMemory
+    }
+}
+
+/// Why one step of a reading or a skim took nothing.
+#[derive(Clone, Copy, Drop)]
+pub(crate) enum StepFault {
+    OutOfMemory,
+    Interrupted,
+    Failed,
+}
+
+impl From<OutOfMemory> for StepFault {
+    ghost from_gives = { λ _ e. e ≡ faults.OutOfMemory };
+
+    fn from(_fault: OutOfMemory) -> StepFault {
+        StepFault::OutOfMemory
+    }
 }
 
 /// Reads once, as many bytes at most as there is room.
@@ -84,4 +117,91 @@ pub(crate) fn read_all<R: Read>(
         }
     }
     Ok(())
+}
+
+/// Reads once, at most `left` bytes, and feeds them.
+pub(crate) fn feed_step<R: Read>(
+    piece: &mut Piece,
+    from: &mut R,
+    left: u64,
+    buffer: &mut [u8],
+) -> Result<u64, StepFault>
+    requires fed { IsFed piece.old }
+    requires left { 0 < left }
+    requires room { 0 < length buffer.old }
+    ensures { SkimsOnce (R.remaining from.old) (R.remaining from.new) piece.old piece.new left result }
+{
+    let room = left.min(buffer.len() as u64) as usize;
+    match read_step(from, &mut buffer[..room]) {
+        Step::Took(count) => {
+            piece.feed(&buffer[..count])?;
+            Ok(count as u64)
+        }
+        Step::Ended => Ok(0),
+        Step::Interrupted => Err(StepFault::Interrupted),
+        Step::Failed => Err(StepFault::Failed),
+    }
+}
+
+/// Feeds the piece with at most `limit` bytes of the reader, until it stops, through a window. Interrupted reads are
+/// repeated, 1,024 times at most.
+///
+/// The first read is of 65,536 bytes at most. After one that fills its room the next has twice as much, up to 16,777,216
+/// bytes, if there is memory: so the values of many packets come at once, and are digested side by side. The window
+/// keeps its room for the next piece.
+pub(crate) fn read_through<R: Read>(
+    piece: &mut Piece,
+    from: &mut R,
+    limit: u64,
+    window: &mut Vec<u8>,
+) -> Result<(), Cause>
+    requires { IsFed piece.old }
+    ensures { SkimsAll (R.remaining from.old) (R.remaining from.new) piece.old piece.new limit result }
+{
+    let mut room = LEAST_ROOM;
+    let mut left = limit;
+    let mut interruptions = 0;
+    widen(window, room)?;
+    'steps: while left > 0 && !piece.has_stopped() {
+        match feed_step(piece, from, left.min(room), window) {
+            Ok(0) => return Ok(()),
+            Ok(count) => {
+                left -= count;
+                if count == room {
+                    room = more_room(window, room);
+                }
+            }
+            Err(StepFault::Interrupted) if interruptions < GREATEST_INTERRUPTIONS => {
+                interruptions += 1;
+            }
+            Err(StepFault::OutOfMemory) => return Err(Cause::OutOfMemory),
+            Err(StepFault::Interrupted | StepFault::Failed) => return Err(Cause::ReadFault),
+        }
+    }
+    Ok(())
+}
+
+/// Makes room in the window for so many bytes.
+fn widen(window: &mut Vec<u8>, room: u64) -> Result<(), OutOfMemory>
+    ensures room { OnOk result (room ≤ length window.new.items) }
+    ensures err { OnErr result (window.new.items ≡ window.old.items) }
+{
+    if (window.len() as u64) < room {
+        window.resize(room as usize, 0)?;
+    }
+    Ok(())
+}
+
+/// Twice the room, up to [`GREATEST_ROOM`]. If there is no memory for it, the same.
+fn more_room(window: &mut Vec<u8>, room: u64) -> u64
+    requires some { 0 < room }
+    requires within { room ≤ length window.old.items }
+    ensures some { 0 < result }
+    ensures within { result ≤ length window.new.items }
+{
+    let more = room.saturating_mul(2).min(GREATEST_ROOM);
+    match widen(window, more) {
+        Ok(()) => more,
+        Err(OutOfMemory) => room,
+    }
 }

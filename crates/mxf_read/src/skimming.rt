@@ -2,32 +2,14 @@
 ghost use Rattle.std.specs.Prelude.{◌≡◌, ◌<◌, ◌≤◌, length};
 ghost use Rattle.mxf_read.specs.Feeding.{IsFed, passing_left};
 ghost use Rattle.mxf_read.specs.Skimming.{SkimsAll, SkimsOnce};
-ghost use Rattle.mxf_read.specs.declared.skimming.StepFault.TheVariants as faults;
 
 use crate::pass_over::PassOver;
 use crate::piece::Piece;
-use crate::reading::{Cause, GREATEST_INTERRUPTIONS, Step, read_step};
-use mxf_klv::OutOfMemory;
+use crate::reading::{Cause, GREATEST_INTERRUPTIONS, StepFault, feed_step};
 use std::io::ErrorKind;
 
 /// How many bytes are read at once. No more than these are read of a value that is passed over.
 const ROOM: usize = 4096;
-
-/// Why one step of a skim took nothing.
-#[derive(Clone, Copy, Drop)]
-pub(crate) enum StepFault {
-    OutOfMemory,
-    Interrupted,
-    Failed,
-}
-
-impl From<OutOfMemory> for StepFault {
-    ghost from_gives = { λ _ e. e ≡ faults.OutOfMemory };
-
-    fn from(_fault: OutOfMemory) -> StepFault {
-        StepFault::OutOfMemory
-    }
-}
 
 /// Skims at most `limit` bytes of the reader, until the piece stops. Interrupted steps are repeated, 1,024 times at
 /// most.
@@ -90,29 +72,5 @@ fn pass_step<R: PassOver>(piece: &mut Piece, from: &mut R, count: u64) -> Result
         }
         Err(fault) if fault.kind() == ErrorKind::Interrupted => Err(StepFault::Interrupted),
         Err(_) => Err(StepFault::Failed),
-    }
-}
-
-/// Reads once, at most `left` bytes, and feeds them.
-fn feed_step<R: PassOver>(
-    piece: &mut Piece,
-    from: &mut R,
-    left: u64,
-    buffer: &mut [u8],
-) -> Result<u64, StepFault>
-    requires fed { IsFed piece.old }
-    requires left { 0 < left }
-    requires room { 0 < length buffer.old }
-    ensures { SkimsOnce (R.remaining from.old) (R.remaining from.new) piece.old piece.new left result }
-{
-    let room = left.min(buffer.len() as u64) as usize;
-    match read_step(from, &mut buffer[..room]) {
-        Step::Took(count) => {
-            piece.feed(&buffer[..count])?;
-            Ok(count as u64)
-        }
-        Step::Ended => Ok(0),
-        Step::Interrupted => Err(StepFault::Interrupted),
-        Step::Failed => Err(StepFault::Failed),
     }
 }

@@ -45,6 +45,6 @@ returns-clause-notes g c =
     c.in_ok-read_up_to.ensures.bytes c.in_ok-read_up_to.ensures.left c.in_ok-read_up_to.ensures.bound
     c.deref.ensures.value (sym c.start_of.ensures.start ∙ c.in-Some.is) c.in-Some.ensures.within.0
     c.deref-2.ensures.value in
-    range_scanned _ _ c.args.offset c.in-Some.start c.len-2.result c.read_up_to.new.bytes.items _
+    range_scanned Skim _ _ c.args.offset c.in-Some.start c.len-2.result c.read_up_to.new.bytes.items _
     c.in_ok-notes.notes begun (c.len-2.ensures ∙ sym c.deref-2.ensures.len ∙ ap length c.deref-2.ensures.value)
     c.in_ok-notes.ensures.notes

@@ -1,7 +1,7 @@
 use Rattle.std.proofs.Common.{arith, length-take, take, subst, ◌∙◌}
 use Rattle.std.proofs.lemmas.List.{take-append-le}
 use Rattle.mxf_read.specs.Feeding.{Feeds}
-use Rattle.mxf_read.proofs.skimming.feed_step.Goals as goal
+use Rattle.mxf_read.proofs.reading.feed_step.Goals as goal
 
 pub returns-in_ok-feed-in-Took : goal.returns-in_ok-feed-in-Took
 returns-in_ok-feed-in-Took g c =
