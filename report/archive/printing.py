@@ -1,20 +1,22 @@
 """Answers as a table for people, as CSV or as JSON. What a form alone needs is loaded for it."""
+from __future__ import annotations
+
 import re
 import sys
-from typing import Any, Iterable, List, Optional, Sequence, Set
+from collections.abc import Iterable, Sequence
 
 # Characters of control, line ends of Unicode, and marks of direction: a terminal may obey them.
 CONTROL = re.compile("[\x00-\x1f\x7f-\x9f\u2028\u2029\u202a-\u202e\u2066-\u2069]")
 
-Cells = Sequence[Any]
+Cells = Sequence  # the values of a row or a column
 
 
-def cell(value: Any) -> str:
+def cell(value: object) -> str:
     """A value in a table: - if there is none."""
     return "-" if value is None else CONTROL.sub("?", str(value))
 
 
-def cells(column: Cells, kinds: Set[type]) -> List[str]:
+def cells(column: Cells, kinds: set[type]) -> list[str]:
     """The values of a column that has values of these kinds alone."""
     texts = column if kinds == {str} else ["-" if value is None else str(value) for value in column]
     return texts if "".join(texts).isprintable() else [CONTROL.sub("?", text) for text in texts]
@@ -43,7 +45,7 @@ def print_json(heads: Sequence[str], rows: Iterable[Cells]) -> None:
     print_lines(dict(zip(heads, row)) for row in rows)
 
 
-def print_lines(lines: Iterable[Any]) -> None:
+def print_lines(lines: Iterable[object]) -> None:
     """Prints JSON objects, each on a line of its own."""
     import json
 
@@ -59,7 +61,7 @@ def print_answer(form: str, heads: Sequence[str], rows: Iterable[Cells]) -> None
     FORMS[form](heads, rows)
 
 
-def print_parts(form: str, parts: List[Any]) -> None:
+def print_parts(form: str, parts: list[object]) -> None:
     """Prints tables one after another: each a name, its heads and its rows. In JSON each object says its table first; in
     CSV a line has the table, the number of the row, a head and a value."""
     if form == "csv":
@@ -75,6 +77,6 @@ def print_parts(form: str, parts: List[Any]) -> None:
             print_table(heads, rows)
 
 
-def number_or_none(value: Any) -> Optional[int]:
+def number_or_none(value: object) -> int | None:
     """A number of the database, which stands as text if it is large."""
     return None if value is None else int(value)
