@@ -174,10 +174,14 @@ def wanted_times(said):
 
 def wanted_words(said, name):
     """The rows of the view `named` by the lines: each word of the names of a recording, its programs, packages and tracks."""
-    lines = [("company", "show", "company"), ("product", "show", "product"), ("package", "describe", "name"), ("track", "describe", "track-name")]
-    texts = {("recording", name)} | {(what, line["text"]) for what, command, of in lines for line in lines_in(said, command, of) if line["text"]}
-    plain = {text: "".join(letter for letter in unicodedata.normalize("NFKD", text) if not unicodedata.combining(letter)) for _, text in texts}
-    words = {text: "".join(letter if letter.isalnum() else " " for letter in plain[text].casefold()).split() for _, text in texts}
+    named = (("company", "show", "company"), ("product", "show", "product"), ("package", "describe", "name"),
+             ("track", "describe", "track-name"))  # fmt: skip
+    texts = {(what, line["text"]) for what, command, of in named for line in lines_in(said, command, of) if line["text"]}
+    texts.add(("recording", name))
+    words = {}
+    for _, text in texts:
+        plain = "".join(letter for letter in unicodedata.normalize("NFKD", text) if not unicodedata.combining(letter))
+        words[text] = "".join(letter if letter.isalnum() else " " for letter in plain.casefold()).split()
     return {(word, what, text) for what, text in texts for word in words[text]}
 
 

@@ -82,14 +82,19 @@ AGAINST = Option("--against", "against", "a source of the reference; there may b
 FIND = Word("word", "WORD", "words of a name, the end of a UMID, or a timecode", 1, None)
 FILE = Word("file", "FILE", "a file of lines; - is standard input", 1, None)
 
+TABLE = {"form": "table"}
 COMMANDS = {
-    "add": Command("adding", "put a recording into the database, or in its own place", (DATABASE, NAME, SOURCE), ADDED, {"skim": False}),
-    "list": Command("listing", "print recordings", (DATABASE,), LISTS + FORMS, {"what": "all", "form": "table"}),
-    "find": Command("listing", "print which recordings have words, an identifier or a timecode", (DATABASE, FIND), FORMS, {"form": "table"}),
-    "show": Command("listing", "print all of a recording", (DATABASE, NAME), FORMS, {"form": "table"}),
-    "orders": Command("listing", "print what is to be restored", (DATABASE,), ORDERED + FORMS, {"by": "name", "merge": 0, "form": "table"}),
-    "verify": Command("adding", "verify a recording, and keep what comes of it", (DATABASE, NAME, SOURCE), (AGAINST, SOURCES), {"against": []}),
-    "match": Command("matching", "print of which recording fragments are, and where they lie in it", (DATABASE, SOURCE), (SOURCES, *FORMS), {"form": "table"}),
+    "add": Command("adding", "put a recording into the database, or in its own place", (DATABASE, NAME, SOURCE), ADDED,
+                   {"skim": False}),
+    "list": Command("listing", "print recordings", (DATABASE,), LISTS + FORMS, {"what": "all", **TABLE}),
+    "find": Command("listing", "print which recordings have words, an identifier or a timecode", (DATABASE, FIND), FORMS, TABLE),
+    "show": Command("listing", "print all of a recording", (DATABASE, NAME), FORMS, TABLE),
+    "orders": Command("listing", "print what is to be restored", (DATABASE,), ORDERED + FORMS,
+                      {"by": "name", "merge": 0, **TABLE}),
+    "verify": Command("adding", "verify a recording, and keep what comes of it", (DATABASE, NAME, SOURCE), (AGAINST, SOURCES),
+                      {"against": []}),
+    "match": Command("matching", "print of which recording fragments are, and where they lie in it", (DATABASE, SOURCE),
+                     (SOURCES, *FORMS), TABLE),
     "lines": Command("adding", "print what add would put into the database", (NAME, SOURCE), ADDED, {"skim": False}),
     "load": Command("adding", "put recordings into the database of which lines were printed", (DATABASE, FILE), (), {}),
 }  # fmt: skip
@@ -211,7 +216,8 @@ def usage_of(name: str | None) -> str:
 def help_of(name: str | None) -> str:
     """What --help prints of a command, or of the program."""
     if name is None:
-        return f"{usage_of(None)}\n{DESCRIPTION}\n\n{table_of([(each, command.said) for each, command in COMMANDS.items()])}\n{EPILOG}\n"
+        commands = table_of([(each, command.said) for each, command in COMMANDS.items()])
+        return f"{usage_of(None)}\n{DESCRIPTION}\n\n{commands}\n{EPILOG}\n"
     command = COMMANDS[name]
     words = table_of([(word.name, word.said) for word in command.words])
     options = [(f"{option.name} {option.takes}".rstrip(), option.said) for option in command.options]
