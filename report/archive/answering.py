@@ -144,7 +144,7 @@ def found(connection: sqlite3.Connection, words: Sequence[str]) -> Answer:
 
 def found_by(connection: sqlite3.Connection, word: str) -> Found:
     """What is found by one word: a timecode, the end of an identifier, or words of a name."""
-    if moments.TIMECODE.fullmatch(word):
+    if moments.is_timecode(word):
         return found_by_timecode(connection, word)
     digits = UMID_PREFIX.sub("", word.lower())
     rows = found_by_words(connection, words_of(word))

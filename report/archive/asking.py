@@ -5,7 +5,6 @@ import contextlib
 import io
 import json
 import os
-import re
 import stat
 from collections import namedtuple
 from collections.abc import Callable, Sequence
@@ -22,8 +21,8 @@ Keeps = Callable[[bytes], bool]  # whether a line is kept
 IDENTIFIERS = {"3c0a": "instance", "4401": "package", "3c09": "generation", "0102": "generation"}
 IDENTIFIED = tuple(b'"tag":"%s"' % tag.encode() for tag in IDENTIFIERS)
 
-# A source: its form, what stands between that and the path, and the path.
-SOURCE = re.compile(r"(at|range):([0-9]+):(.+)|(slice):([0-9]+:[0-9]+):(.+)|(cat):(.+)", re.DOTALL)
+# The forms of a source, and how many numbers stand between each and its path.
+FORMS = {"at": 1, "range": 1, "slice": 2, "cat": 0}
 
 # The line that each command prints whatever it finds.
 CLOSING = {
@@ -61,14 +60,15 @@ class Source(namedtuple("Source", "form numbers path")):
 
 def source_of(word: str) -> Source:
     """The source that a word names."""
-    found = SOURCE.fullmatch(word)
-    if not found:
+    form, _, rest = word.partition(":")
+    *numbers, named = rest.split(":", FORMS.get(form, 0))
+    are_digits = all(number.isascii() and number.isdigit() for number in numbers)
+    if not named or len(numbers) != FORMS.get(form) or not are_digits:
         raise OwnFault(USAGE, f"bad source: {word}")
-    parts = [part for part in found.groups() if part is not None]
-    path = os.path.abspath(parts[-1])
+    path = os.path.abspath(named)
     if path != os.fsencode(path).decode("utf-8", "replace"):
         raise OwnFault(USAGE, f"bad source: {word}: its folder isn't UTF-8")
-    return Source(parts[0], parts[1] if len(parts) == 3 else "", path)
+    return Source(form, ":".join(numbers), path)
 
 
 def is_read_once(path: str) -> bool:

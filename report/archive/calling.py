@@ -4,15 +4,15 @@ from __future__ import annotations
 import contextlib
 import os
 import select
-import signal
 from collections.abc import Iterator
 
 from archive.faults import NO_PROGRAM, OwnFault
 
 BLOCK = 1 << 16  # bytes that are read at once, as many as a pipe has
 
-# Signals that Python passes over. A program that it calls doesn't.
-SIGNALS = (signal.SIGPIPE, signal.SIGXFSZ)
+# Signals that Python passes over, and a program that it calls doesn't: SIGPIPE and SIGXFSZ of Linux. The module signal has
+# them too, and takes as long to load as a call of mxf_tool.
+SIGNALS = (13, 25)
 
 
 class Call:

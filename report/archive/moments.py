@@ -7,10 +7,10 @@ import re
 from collections import namedtuple
 
 # A timecode: two digits each, and two to five of the frames.
-TIMECODE = re.compile(r"([0-9]{2}):([0-9]{2}):([0-9]{2})([:;])([0-9]{2,5})")
+TIMECODE = r"([0-9]{2}):([0-9]{2}):([0-9]{2})([:;])([0-9]{2,5})"
 
 # A time in UTC by ISO 8601, to the second.
-IS_TIME = re.compile(r"[0-9]{4}-[0-9]{2}-[0-9]{2}T[0-9]{2}:[0-9]{2}:[0-9]{2}Z")
+TIME = r"[0-9]{4}-[0-9]{2}-[0-9]{2}T[0-9]{2}:[0-9]{2}:[0-9]{2}Z"
 
 HOURS = 24
 
@@ -21,6 +21,16 @@ def now() -> datetime.datetime:
     if re.fullmatch("[0-9]{1,11}", epoch):
         return datetime.datetime.fromtimestamp(int(epoch), datetime.timezone.utc)
     return datetime.datetime.now(datetime.timezone.utc)
+
+
+def is_time(text: str) -> bool:
+    """Whether a text is a time in UTC, to the second."""
+    return re.fullmatch(TIME, text) is not None
+
+
+def is_timecode(text: str) -> bool:
+    """Whether a text has the form of a timecode."""
+    return re.fullmatch(TIMECODE, text) is not None
 
 
 def text_of(moment: datetime.datetime) -> str:
@@ -75,7 +85,7 @@ class Counting(namedtuple("Counting", "base is_drop")):
 
     def has(self, timecode: str) -> bool:
         """Whether a day has this label. One with a semicolon is of drop frame alone."""
-        hours, minutes, seconds, mark, frames = TIMECODE.fullmatch(timecode).groups()
+        hours, minutes, seconds, mark, frames = re.fullmatch(TIMECODE, timecode).groups()
         if int(hours) >= HOURS or int(minutes) > 59 or int(seconds) > 59 or int(frames) >= self.base:
             return False
         if mark == ";" and not self.is_drop:

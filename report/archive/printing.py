@@ -6,20 +6,25 @@ import sys
 from collections.abc import Iterable, Sequence
 
 # Characters of control, line ends of Unicode, and marks of direction: a terminal may obey them.
-CONTROL = re.compile("[\x00-\x1f\x7f-\x9f\u2028\u2029\u202a-\u202e\u2066-\u2069]")
+CONTROL = "[\x00-\x1f\x7f-\x9f\u2028\u2029\u202a-\u202e\u2066-\u2069]"
 
 Cells = Sequence  # the values of a row or a column
 
 
 def cell(value: object) -> str:
     """A value in a table: - if there is none."""
-    return "-" if value is None else CONTROL.sub("?", str(value))
+    return "-" if value is None else shown(str(value))
+
+
+def shown(text: str) -> str:
+    """A text without what a terminal may obey. None of that can be printed."""
+    return text if text.isprintable() else re.sub(CONTROL, "?", text)
 
 
 def cells(column: Cells, kinds: set[type]) -> list[str]:
     """The values of a column that has values of these kinds alone."""
     texts = column if kinds == {str} else ["-" if value is None else str(value) for value in column]
-    return texts if "".join(texts).isprintable() else [CONTROL.sub("?", text) for text in texts]
+    return texts if "".join(texts).isprintable() else list(map(shown, texts))
 
 
 def print_table(heads: Sequence[str], rows: Iterable[Cells]) -> None:

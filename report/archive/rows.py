@@ -33,7 +33,7 @@ class Recording:
     """A recording as its lines tell it: its name, its state, what stands in the table of recordings, and rows of others."""
 
     def __init__(self, line: Line) -> None:
-        if line.get("line") != "recording" or line["format"] != FORMAT or not moments.IS_TIME.fullmatch(line["gathered"]):
+        if line.get("line") != "recording" or line["format"] != FORMAT or not moments.is_time(line["gathered"]):
             raise ValueError("no first line of a recording")
         self.name: str = line["name"]
         self.state: Row = {"gathered": line["gathered"], "program": line["program"], "is_skim": int(line["skim"])}
