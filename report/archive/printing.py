@@ -21,19 +21,27 @@ def shown(text: str) -> str:
     return text if text.isprintable() else re.sub(CONTROL, "?", text)
 
 
-def cells(column: Cells, kinds: set[type]) -> list[str]:
-    """The values of a column that has values of these kinds alone."""
+def texts_of(column: Cells, kinds: set[type]) -> Cells:
+    """The values of a column that has values of these kinds alone, as texts."""
     texts = column if kinds == {str} else ["-" if value is None else str(value) for value in column]
     return texts if "".join(texts).isprintable() else list(map(shown, texts))
 
 
+def laid_out(head: str, column: Cells) -> tuple[Cells, str]:
+    """A column below its head, and the form of each of its cells: as wide as the widest, with numbers on the right."""
+    kinds = set(map(type, column))
+    if kinds == {int}:
+        # Numbers are laid out as they are. The widest is the least or the greatest.
+        return [head, *column], f"%{max(len(str(value)) for value in (head, min(column), max(column)))}s"
+    cells = [head, *texts_of(column, kinds)]
+    return cells, f"%{'' if int in kinds else '-'}{max(map(len, cells))}s"
+
+
 def print_table(heads: Sequence[str], rows: Iterable[Cells]) -> None:
-    """Prints columns side by side, with numbers on the right. Nothing stands after the last column."""
-    columns = list(zip(*rows)) or [()] * len(heads)
-    kinds = [set(map(type, column)) for column in columns]
-    texts = [[head, *cells(column, kind)] for head, column, kind in zip(heads, columns, kinds)]
-    form = "  ".join(f"%{'' if int in kind else '-'}{max(map(len, text))}s" for text, kind in zip(texts, kinds))
-    sys.stdout.write("".join([(form % line).rstrip() + "\n" for line in zip(*texts)]))
+    """Prints columns side by side. Nothing stands after the last one."""
+    columns, forms = zip(*map(laid_out, heads, list(zip(*rows)) or [()] * len(heads)))
+    form = "  ".join(forms)
+    sys.stdout.write("".join([(form % line).rstrip() + "\n" for line in zip(*columns)]))
 
 
 def print_csv(heads: Sequence[str], rows: Iterable[Cells]) -> None:
