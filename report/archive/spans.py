@@ -1,7 +1,6 @@
 """Which timecodes of a day clocks and timecode components have, hour by hour."""
 from __future__ import annotations
 
-
 from collections import namedtuple
 from collections.abc import Iterator
 
@@ -17,17 +16,17 @@ class Span(namedtuple("Span", "first count counting is_open")):
     def hours(self) -> Iterator[dict]:
         """What of them lies in each hour of a day, as rows of the table hours. A day is all that there is."""
         counting, day = self.counting, self.counting.day()
-        begin = counting.number(self.first)
+        begin, first = counting.number(self.first), int(self.first[:2])
         end = begin + min(max(self.count, 1), day)
-        for turn in (0, day):
-            for hour in range(HOURS):
-                border = counting.number(f"{hour:02}:00:00:00") + turn
-                after = border + day // HOURS
-                if begin < after and border < end:
-                    yield {
-                        "hour": hour, "base": counting.base, "is_drop": int(counting.is_drop), "is_open": int(self.is_open),
-                        "first": counting.label(max(begin, border) - turn), "last": counting.label(min(end, after) - 1 - turn),
-                    }  # fmt: skip
+        for turn, hour in (divmod(place, HOURS) for place in range(first, min(first + HOURS + 1, 2 * HOURS))):
+            border = counting.number(f"{hour:02}:00:00:00") + turn * day
+            after = border + day // HOURS
+            if border >= end:
+                return
+            yield {
+                "hour": hour, "base": counting.base, "is_drop": int(counting.is_drop), "is_open": int(self.is_open),
+                "first": counting.label(max(begin, border) - turn * day), "last": counting.label(min(end, after) - 1 - turn * day),
+            }  # fmt: skip
 
 
 class Rate(namedtuple("Rate", "above below")):
