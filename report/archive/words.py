@@ -1,7 +1,7 @@
 """The words of a call: the commands, the words behind each, its options, and the help that tells them.
 
-They are read here and not by argparse. To load that, and to tell it the words of a command, takes longer than all else that
-comes before the first question to mxf_tool.
+They are read here and not by argparse. To load that, and to tell it the words of a command, takes longer than all calls of
+mxf_tool of a small catalogue.
 """
 from __future__ import annotations
 
