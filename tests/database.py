@@ -11,9 +11,11 @@
 
 Each difference is a line. Nothing is printed of a database that is right.
 """
+import fractions
 import importlib.machinery
 import importlib.util
 import json
+import math
 import os
 import pathlib
 import re
@@ -21,6 +23,7 @@ import signal
 import sqlite3
 import subprocess
 import sys
+import unicodedata
 
 TOP = pathlib.Path(__file__).resolve().parent.parent
 ARCHIVE = TOP / "report" / "mxf_archive"
@@ -118,6 +121,81 @@ def lines_in(said, command, name):
     return [line for line in said[command] if line["line"] == name]
 
 
+def after(timecode, base, is_drop):
+    """The timecode of the frame after one (ST 12-1). Drop frame leaves out the first labels of most minutes."""
+    hours, minutes, seconds, frames = map(int, timecode.split(":"))
+    seconds, frames = seconds + (frames + 1) // base, (frames + 1) % base
+    minutes, seconds = minutes + seconds // 60, seconds % 60
+    hours, minutes = (hours + minutes // 60) % 24, minutes % 60
+    if is_drop and base in (30, 60) and minutes % 10 and seconds == frames == 0:
+        frames = base // 15
+    return f"{hours:02}:{minutes:02}:{seconds:02}:{frames:02}"
+
+
+def parts_of(timecode):
+    """The numbers of a timecode, by which the one before another is less."""
+    return tuple(map(int, timecode.split(":")))
+
+
+def last_of(line, count):
+    """The last timecode of so many from that of a timecode component on."""
+    timecode, is_drop = line["at"].replace(";", ":"), ";" in line["at"]
+    for _ in range(1, count):
+        timecode = after(timecode, line["base"], is_drop)
+    return timecode
+
+
+def times_of(first, last, base, of):
+    """The rows of the view `times` from one timecode to another, up to midnight if it isn't known to which."""
+    is_open = last is None
+    hours = hours_between(first.replace(";", ":"), f"23:59:59:{base - 1:02}" if is_open else last.replace(";", ":"), base)
+    return [(*hour, base, int(";" in first), int(is_open), *of) for hour in hours]
+
+
+def wanted_times(said):
+    """The rows of the view `times` by the lines: the hours, the base, drop frame, whether the end isn't known, the index of a
+    clock, and the package and the track of a timecode component. Nothing that is compared lasts a day."""
+    rows, names, rates = [], {}, {}
+    for line in lines_in(said, "describe", "name"):
+        names[line["of-package"]] = line["text"]
+    for line in said["describe"]:
+        if line["line"] == "track" and "id" in line:
+            rates[line["of-package"], line["id"]] = fractions.Fraction(line["rate"])
+        elif line["line"] == "timecode" and line["at"] is not None and line["base"] and line["duration"] != 0:
+            rate, count = rates[line["of-package"], line["of-track"]], line["duration"]
+            if count is not None and round(rate) != line["base"]:
+                count = math.ceil(count * line["base"] / rate)
+            last = None if count is None else last_of(line, count)
+            rows += times_of(line["at"], last, line["base"], (None, names.get(line["of-package"]), line["of-track"]))
+        elif line["line"] == "clock":
+            rows += times_of(line["first"], line["last"], line["base"], (line["index-sid"], None, None))
+    return rows
+
+
+def wanted_words(said, name):
+    """The rows of the view `named` by the lines: each word of the names of a recording, its programs, packages and tracks."""
+    named = (("company", "show", "company"), ("product", "show", "product"), ("package", "describe", "name"),
+             ("track", "describe", "track-name"))  # fmt: skip
+    texts = {(what, line["text"]) for what, command, of in named for line in lines_in(said, command, of) if line["text"]}
+    texts.add(("recording", name))
+    words = {}
+    for _, text in texts:
+        plain = "".join(letter for letter in unicodedata.normalize("NFKD", text) if not unicodedata.combining(letter))
+        words[text] = "".join(letter if letter.isalnum() else " " for letter in plain.casefold()).split()
+    return {(word, what, text) for what, text in texts for word in words[text]}
+
+
+def hours_between(first, last, base):
+    """What of the timecodes from one to another lies in each hour: the hour, and the first and the last there."""
+    rows, begin = [], first
+    while True:
+        end = f"{begin[:2]}:59:59:{base - 1:02}"
+        if parts_of(begin) <= parts_of(last) <= parts_of(end):
+            return [*rows, (int(begin[:2]), begin, last)]
+        rows.append((int(begin[:2]), begin, end))
+        begin = after(end, base, False)
+
+
 def compare_views(connection, name, said):
     """The same of the views by which docs/ARCHIVE.md asks."""
     (mapped,), (planned,), orders = lines_in(said, "map", "map"), lines_in(said, "plan", "planned"), lines_in(said, "plan", "restore")
@@ -142,6 +220,8 @@ def compare_views(connection, name, said):
         'packets, "end", held, missing, findings, disputes, orders FROM last': [
             tuple(numbers[field] for field in ("packets", "end", "held", "missing", "findings", "disputes", "orders"))
         ],
+        "hour, first, last, base, is_drop, is_open, index_sid, package, track FROM times": wanted_times(said),
+        "word, what, text FROM named": wanted_words(said, name),
         "1 FROM changed": [],
         "verified FROM fixity": [("",)],
     }  # fmt: skip

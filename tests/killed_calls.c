@@ -69,3 +69,10 @@ __attribute__((destructor)) static void tell(void) {
     fclose(file);
   }
 }
+
+// A program that ends so runs no destructor.
+void _exit(int status) {
+  tell();
+  syscall(SYS_exit_group, status);
+  __builtin_unreachable();
+}

@@ -1,16 +1,15 @@
 """The commands that ask mxf_tool and write to the database, or read lines."""
-import argparse
 import os
 import sqlite3
 import sys
-from typing import List
 
 from archive import asking, database, gathering, printing, storing
 from archive.faults import DATA, NO_PROGRAM, READ, USAGE, OwnFault
 from archive.rows import Recording, recordings_of
+from archive.words import Words
 
 
-def gathered_of(words: argparse.Namespace) -> gathering.Gathering:
+def gathered_of(words: Words) -> gathering.Gathering:
     """What is to be asked by the words of add and lines."""
     sources = asking.sources_of(words.source, words.sources)
     if not sources.each() and words.catalogue is None:
@@ -20,7 +19,7 @@ def gathered_of(words: argparse.Namespace) -> gathering.Gathering:
     return gathering.Gathering(gathering.Asked(words.name, sources, words.catalogue, words.skim))
 
 
-def add(words: argparse.Namespace) -> int:
+def add(words: Words) -> int:
     """Puts a recording into the database. All is asked before that is written to."""
     asked = gathered_of(words)
     database.check_place(words.database)
@@ -35,13 +34,13 @@ def add(words: argparse.Namespace) -> int:
     return 0
 
 
-def lines(words: argparse.Namespace) -> int:
+def lines(words: Words) -> int:
     """Prints the lines of a recording, which load takes."""
     printing.print_lines(gathered_of(words).gather())
     return 0
 
 
-def load(words: argparse.Namespace) -> int:
+def load(words: Words) -> int:
     """Puts the recordings of files into the database, those of each file together or not at all. A file that can't be
     loaded is told, and the others are."""
     database.check_place(words.database)
@@ -72,7 +71,7 @@ def store_news(connection: sqlite3.Connection, recording: Recording, path: str) 
     return True
 
 
-def lines_of(path: str) -> List[asking.Line]:
+def lines_of(path: str) -> list[asking.Line]:
     """The lines of a file; - is standard input."""
     try:
         with open(0 if path == "-" else path, "rb", closefd=path != "-") as file:
@@ -83,7 +82,7 @@ def lines_of(path: str) -> List[asking.Line]:
         raise OwnFault(DATA, f"bad lines: {path}: a line is no JSON of mxf_archive") from fault
 
 
-def verify(words: argparse.Namespace) -> int:
+def verify(words: Words) -> int:
     """Verifies a recording, and keeps what comes of it. The status is that of mxf_tool."""
     from archive import answering
 

@@ -1,8 +1,11 @@
 """What is asked of the database: lists, what has a name or a timecode, all of one recording, and orders."""
+from __future__ import annotations
+
 import datetime
 import re
 import sqlite3
-from typing import Any, Dict, List, NamedTuple, Optional, Sequence, Set, Tuple
+from collections import namedtuple
+from collections.abc import Sequence
 
 from archive import moments
 from archive.faults import USAGE, OwnFault
@@ -105,10 +108,10 @@ FROM recordings r JOIN orders o ON o.recording = r.id WHERE r.is_missing = 1 ORD
 UMID = re.compile(r"[0-9a-f]{16,64}")
 UMID_PREFIX = re.compile(r"^(urn:smpte:umid:|0x)|[-.\s{}]")
 
-Answer = Tuple[List[str], List[Tuple[Any, ...]]]
+Answer = tuple[list[str], list[tuple]]
 
 
-def answer_of(connection: sqlite3.Connection, question: str, values: Sequence[Any] = ()) -> Answer:
+def answer_of(connection: sqlite3.Connection, question: str, values: Sequence[object] = ()) -> Answer:
     """The heads and the rows that a question answers."""
     cursor = connection.cursor()
     cursor.row_factory = None
@@ -116,7 +119,7 @@ def answer_of(connection: sqlite3.Connection, question: str, values: Sequence[An
     return [column[0] for column in cursor.description], rows
 
 
-def listed(connection: sqlite3.Connection, what: str, days: Optional[int]) -> Answer:
+def listed(connection: sqlite3.Connection, what: str, days: int | None) -> Answer:
     """The recordings of a list. Those that weren't verified for so many days go by the time of their last verification."""
     if days is None:
         return answer_of(connection, LISTS[what])
@@ -128,7 +131,7 @@ def listed(connection: sqlite3.Connection, what: str, days: Optional[int]) -> An
     return answer_of(connection, LISTS[what], (max(since, "0"),))
 
 
-Found = Set[Tuple[str, str, str]]
+Found = set[tuple[str, str, str]]
 
 
 def found(connection: sqlite3.Connection, words: Sequence[str]) -> Answer:
@@ -141,7 +144,7 @@ def found(connection: sqlite3.Connection, words: Sequence[str]) -> Answer:
 
 def found_by(connection: sqlite3.Connection, word: str) -> Found:
     """What is found by one word: a timecode, the end of an identifier, or words of a name."""
-    if moments.TIMECODE.fullmatch(word):
+    if moments.is_timecode(word):
         return found_by_timecode(connection, word)
     digits = UMID_PREFIX.sub("", word.lower())
     rows = found_by_words(connection, words_of(word))
@@ -179,14 +182,14 @@ def has_timecode(row: sqlite3.Row, timecode: str) -> bool:
     return counting.number(row["first"]) <= counting.number(timecode) <= counting.number(row["last"])
 
 
-def told_by(row: sqlite3.Row) -> Tuple[str, str]:
+def told_by(row: sqlite3.Row) -> tuple[str, str]:
     """Which clock has a timecode, and from which to which it goes; or which track of a package, and from which on."""
     if row["clock"] is not None:
         return "clock", f"index {row['index_sid']}, {row['clock_first']} to {row['clock_last'] or '-'}"
     return "timecode", f"{row['kind']} package {row['uid'][-16:]}, track {row['track']}, from {row['at']}"
 
 
-def shown(connection: sqlite3.Connection, identity: int) -> List[Tuple[str, List[str], List[Tuple[Any, ...]]]]:
+def shown(connection: sqlite3.Connection, identity: int) -> list[tuple[str, list[str], list[tuple]]]:
     """All of a recording: each table that has something of it."""
     parts = [(table, *answer_of(connection, question, (identity,))) for table, question in SHOWN.items()]
     return [part for part in parts if part[2]]
@@ -200,17 +203,13 @@ def identity_of(connection: sqlite3.Connection, name: str) -> int:
     return row["id"]
 
 
-class Stretch(NamedTuple):
+class Stretch(namedtuple("Stretch", "recording start end reasons form")):
     """Orders of a recording that are restored as one: from where to where, why, and the form of source that takes what
     comes."""
 
-    recording: str
-    start: int
-    end: Optional[int]
-    reasons: Dict[str, None]
-    form: str
+    __slots__ = ()
 
-    def row(self) -> Tuple[Any, ...]:
+    def row(self) -> tuple:
         """The row that is printed."""
         length = None if self.end is None else self.end - self.start
         return self.recording, self.start, self.end, length, ",".join(self.reasons), self.form
@@ -219,7 +218,7 @@ class Stretch(NamedTuple):
 def ordered(connection: sqlite3.Connection, by: str, apart: int) -> Answer:
     """All orders, of which those of one recording are one that touch or lie less than so many bytes apart."""
     orders = [order_of(row) for row in connection.execute(ORDERS)]
-    stretches: List[Stretch] = []
+    stretches: list[Stretch] = []
     for order in sorted(orders, key=lambda one: (one.recording, one.start)):
         last = stretches[-1] if stretches else None
         if last and last.recording == order.recording and (last.end is None or order.start - last.end < max(apart, 1)):

@@ -1,25 +1,28 @@
 """Asking mxf_tool, and the words that name sources."""
+from __future__ import annotations
+
 import contextlib
+import io
 import json
 import os
-import re
 import stat
-import subprocess
-import threading
-from typing import Any, Callable, Dict, Iterator, List, NamedTuple, Optional, Sequence, Tuple
+from collections import namedtuple
+from collections.abc import Callable, Sequence
 
 from archive import moments
+from archive.calling import Call
 from archive.faults import NO_PROGRAM, READ, USAGE, OwnFault, ToolFault
 
-Line = Dict[str, Any]
+Line = dict  # the members of a JSON object of mxf_tool, by their names
+Keeps = Callable[[bytes], bool]  # whether a line is kept
 
 # Tags of sets whose values tell recordings apart (ST 377-1), and what each is: the identifier of the set, of a package, and
 # of the modification by which a set or a program came.
 IDENTIFIERS = {"3c0a": "instance", "4401": "package", "3c09": "generation", "0102": "generation"}
 IDENTIFIED = tuple(b'"tag":"%s"' % tag.encode() for tag in IDENTIFIERS)
 
-# A source: its form, what stands between that and the path, and the path.
-SOURCE = re.compile(r"(at|range):([0-9]+):(.+)|(slice):([0-9]+:[0-9]+):(.+)|(cat):(.+)", re.DOTALL)
+# The forms of a source, and how many numbers stand between each and its path.
+FORMS = {"at": 1, "range": 1, "slice": 2, "cat": 0}
 
 # The line that each command prints whatever it finds.
 CLOSING = {
@@ -30,44 +33,42 @@ CLOSING = {
 BLOCK = 1 << 20  # bytes that are read at once of a catalogue
 
 
-class Sources(NamedTuple):
+class Sources(namedtuple("Sources", "words listed")):
     """The words that name the sources, and those of a list that is handed in through standard input: the others come
     first."""
 
-    words: List[str]
-    listed: List[str]
+    __slots__ = ()
 
-    def each(self) -> List[str]:
+    def each(self) -> list[str]:
         """Each source by itself, in the order of their numbers."""
         return self.words + self.listed
 
 
-class Source(NamedTuple):
+class Source(namedtuple("Source", "form numbers path")):
     """A source: its form, its offset and its length in the file if the form has them, and its path from the root on."""
 
-    form: str
-    numbers: str
-    path: str
+    __slots__ = ()
 
     def word(self) -> str:
         """The word that names it from any folder."""
         return ":".join(part for part in (self.form, self.numbers, self.path) if part)
 
-    def offset(self) -> Optional[int]:
+    def offset(self) -> int | None:
         """The offset of its first byte in the recording, in bytes; a catalogue has none."""
         return int(self.numbers.split(":")[0]) if self.numbers else None
 
 
 def source_of(word: str) -> Source:
     """The source that a word names."""
-    found = SOURCE.fullmatch(word)
-    if not found:
+    form, _, rest = word.partition(":")
+    *numbers, named = rest.split(":", FORMS.get(form, 0))
+    are_digits = all(number.isascii() and number.isdigit() for number in numbers)
+    if not named or len(numbers) != FORMS.get(form) or not are_digits:
         raise OwnFault(USAGE, f"bad source: {word}")
-    parts = [part for part in found.groups() if part is not None]
-    path = os.path.abspath(parts[-1])
+    path = os.path.abspath(named)
     if path != os.fsencode(path).decode("utf-8", "replace"):
         raise OwnFault(USAGE, f"bad source: {word}: its folder isn't UTF-8")
-    return Source(parts[0], parts[1] if len(parts) == 3 else "", path)
+    return Source(form, ":".join(numbers), path)
 
 
 def is_read_once(path: str) -> bool:
@@ -82,7 +83,7 @@ def is_read_once(path: str) -> bool:
     return not (stat.S_ISREG(mode) or stat.S_ISDIR(mode) or stat.S_ISBLK(mode))
 
 
-def sources_of(words: Sequence[str], path: Optional[str]) -> Sources:
+def sources_of(words: Sequence[str], path: str | None) -> Sources:
     """The sources that the words and the list name. Those of the list come after those of the words, and an empty line of
     it is none."""
     listed = lines_of_list(path) if path is not None else []
@@ -92,7 +93,7 @@ def sources_of(words: Sequence[str], path: Optional[str]) -> Sources:
     return Sources(list(words), listed)
 
 
-def lines_of_list(path: str) -> List[str]:
+def lines_of_list(path: str) -> list[str]:
     """The lines of a list of sources that have words; - is standard input."""
     try:
         with open(0 if path == "-" else path, "rb", closefd=path != "-") as file:
@@ -105,16 +106,24 @@ def lines_of_list(path: str) -> List[str]:
 
 
 def origin_of(number: int, source: Source) -> Line:
-    """What is known of the file of a source without its bytes: its path, its size and the time of its last change. Of a
-    catalogue also its SHA-256."""
+    """What is known of the file of a source without its bytes: its path, its size and the time of its last change. That of a
+    catalogue has to be there."""
     origin: Line = {"line": "origin", "number": number, "form": source.form, "offset": source.offset(), "path": source.path}
     origin.update(word=source.word(), size=None, modified=None, sha256=None)
     with contextlib.suppress(OSError, ValueError):
         found = os.stat(source.path)
         origin.update(size=found.st_size, modified=moments.text_of_seconds(found.st_mtime))
     if source.form == "cat":
-        origin["sha256"] = sha256_of(source.path)
+        open_file(source.path).close()
     return origin
+
+
+def open_file(path: str) -> io.BufferedReader:
+    """A file, to be read."""
+    try:
+        return open(path, "rb")
+    except OSError as fault:
+        raise OwnFault(READ, f"read fault: {path}") from fault
 
 
 def sha256_of(path: str) -> str:
@@ -123,7 +132,7 @@ def sha256_of(path: str) -> str:
 
     digest = hashlib.sha256()
     try:
-        with open(path, "rb") as file:
+        with open_file(path) as file:
             for block in iter(lambda: file.read(BLOCK), b""):
                 digest.update(block)
     except OSError as fault:
@@ -136,7 +145,7 @@ def is_identifier(text: bytes) -> bool:
     return text.startswith(b'{"line":"item"') and any(tag in text for tag in IDENTIFIED)
 
 
-def identifier_of(line: Line) -> Optional[Tuple[str, bytes]]:
+def identifier_of(line: Line) -> tuple[str, bytes] | None:
     """What an item identifies, and the identifier; None if it has none. One of zeros is none."""
     if line["tag"] not in IDENTIFIERS or not (line["value"] or "").strip("0"):
         return None
@@ -157,46 +166,16 @@ def program() -> str:
 
 def version_of(path: str) -> str:
     """What the program calls itself."""
-    try:
-        done = subprocess.run([path, "--version"], stdout=subprocess.PIPE, check=False)
-    except OSError as fault:
-        raise OwnFault(NO_PROGRAM, f"{path} can't be run: {fault.strerror}") from fault
-    if done.returncode != 0:
-        raise OwnFault(NO_PROGRAM, f"{path} --version ended with status {done.returncode}")
-    return done.stdout.decode("utf-8", "replace").strip()
-
-
-class Beside:
-    """What goes on beside the reading of what a program prints: it is handed a list, and what it says of faults is kept."""
-
-    def __init__(self, process: Any, given: bytes) -> None:
-        self.process = process
-        self.told = b""
-        works = [(self.hand, (given,))] * bool(process.stdin) + [(self.hear, ())] * bool(process.stderr)
-        self.threads = [threading.Thread(target=work, args=words) for work, words in works]
-
-    def hand(self, given: bytes) -> None:
-        """Hands the list to the program, which may end before it has read all."""
-        with contextlib.suppress(OSError), self.process.stdin:
-            self.process.stdin.write(given)
-
-    def hear(self) -> None:
-        """Keeps what the program says."""
-        self.told = self.process.stderr.read()
-
-    def __enter__(self) -> "Beside":
-        for thread in self.threads:
-            thread.start()
-        return self
-
-    def __exit__(self, *_: Any) -> None:
-        for thread in self.threads:
-            thread.join()
+    with Call([path, "--version"], is_kept=False) as call:
+        texts = list(call.texts())
+    if call.status != 0:
+        raise OwnFault(NO_PROGRAM, f"{path} --version ended with status {call.status}")
+    return b"\n".join(texts).decode("utf-8", "replace").strip()
 
 
 class Tool:
-    """mxf_tool. Its first question says its faults and how far it is by itself. The launcher of the repository looks at each
-    call whether the program is current; once is enough, and then the program itself is asked."""
+    """mxf_tool. Its first call says its faults and how far it is by itself. The launcher of the repository looks at each call
+    whether the program is current; once is enough, and then the program itself is asked."""
 
     def __init__(self) -> None:
         launcher = program()
@@ -206,38 +185,32 @@ class Tool:
         self.calls = 0
         self.status = 0
 
-    def ask(self, words: Sequence[str], sources: Sources, keeps: Callable[[bytes], bool] = lambda _: True) -> List[Line]:
-        """The lines that a command prints of the sources, as far as they are kept. A call that fails is a fault."""
+    def call(self, words: Sequence[str], sources: Sources) -> Call:
+        """The call of a command of the sources."""
         self.calls += 1
         handed = ["--sources", "-"] if sources.listed else []
         given = "".join(f"{word}\n" for word in sources.listed).encode()
-        return list(self.run([self.program, *words, "--json", *handed, *sources.words], given, keeps))
+        return Call([self.program, *words, "--json", *handed, *sources.words], given, is_kept=self.calls > 1)
 
-    def run(self, words: List[str], given: bytes, keeps: Callable[[bytes], bool]) -> Iterator[Line]:
-        """The lines of a call that is handed a list."""
-        said = None if self.calls == 1 else subprocess.PIPE
-        try:
-            process = subprocess.Popen(words, stdin=subprocess.PIPE if given else subprocess.DEVNULL,
-                                       stdout=subprocess.PIPE, stderr=said)  # fmt: skip
-        except OSError as fault:
-            raise OwnFault(NO_PROGRAM, f"{words[0]} can't be run: {fault.strerror}") from fault
-        closing, is_whole, texts = b'{"line":"%s"' % CLOSING[words[1]].encode(), False, []
-        with process, Beside(process, given) as beside:
-            for text in process.stdout:
+    def ask(self, words: Sequence[str], sources: Sources, keeps: Keeps = lambda _: True) -> list[Line]:
+        """The lines that a command prints of the sources, as far as they are kept. A call that fails is a fault."""
+        return self.said_by(self.call(words, sources), keeps)
+
+    def said_by(self, call: Call, keeps: Keeps = lambda _: True) -> list[Line]:
+        """The same of a call, which may have begun."""
+        name, command = call.words[:2]
+        closing, is_whole, texts = b'{"line":"%s"' % CLOSING[command].encode(), False, []
+        with call:
+            for text in call.texts():
                 is_whole = is_whole or text.startswith(closing)
                 if keeps(text):
                     texts.append(text)
-        self.check(process.returncode, beside.told)
+        self.status = call.status
+        if call.status not in (0, 1):
+            raise ToolFault(call.status if call.status > 0 else 128 - call.status, call.said)
         if not is_whole:
-            raise OwnFault(NO_PROGRAM, f"{words[0]} {words[1]} prints no line {CLOSING[words[1]]}")
-        for text in texts:
-            yield line_of(text, words[0])
-
-    def check(self, status: int, told: bytes) -> None:
-        """Sees that a call ended with status 0 or 1, or reports the fault that it said."""
-        self.status = status
-        if status not in (0, 1):
-            raise ToolFault(status if status > 0 else 128 - status, told)
+            raise OwnFault(NO_PROGRAM, f"{name} {command} prints no line {CLOSING[command]}")
+        return [line_of(text, name) for text in texts]
 
 
 def line_of(text: bytes, name: str) -> Line:

@@ -4,7 +4,7 @@ import os
 import sqlite3
 import sys
 import time
-from typing import Iterator
+from collections.abc import Iterator
 
 from archive import schema
 from archive.faults import DATA, NO_PROGRAM, READ, UNWRITTEN, OwnFault

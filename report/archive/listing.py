@@ -1,10 +1,10 @@
 """The commands that print what is in the database."""
-import argparse
 
 from archive import answering, database, printing
+from archive.words import Words
 
 
-def list(words: argparse.Namespace) -> int:
+def list(words: Words) -> int:
     """Prints recordings, all of them or those of which something holds."""
     with database.reading(words.database) as connection:
         what = "unverified" if words.days is not None else words.what
@@ -12,7 +12,7 @@ def list(words: argparse.Namespace) -> int:
     return 0
 
 
-def find(words: argparse.Namespace) -> int:
+def find(words: Words) -> int:
     """Prints what has all of the words; status 1 if nothing has."""
     with database.reading(words.database) as connection:
         heads, rows = answering.found(connection, words.word)
@@ -20,7 +20,7 @@ def find(words: argparse.Namespace) -> int:
     return 0 if rows else 1
 
 
-def show(words: argparse.Namespace) -> int:
+def show(words: Words) -> int:
     """Prints all of a recording."""
     with database.reading(words.database) as connection:
         identity = answering.identity_of(connection, words.name)
@@ -28,7 +28,7 @@ def show(words: argparse.Namespace) -> int:
     return 0
 
 
-def orders(words: argparse.Namespace) -> int:
+def orders(words: Words) -> int:
     """Prints what is to be restored."""
     with database.reading(words.database) as connection:
         printing.print_answer(words.form, *answering.ordered(connection, words.by, words.merge))

@@ -1,12 +1,13 @@
 """The command that finds of which recording fragments are, by their identifiers and their packets."""
-import argparse
 import os
 import sqlite3
 import sys
-from typing import Any, Dict, Iterable, List, NamedTuple, Set, Tuple
+from collections import namedtuple
+from collections.abc import Iterable
 
 from archive import asking, database, printing
 from archive.faults import USAGE, OwnFault
+from archive.words import Words
 
 # By which identifiers candidates are found: those of packages and modifications, and if none has one, those of any set,
 # which some programs give to all their files.
@@ -22,14 +23,13 @@ WHERE r.id = ? ORDER BY s.number
 HEADS = ("fragment", "recording", "offset", "packets", "all_packets", "heads")
 
 
-class Candidate(NamedTuple):
+class Candidate(namedtuple("Candidate", "recording path")):
     """A catalogue of a recording."""
 
-    recording: str
-    path: str
+    __slots__ = ()
 
 
-def match(words: argparse.Namespace) -> int:
+def match(words: Words) -> int:
     """Prints of which recording each fragment is, and where it lies in it. The status is that of mxf_tool."""
     sources = asking.sources_of(words.source, words.sources)
     if not sources.each():
@@ -44,13 +44,13 @@ def match(words: argparse.Namespace) -> int:
     return tool.status if candidates else 1
 
 
-def identifiers_of(tool: asking.Tool, source: str) -> Iterable[Tuple[str, bytes]]:
+def identifiers_of(tool: asking.Tool, source: str) -> Iterable[tuple[str, bytes]]:
     """What the sets of a fragment identify."""
     lines = tool.ask(["show"], asking.Sources([source], []), asking.is_identifier)
     return filter(None, map(asking.identifier_of, lines))
 
 
-def candidates_of(connection: sqlite3.Connection, held: Set[Tuple[str, bytes]]) -> List[int]:
+def candidates_of(connection: sqlite3.Connection, held: set[tuple[str, bytes]]) -> list[int]:
     """The recordings that have one of the identifiers, of the first rank of which one is known; all if none is."""
     for rank in RANKS:
         asked = [(uid, what) for what, uid in held if what in rank]
@@ -60,7 +60,7 @@ def candidates_of(connection: sqlite3.Connection, held: Set[Tuple[str, bytes]]) 
     return [row["id"] for row in connection.execute(ALL)]
 
 
-def catalogues_of(connection: sqlite3.Connection, recording: int) -> List[Candidate]:
+def catalogues_of(connection: sqlite3.Connection, recording: int) -> list[Candidate]:
     """The catalogues of a recording that are there: the one that was asked in place of its sources, or else those among
     them. If there is none, that is told."""
     rows = [row for row in connection.execute(CATALOGUES, (recording,))]
@@ -71,7 +71,7 @@ def catalogues_of(connection: sqlite3.Connection, recording: int) -> List[Candid
     return there
 
 
-def found_in(tool: asking.Tool, candidates: List[Candidate], sources: asking.Sources) -> List[asking.Line]:
+def found_in(tool: asking.Tool, candidates: list[Candidate], sources: asking.Sources) -> list[asking.Line]:
     """What `find` prints of the fragments in the candidates, whose numbers are their places. A path with a newline stands
     in no list, so such candidates come first."""
     import tempfile
@@ -84,7 +84,7 @@ def found_in(tool: asking.Tool, candidates: List[Candidate], sources: asking.Sou
         return tool.ask(["find", *named, "--recordings", file.name], sources)
 
 
-def row_of(line: Dict[str, Any], fragments: List[str], candidates: List[Candidate]) -> Tuple[Any, ...]:
+def row_of(line: dict, fragments: list[str], candidates: list[Candidate]) -> tuple:
     """The row of a fragment in a recording, or of one that is in none."""
     fragment = fragments[line["fragment"] - 1]
     if line["line"] == "unknown":

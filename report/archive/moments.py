@@ -1,14 +1,16 @@
 """Times in UTC at which something was done, and timecodes, which number the frames of a day."""
+from __future__ import annotations
+
 import datetime
 import os
 import re
-from typing import Any, Dict, NamedTuple, Optional
+from collections import namedtuple
 
 # A timecode: two digits each, and two to five of the frames.
-TIMECODE = re.compile(r"([0-9]{2}):([0-9]{2}):([0-9]{2})([:;])([0-9]{2,5})")
+TIMECODE = r"([0-9]{2}):([0-9]{2}):([0-9]{2})([:;])([0-9]{2,5})"
 
 # A time in UTC by ISO 8601, to the second.
-IS_TIME = re.compile(r"[0-9]{4}-[0-9]{2}-[0-9]{2}T[0-9]{2}:[0-9]{2}:[0-9]{2}Z")
+TIME = r"[0-9]{4}-[0-9]{2}-[0-9]{2}T[0-9]{2}:[0-9]{2}:[0-9]{2}Z"
 
 HOURS = 24
 
@@ -21,12 +23,22 @@ def now() -> datetime.datetime:
     return datetime.datetime.now(datetime.timezone.utc)
 
 
+def is_time(text: str) -> bool:
+    """Whether a text is a time in UTC, to the second."""
+    return re.fullmatch(TIME, text) is not None
+
+
+def is_timecode(text: str) -> bool:
+    """Whether a text has the form of a timecode."""
+    return re.fullmatch(TIMECODE, text) is not None
+
+
 def text_of(moment: datetime.datetime) -> str:
     """A time in UTC by ISO 8601, to the second."""
     return moment.strftime("%Y-%m-%dT%H:%M:%SZ")
 
 
-def text_of_seconds(seconds: float) -> Optional[str]:
+def text_of_seconds(seconds: float) -> str | None:
     """The same of seconds since 1970; None of a time outside the years 1 to 9999."""
     try:
         return text_of(datetime.datetime.fromtimestamp(int(seconds), datetime.timezone.utc))
@@ -34,7 +46,7 @@ def text_of_seconds(seconds: float) -> Optional[str]:
         return None
 
 
-def text_of_stamp(line: Dict[str, Any]) -> Optional[str]:
+def text_of_stamp(line: dict) -> str | None:
     """A timestamp of header metadata, as it is stored; None of one that is all zeros, which says that none is known."""
     names = ("year", "month", "day", "hour", "minute", "second", "quarter")
     year, month, day, hour, minute, second, quarter = (line[name] for name in names)
@@ -43,11 +55,10 @@ def text_of_stamp(line: Dict[str, Any]) -> Optional[str]:
     return f"{year:04}-{month:02}-{day:02}T{hour:02}:{minute:02}:{second:02}.{4 * quarter:03}"
 
 
-class Counting(NamedTuple):
+class Counting(namedtuple("Counting", "base is_drop")):
     """How the frames of a day are numbered: so many a second, and whether drop frame leaves labels out."""
 
-    base: int
-    is_drop: bool
+    __slots__ = ()
 
     def left_out(self) -> int:
         """How many labels drop frame leaves out of a minute, but for each tenth (ST 12-1)."""
@@ -74,7 +85,7 @@ class Counting(NamedTuple):
 
     def has(self, timecode: str) -> bool:
         """Whether a day has this label. One with a semicolon is of drop frame alone."""
-        hours, minutes, seconds, mark, frames = TIMECODE.fullmatch(timecode).groups()
+        hours, minutes, seconds, mark, frames = re.fullmatch(TIMECODE, timecode).groups()
         if int(hours) >= HOURS or int(minutes) > 59 or int(seconds) > 59 or int(frames) >= self.base:
             return False
         if mark == ";" and not self.is_drop:

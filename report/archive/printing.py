@@ -1,32 +1,47 @@
 """Answers as a table for people, as CSV or as JSON. What a form alone needs is loaded for it."""
+from __future__ import annotations
+
 import re
 import sys
-from typing import Any, Iterable, List, Optional, Sequence, Set
+from collections.abc import Iterable, Sequence
 
 # Characters of control, line ends of Unicode, and marks of direction: a terminal may obey them.
-CONTROL = re.compile("[\x00-\x1f\x7f-\x9f\u2028\u2029\u202a-\u202e\u2066-\u2069]")
+CONTROL = "[\x00-\x1f\x7f-\x9f\u2028\u2029\u202a-\u202e\u2066-\u2069]"
 
-Cells = Sequence[Any]
+Cells = Sequence  # the values of a row or a column
 
 
-def cell(value: Any) -> str:
+def cell(value: object) -> str:
     """A value in a table: - if there is none."""
-    return "-" if value is None else CONTROL.sub("?", str(value))
+    return "-" if value is None else shown(str(value))
 
 
-def cells(column: Cells, kinds: Set[type]) -> List[str]:
-    """The values of a column that has values of these kinds alone."""
+def shown(text: str) -> str:
+    """A text without what a terminal may obey. None of that can be printed."""
+    return text if text.isprintable() else re.sub(CONTROL, "?", text)
+
+
+def texts_of(column: Cells, kinds: set[type]) -> Cells:
+    """The values of a column that has values of these kinds alone, as texts."""
     texts = column if kinds == {str} else ["-" if value is None else str(value) for value in column]
-    return texts if "".join(texts).isprintable() else [CONTROL.sub("?", text) for text in texts]
+    return texts if "".join(texts).isprintable() else list(map(shown, texts))
+
+
+def laid_out(head: str, column: Cells) -> tuple[Cells, str]:
+    """A column below its head, and the form of each of its cells: as wide as the widest, with numbers on the right."""
+    kinds = set(map(type, column))
+    if kinds == {int}:
+        # Numbers are laid out as they are. The widest is the least or the greatest.
+        return [head, *column], f"%{max(len(str(value)) for value in (head, min(column), max(column)))}s"
+    cells = [head, *texts_of(column, kinds)]
+    return cells, f"%{'' if int in kinds else '-'}{max(map(len, cells))}s"
 
 
 def print_table(heads: Sequence[str], rows: Iterable[Cells]) -> None:
-    """Prints columns side by side, with numbers on the right. Nothing stands after the last column."""
-    columns = list(zip(*rows)) or [()] * len(heads)
-    kinds = [set(map(type, column)) for column in columns]
-    texts = [[head, *cells(column, kind)] for head, column, kind in zip(heads, columns, kinds)]
-    form = "  ".join(f"%{'' if int in kind else '-'}{max(map(len, text))}s" for text, kind in zip(texts, kinds))
-    sys.stdout.write("".join([(form % line).rstrip() + "\n" for line in zip(*texts)]))
+    """Prints columns side by side. Nothing stands after the last one."""
+    columns, forms = zip(*map(laid_out, heads, list(zip(*rows)) or [()] * len(heads)))
+    form = "  ".join(forms)
+    sys.stdout.write("".join([(form % line).rstrip() + "\n" for line in zip(*columns)]))
 
 
 def print_csv(heads: Sequence[str], rows: Iterable[Cells]) -> None:
@@ -43,7 +58,7 @@ def print_json(heads: Sequence[str], rows: Iterable[Cells]) -> None:
     print_lines(dict(zip(heads, row)) for row in rows)
 
 
-def print_lines(lines: Iterable[Any]) -> None:
+def print_lines(lines: Iterable[object]) -> None:
     """Prints JSON objects, each on a line of its own."""
     import json
 
@@ -59,7 +74,7 @@ def print_answer(form: str, heads: Sequence[str], rows: Iterable[Cells]) -> None
     FORMS[form](heads, rows)
 
 
-def print_parts(form: str, parts: List[Any]) -> None:
+def print_parts(form: str, parts: list[object]) -> None:
     """Prints tables one after another: each a name, its heads and its rows. In JSON each object says its table first; in
     CSV a line has the table, the number of the row, a head and a value."""
     if form == "csv":
@@ -75,6 +90,6 @@ def print_parts(form: str, parts: List[Any]) -> None:
             print_table(heads, rows)
 
 
-def number_or_none(value: Any) -> Optional[int]:
+def number_or_none(value: object) -> int | None:
     """A number of the database, which stands as text if it is large."""
     return None if value is None else int(value)

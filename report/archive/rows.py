@@ -1,13 +1,15 @@
 """What the lines of a recording say, as rows of the tables of the database."""
+from __future__ import annotations
+
 import collections
-from typing import Any, Dict, Iterable, Iterator, List, Optional
+from collections.abc import Iterable, Iterator
 
 from archive import moments, spans
 from archive.asking import Line, identifier_of
 from archive.faults import DATA, OwnFault
 from archive.gathering import FORMAT
 
-Row = Dict[str, Any]
+Row = dict  # the values of a row, by the names of its columns
 
 GREATEST = 2**63 - 1  # of an INTEGER of SQLite
 
@@ -22,7 +24,7 @@ DAMAGED = ("not-ul", "bad-length", "too-far")
 UNREADABLE = ("F04", "F10", "F11")
 
 
-def number_of(value: Any) -> Any:
+def number_of(value: object) -> object:
     """A number as it is stored: as text if it passes what SQLite takes for one."""
     return str(value) if isinstance(value, int) and abs(value) > GREATEST else value
 
@@ -31,18 +33,18 @@ class Recording:
     """A recording as its lines tell it: its name, its state, what stands in the table of recordings, and rows of others."""
 
     def __init__(self, line: Line) -> None:
-        if line.get("line") != "recording" or line["format"] != FORMAT or not moments.IS_TIME.fullmatch(line["gathered"]):
+        if line.get("line") != "recording" or line["format"] != FORMAT or not moments.is_time(line["gathered"]):
             raise ValueError("no first line of a recording")
         self.name: str = line["name"]
         self.state: Row = {"gathered": line["gathered"], "program": line["program"], "is_skim": int(line["skim"])}
         self.facts: Row = {"pattern": None, "metadata": None, "chain": None}
-        self.rows: Dict[str, List[Row]] = collections.defaultdict(list)
+        self.rows: dict[str, list[Row]] = collections.defaultdict(list)
         self.command = ""
-        self.index_sid: Optional[int] = None
-        self.packages: Dict[str, int] = {}  # the number of each by its identifier
+        self.index_sid: int | None = None
+        self.packages: dict[str, int] = {}  # the number of each by its identifier
         self.essence: Line = {}
-        self.texts: Dict[Any, None] = {}
-        self.identifiers: Dict[Any, None] = {}
+        self.texts: dict[object, None] = {}
+        self.identifiers: dict[object, None] = {}
         self.add_text("recording", self.name)
 
     def take(self, line: Line) -> None:
@@ -57,17 +59,17 @@ class Recording:
             name = f"{self.command}_{line['line']}".replace("-", "_")
             getattr(self, name, lambda _: None)(line)
 
-    def add(self, table: str, **row: Any) -> int:
+    def add(self, table: str, **row: object) -> int:
         """Adds a row to a table, and answers its number there, from 1 on."""
         rows = self.rows[table]
         rows.append({name: number_of(value) for name, value in row.items()})
         return len(rows)
 
-    def add_numbered(self, table: str, **row: Any) -> int:
+    def add_numbered(self, table: str, **row: object) -> int:
         """Adds a row that has its number."""
         return self.add(table, number=len(self.rows[table]) + 1, **row)
 
-    def add_text(self, what: str, text: Optional[str]) -> None:
+    def add_text(self, what: str, text: str | None) -> None:
         """Adds a text by whose words the recording is found."""
         if text:
             self.texts[what, text] = None
@@ -109,7 +111,7 @@ class Recording:
         if line["target"] == "found":
             self.add_numbered("programs", **dict.fromkeys(names))
 
-    def add_to_program(self, line: Line, name: str, value: Optional[str]) -> None:
+    def add_to_program(self, line: Line, name: str, value: str | None) -> None:
         """Adds what is said of the last program."""
         if "identification" in line and self.rows["programs"]:
             self.rows["programs"][-1][name] = value
@@ -193,11 +195,11 @@ class Recording:
         span = spans.span_of_component(line, spans.rate_of(self.rows["tracks"][-1]["rate"]))
         self.add_hours(span, clock=None, timecode=number)
 
-    def add_component(self, table: str, line: Line, **row: Any) -> int:
+    def add_component(self, table: str, line: Line, **row: object) -> int:
         """Adds a component of a track."""
         return self.add_numbered(table, package=self.packages[line["of-package"]], track=line["of-track"], **row)
 
-    def add_hours(self, span: Optional[spans.Span], **of: Any) -> None:
+    def add_hours(self, span: spans.Span | None, **of: object) -> None:
         """Adds the hours of the day of which a clock or a timecode component has a part."""
         for hour in span.hours() if span else ():
             self.add_numbered("hours", **of, **hour)
@@ -226,7 +228,7 @@ class Recording:
         number = self.add_numbered("clocks", index_sid=line["index-sid"], told_by=line["by"], **row)
         self.add_hours(spans.span_of_clock(line, self.rate_of_index(line["index-sid"])), clock=number, timecode=None)
 
-    def rate_of_index(self, index_sid: int) -> Optional[spans.Rate]:
+    def rate_of_index(self, index_sid: int) -> spans.Rate | None:
         """The edit units a second of an index, by the essence track of its package."""
         packages = {row["number"] for row in self.rows["packages"] if row["index_sid"] == index_sid}
         tracks = [row for row in self.rows["tracks"] if row["package"] in packages]
@@ -285,18 +287,18 @@ class Recording:
         self.rows["identifiers"] = [{"what": what, "uid": uid} for what, uid in self.identifiers]
         return self
 
-    def main(self) -> Optional[Row]:
+    def main(self) -> Row | None:
         """The package that stands for the recording: the first material package, or else one with a container, or any."""
         ranks = (lambda one: one["kind"] == "material", lambda one: one["body_sid"] is not None, lambda one: True)
         return next((one for is_so in ranks for one in self.rows["packages"] if is_so(one)), None)
 
 
-def is_unreadable(rows: Dict[str, List[Row]]) -> bool:
+def is_unreadable(rows: dict[str, list[Row]]) -> bool:
     """Whether a source is damaged, or bytes that are held can't be read."""
     return bool(rows["stops"]) or any(row["code"] in UNREADABLE for row in rows["findings"])
 
 
-def essence_track(tracks: List[Row]) -> Optional[Row]:
+def essence_track(tracks: list[Row]) -> Row | None:
     """The first picture track of these, or else sound track, or else data track."""
     return next((track for kind in ("picture", "sound", "data") for track in tracks if track["kind"] == kind), None)
 

@@ -1,38 +1,38 @@
 """Which timecodes of a day clocks and timecode components have, hour by hour."""
-from typing import Any, Dict, Iterator, NamedTuple, Optional
+from __future__ import annotations
+
+from collections import namedtuple
+from collections.abc import Iterator
 
 from archive.moments import HOURS, Counting
 
 
-class Span(NamedTuple):
-    """Timecodes one after another: the first, how many there are, and whether there may be more than is known."""
+class Span(namedtuple("Span", "first count counting is_open")):
+    """Timecodes one after another: the first, how many there are, how they are numbered, and whether there may be more than is
+    known."""
 
-    first: str
-    count: int
-    counting: Counting
-    is_open: bool
+    __slots__ = ()
 
-    def hours(self) -> Iterator[Dict[str, Any]]:
+    def hours(self) -> Iterator[dict]:
         """What of them lies in each hour of a day, as rows of the table hours. A day is all that there is."""
         counting, day = self.counting, self.counting.day()
-        begin = counting.number(self.first)
+        begin, first = counting.number(self.first), int(self.first[:2])
         end = begin + min(max(self.count, 1), day)
-        for turn in (0, day):
-            for hour in range(HOURS):
-                border = counting.number(f"{hour:02}:00:00:00") + turn
-                after = border + day // HOURS
-                if begin < after and border < end:
-                    yield {
-                        "hour": hour, "base": counting.base, "is_drop": int(counting.is_drop), "is_open": int(self.is_open),
-                        "first": counting.label(max(begin, border) - turn), "last": counting.label(min(end, after) - 1 - turn),
-                    }  # fmt: skip
+        for turn, hour in (divmod(place, HOURS) for place in range(first, min(first + HOURS + 1, 2 * HOURS))):
+            border = counting.number(f"{hour:02}:00:00:00") + turn * day
+            after = border + day // HOURS
+            if border >= end:
+                return
+            yield {
+                "hour": hour, "base": counting.base, "is_drop": int(counting.is_drop), "is_open": int(self.is_open),
+                "first": counting.label(max(begin, border) - turn * day), "last": counting.label(min(end, after) - 1 - turn * day),
+            }  # fmt: skip
 
 
-class Rate(NamedTuple):
+class Rate(namedtuple("Rate", "above below")):
     """Edit units a second: a fraction whose numbers are above 0."""
 
-    above: int
-    below: int
+    __slots__ = ()
 
     def nearest(self) -> int:
         """The whole number that is nearest, the even one of two."""
@@ -40,7 +40,7 @@ class Rate(NamedTuple):
         return whole + (2 * rest + whole % 2 > self.below)
 
 
-def span_of_clock(line: Dict[str, Any], rate: Optional[Rate]) -> Span:
+def span_of_clock(line: dict, rate: Rate | None) -> Span:
     """The timecodes of a run of a clock. At this rate its positions follow one another, if that is known: a run that is
     longer than a day has all timecodes. One without an end has all from the first one up to midnight, as far as is known."""
     counting = Counting(line["base"], ";" in line["first"])
@@ -52,7 +52,7 @@ def span_of_clock(line: Dict[str, Any], rate: Optional[Rate]) -> Span:
     return Span(line["first"], count, counting, False)
 
 
-def span_of_component(line: Dict[str, Any], rate: Optional[Rate]) -> Optional[Span]:
+def span_of_component(line: dict, rate: Rate | None) -> Span | None:
     """The timecodes of a timecode component in a track of this rate; None if it says none."""
     if line["at"] is None or not line["base"]:
         return None
@@ -64,7 +64,7 @@ def span_of_component(line: Dict[str, Any], rate: Optional[Rate]) -> Optional[Sp
     return Span(line["at"], count, counting, False) if duration > 0 else None
 
 
-def rate_of(text: Optional[str]) -> Optional[Rate]:
+def rate_of(text: str | None) -> Rate | None:
     """A rate, if both its numbers are above 0."""
     above, _, below = (text or "").partition("/")
     is_good = above.isdigit() and below.isdigit() and int(above) > 0 and int(below) > 0

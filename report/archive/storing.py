@@ -1,6 +1,7 @@
 """What is written to the database: recordings, and what comes of verifying them."""
+from __future__ import annotations
+
 import sqlite3
-from typing import Any, Dict, List, Optional
 
 from archive import moments, schema
 from archive.asking import Line
@@ -11,7 +12,7 @@ from archive.texts import words_of
 COUNTS = ("packets", "held", "missing", "findings", "disputes", "orders")
 
 
-def insert(connection: sqlite3.Connection, table: str, recording: int, rows: List[Row]) -> None:
+def insert(connection: sqlite3.Connection, table: str, recording: int, rows: list[Row]) -> None:
     """Adds rows of a recording to a table."""
     if rows:
         names = list(rows[0])
@@ -21,7 +22,7 @@ def insert(connection: sqlite3.Connection, table: str, recording: int, rows: Lis
         connection.executemany(f"INSERT INTO {table} (recording, {columns}) VALUES (?, {marks})", values)
 
 
-def is_known(connection: sqlite3.Connection, name: str) -> Optional[int]:
+def is_known(connection: sqlite3.Connection, name: str) -> int | None:
     """The number of a recording, if the database has one of this name."""
     found = connection.execute("SELECT id FROM recordings WHERE name = ?", (name,)).fetchone()
     return found["id"] if found else None
@@ -86,8 +87,8 @@ def settle(connection: sqlite3.Connection, identity: int) -> None:
     )  # fmt: skip
 
 
-def store_verification(connection: sqlite3.Connection, identity: int, told: Dict[str, Any], lines: List[Line],
-                       words: List[str]) -> None:  # fmt: skip
+def store_verification(connection: sqlite3.Connection, identity: int, told: dict, lines: list[Line],
+                       words: list[str]) -> None:  # fmt: skip
     """Adds what `verify` says: when and against what, its counts, and what differs. Its sources stand with their words."""
     number = connection.execute(
         "SELECT coalesce(max(number), 0) + 1 FROM verifications WHERE recording = ?", (identity,)
@@ -103,7 +104,7 @@ def store_verification(connection: sqlite3.Connection, identity: int, told: Dict
     settle(connection, identity)
 
 
-def difference_of(line: Line, words: List[str]) -> Row:
+def difference_of(line: Line, words: list[str]) -> Row:
     """What differs, is cut, unknown or unverified, as a row: from where to where its bytes go."""
     row = {"what": line["line"], "source": words[line["source"] - 1] if "source" in line else None}
     if "start" in line:
