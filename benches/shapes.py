@@ -189,6 +189,39 @@ def listed(count: int) -> list[bytes]:
     return [b"".join(parts + segments(count, lambda unit: str(UNIT * unit)))]
 
 
+def lost_partitions(count: int) -> list[list[notes.Note]]:
+    """What a catalogue has of a closed recording of `count` partitions with an edit unit each: every other partition, and
+    the footer with the index and the random index pack."""
+    unit = essence_packet(VALUE)
+    size = PACK + len(unit)
+    footer = count * size
+    parts = []
+    for number in range(count):
+        this = number * size
+        states = f"previous={max(0, this - size)} footer={footer} body-sid=2 body-offset={number * len(unit)}"
+        parts += [laid(f"{'body' if number else 'header'} {states}", this), unit]
+    index = segments(count // LISTED, lambda unit: str(UNIT * unit))
+    states = f"previous={footer - size} footer={footer} index-bytes={sum(map(len, index))} index-sid=1"
+    listed = " ".join(f"2:{number * size}" for number in range(count))
+    parts += [laid(f"footer {states}", footer), *index, laid(f"rip {listed} 0:{footer}")]
+    return [[note for note in noted(parts) if note.offset >= footer or note.offset // size % 2 == 0]]
+
+
+def constant_index(partitions: int, repeated: bool) -> bytes:
+    """`partitions` partitions of 250 edit units of one size each, of which the first packet is there. Their index stands
+    in the first, or is repeated in each."""
+    segment = laid(f"segment unit-bytes={UNIT}")
+    parts, this, previous = [], 0, 0
+    for number in range(partitions):
+        index = segment if repeated or number == 0 else b""
+        states = f"previous={previous} index-bytes={len(index)} index-sid={1 if index else 0} body-sid=2"
+        name = "body" if number else "header"
+        part = laid(f"{name} {states} body-offset={LISTED * UNIT * number}", this) + index + essence_packet(VALUE)
+        parts.append(part)
+        previous, this = this, this + len(part)
+    return b"".join(parts)
+
+
 def timed(count: int) -> list[bytes]:
     """The same with a clip in the header metadata that gives each edit unit its timecode. The pictures are stored in
     another order than they are shown: the first, and then of each three the last one first."""
@@ -214,9 +247,9 @@ def again(count: int) -> list[bytes]:
 
 @dataclass(frozen=True)
 class Shape:
-    """What the counts are of, what is asked, the least count, and what makes the pieces, which all begin at 0. Of a
-    verification also what makes the contents of saved catalogues, the first of which is the reference and the others
-    are sources after the pieces, and the options."""
+    """What the counts are of, what is asked, the least count, and what makes the pieces, which all begin at 0; also what
+    makes the contents of saved catalogues, which are sources after the pieces, and the options. Of a verification the
+    first of the catalogues is the reference."""
 
     unit: str
     question: str
@@ -240,6 +273,9 @@ SHAPES = {
     "readings": Shape("disputed notes of two sources", "sources", 37_500, disputed),
     "beside": Shape("disputed notes of a reference", "verify", 37_500, beside, contents_beside),
     "listed": Shape("segments of 250 units", "units", 450, listed),
+    "lost_partitions": Shape(
+        "partitions, every other lost", "plan", 4000, lambda _: [], lost_partitions, ("--index", "1")
+    ),
     "tracks": Shape("tracks in packages of a thousand", "describe", 2000, tracks),
     "again": Shape("references to one set in each list", "describe", 500, again),
     "units": Shape("units in as many ranges", "verify", 37_500, units, contents_of_units, ("--index", "1")),
@@ -259,5 +295,6 @@ def write_shape(name: str, count: int, folder: Path) -> list[str]:
         path = folder / f"{name}_{number}.cat"
         path.write_bytes(notes.file_of(content))
         catalogues.append(f"cat:{path}")
-    against = [word for reference in catalogues[:1] for word in ("--against", reference)]
-    return [*against, *shape.options, *sources, *catalogues[1:]]
+    if shape.question != "verify":
+        return [*shape.options, *sources, *catalogues]
+    return ["--against", catalogues[0], *shape.options, *sources, *catalogues[1:]]

@@ -2,7 +2,7 @@
 use Rattle.mxf_views.proofs.Common.{◌≡◌, ◌↔◌, ◌⊎◌, ◌∙◌, ◌++◌, ◌+◌, ◌<◌, ◌==◌, ℕ, List, [], ◌∷◌, Some, ap}
 use Rattle.mxf_views.proofs.Common.{arith, inl, inr, Err, Ok, Result, true, filter_map, map, refl, subst, sym, zero}
 use Rattle.mxf_views.proofs.Common.{suc, same_Some, range_with_len, result_ok, ◌-◌, In, IsRising}
-use Rattle.mxf_views.proofs.Common.{In-append, In-filter_map, all_from_In, find-only, found-In}
+use Rattle.mxf_views.proofs.Common.{AllByRecursion, In-append, In-filter_map, In-map, all_from_In, find-only, found-In}
 use Rattle.mxf_views.proofs.Common.{one_by_key, RiseBy}
 use Rattle.mxf_views.proofs.KeyedLists.{rise_by}
 use Rattle.mxf_klv.proofs.RisingBy.{IsRisingFrom, at_or_above, rises-filter_map}
@@ -23,7 +23,7 @@ use Rattle.mxf_partial.specs.Asks.{IsAskedByIndex, IsAskedByUnit, NeedsLimit, Ne
 use Rattle.mxf_partial.specs.Named.{AreNamed, IsNamedBy, named_at}
 use Rattle.mxf_partial.specs.Near.{MayLieAt}
 use Rattle.mxf_partial.specs.Questions.{limit_asked, number_unindexed, partition_asked, way_asked}
-use Rattle.mxf_partial.specs.Wanted.{WantedParts, notes_of, wanted_units}
+use Rattle.mxf_partial.specs.Wanted.{IsOwn, WantedParts, notes_of, wanted_units}
 use Rattle.mxf_partial.specs.Ways.{LeadsTo}
 use Rattle.mxf_partial.proofs.ChosenLaws.{keys_rise, numbers_rise}
 use Rattle.mxf_units.specs.declared.standing.UnitStanding.TheVariants as standings
@@ -202,6 +202,15 @@ pub units_rise : (u : UnitsParts) (first count : ℕ) → RiseBy (λ e. e.number
 units_rise u first count =
     let from = needed_from first (units_from u first count) in
     rising_by from _ (rising_from (unit_of u.known u.index_sid) (number_of u) from (first - from + count))
+
+-- Each of them is the unit of its number.
+pub own_unit : (u : UnitsParts) (k : ℕ) (unit : EditUnit) → unit ≡ unit_of u.known u.index_sid k → IsOwn u unit
+own_unit u k unit e =
+    e ∙ ap (unit_of u.known u.index_sid) (sym (ap (λ (v : EditUnit). v.number) e ∙ number_of u k))
+
+pub units_own : (u : UnitsParts) (first count : ℕ) → AllByRecursion (IsOwn u) (units_from u first count)
+units_own u first count = all_from_In (IsOwn u) (units_from u first count) (λ unit h.
+    let s = (In-map (unit_of u.known u.index_sid) (range_with_len first count) unit).0 h in own_unit u s.0 unit s.2)
 
 -- The numbers of units that no segment places rise as those of all do.
 pub numbers_are_rising : (units : List EditUnit) → RiseBy (λ u. u.number) units

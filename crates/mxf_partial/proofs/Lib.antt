@@ -1,4 +1,4 @@
-pub mod WantedLaws
+pub mod GatheredLaws
 pub mod FrontLaws
 pub mod StartLaws
 pub mod ChosenLaws

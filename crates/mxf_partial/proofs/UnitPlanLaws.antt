@@ -104,53 +104,6 @@ there_is w orders runs finding cover are = record {
       );
 }
 
-pub joined : {E : Type 0} (known : KnownParts) (orders : List Order) (held ordered : List Run) (result : Result Cover E)
-    → AreKnown known held → ((x : ℕ) → LiesIn ordered x ↔ IsOrdered orders x)
-    → IfOk result (λ c. c ≡ union_of_runs held ordered)
-    → IfOk result (λ c. (x : ℕ) → LiesIn c x ↔ (IsKnown known x ⊎ IsOrdered orders x))
-joined known orders held ordered (Ok c) are so is = λ x.
-    let both = union_of_runs-IsUnion held ordered x in (
-      λ h. elim (both.0 (subst (λ (runs : List Run). LiesIn runs x) is h)) [
-        | inl k ↦ inl ((are x).0 k)
-        | inr k ↦ inr ((so x).0 k)
-      ],
-      λ h. subst (λ (runs : List Run). LiesIn runs x) (sym is) (both.1 (elim h [
-        | inl k ↦ inl ((are x).1 k)
-        | inr k ↦ inr ((so x).1 k)
-      ])),
-    )
-joined known orders held ordered (Err e) are so is = tt
-
--- One order more.
-pub one_order_more : (orders : List Order) (i : ℕ) (d : Order) (old new : List Run) (x : ℕ) → i < length orders
-    → LiesIn new x ↔ (LiesIn old x ⊎ (LiesInOrder (get_or orders i d) x × (x < greatest_end)))
-    → (LiesIn old x ⊎ IsOrdered (drop i orders) x) ↔ IsOrdered orders x
-    → (LiesIn new x ⊎ IsOrdered (drop (i + 1) orders) x) ↔ IsOrdered orders x
-one_order_more orders i d old new x less more so =
-    let next : suc i ≡ i + 1 = omega arith in
-    let e = drop-cons orders i d less ∙ ap (λ k. get_or orders i d ∷ drop k orders) next in (
-      λ h. so.0 (elim h [
-        | inl k ↦ elim (more.0 k) [
-          | inl m ↦ inl m
-          | inr m ↦ inr (subst (λ l. IsOrdered l x) (sym e) ((get_or orders i d, inl refl, m.0), m.1))
-        ]
-        | inr k ↦ inr (subst (λ l. IsOrdered l x) (sym e) ((k.0.0, inr k.0.1, k.0.2), k.1))
-      ]),
-      λ h. elim (so.1 h) [ inl k ↦ inl (more.1 (inl k)) | inr k ↦ first_or_later (subst (λ l. IsOrdered l x) e k) ],
-    )
-  where
-    first_or_later : IsOrdered (get_or orders i d ∷ drop (i + 1) orders) x
-        → LiesIn new x ⊎ IsOrdered (drop (i + 1) orders) x
-    first_or_later k = elim k.0.1 [
-      | inl f ↦ inl (more.1 (inr (subst (λ (o : Order). LiesInOrder o x) f k.0.2, k.1)))
-      | inr f ↦ inr ((k.0.0, f, k.0.2), k.1)
-    ]
-
--- No order is left.
-pub no_order_more : (orders : List Order) (i : ℕ) (runs : List Run) (x : ℕ) → length orders ≤ i
-    → (LiesIn runs x ⊎ IsOrdered (drop i orders) x) ↔ IsOrdered orders x → LiesIn runs x ↔ IsOrdered orders x
-no_order_more orders i runs x far so = grind (arith, drop_all)
-
 -- ---- what is wanted
 
 named_says : (notes : List NoteParts) (named : List NamedPlace) (x : ℕ) → AreNamed notes named

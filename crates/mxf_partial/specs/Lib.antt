@@ -1,4 +1,5 @@
 pub mod Named
+pub mod Gathered
 pub mod Wanted
 pub mod Streams
 pub mod InStreams

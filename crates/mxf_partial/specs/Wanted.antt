@@ -1,16 +1,18 @@
 -- The edit units that are wanted of an index, and the bytes that are wanted of them (this project's profile; key frames
 -- are those that entries name, ST 377-1, Index Table Segment).
-use Rattle.std.specs.Prelude.{◌≡◌, ℕ, ◌<◌, Bool, true, false, if◌then◌else◌, Option, None, Some, List, Result, Ok, Err}
-use Rattle.std.specs.List.{list_all}
-use Rattle.std.specs.Option.{option_map_or, option_or}
+use Rattle.std.specs.Prelude.{◌≡◌, ℕ, ◌<◌, Bool, true, false, if◌then◌else◌, is_some, Option, None, Some, List, [], ◌∷◌, Result, Ok, Err}
+use Rattle.std.specs.List.{filter_map, list_all}
+use Rattle.std.specs.Option.{option_and_then, option_map, option_map_or, option_or}
 use Rattle.mxf_klv.specs.Parts.{NoteParts}
 use Rattle.mxf_klv.specs.Note.{greatest_end}
 use Rattle.mxf_klv.specs.Rising.{In}
+use Rattle.mxf_catalogue.specs.declared.run.Run.{Run}
 use Rattle.mxf_places.specs.AtHand.{AtHandParts, LiesBetween}
 use Rattle.mxf_restore.specs.declared.named.NamedPlace.{NamedPlace}
+use Rattle.mxf_partial.specs.Gathered.{run_of_extent}
 use Rattle.mxf_partial.specs.Named.{IsNamed, is_named}
 use Rattle.mxf_units.specs.Ranges.{units_with_keys}
-use Rattle.mxf_units.specs.Units.{UnitsParts, location_of}
+use Rattle.mxf_units.specs.Units.{UnitsParts, location_of, unit_of}
 use Rattle.mxf_units.specs.declared.location.Location.{Location}
 use Rattle.mxf_units.specs.declared.standing.UnitStanding.{UnitStanding}
 use Rattle.mxf_units.specs.declared.standing.UnitStanding.TheVariants as standings
@@ -49,6 +51,10 @@ wanted_units w = w.wanted
 abbrev pub is_indexed : UnitStanding → Bool
 is_indexed standings.NotIndexed = false
 is_indexed _ = true
+
+-- The unit is the one of the index that has its number.
+abbrev pub IsOwn : UnitsParts → EditUnit → Type 0
+IsOwn u unit = unit ≡ unit_of u.known u.index_sid unit.number
 
 -- One gives each wanted unit a place.
 abbrev pub are_indexed : WantedParts → Bool
@@ -107,9 +113,22 @@ abbrev pub wanted_by : List NamedPlace → UnitStanding → Result Location Unit
 wanted_by named standing (Err other) = None
 wanted_by named standing (Ok l) = wanted_at named standing l
 
+-- The extent of a unit that is missing or there in part, if its end is known.
+abbrev pub whole_extent_as : UnitStanding → Option Extent → Option Extent
+whole_extent_as standings.Missing extent = option_and_then (λ e. if is_some e.end then Some e else None) extent
+whole_extent_as standings.Part extent = option_and_then (λ e. if is_some e.end then Some e else None) extent
+whole_extent_as _ extent = None
+
+abbrev pub whole_extent : EditUnit → Option Extent
+whole_extent unit = whole_extent_as unit.standing unit.extent
+
 -- The bytes that are wanted of a unit, if some are.
 abbrev pub wanted_of : List NamedPlace → UnitsParts → EditUnit → Option Extent
 wanted_of named u unit = wanted_by named unit.standing (location_of u.known.notes u.index_sid unit.number)
+
+-- The run that is wanted of a unit, if one is.
+abbrev pub wanted_run : List NamedPlace → UnitsParts → EditUnit → Option Run
+wanted_run named u unit = option_map run_of_extent (wanted_of named u unit)
 
 -- An offset of these lies below the end of files.
 abbrev pub HasByteOf : List NamedPlace → UnitsParts → List EditUnit → ℕ → Type 0
@@ -120,3 +139,8 @@ HasByteOf named u units x =
 abbrev pub HasByteBy : List NamedPlace → WantedParts → Option Extent → ℕ → Type 0
 HasByteBy named w None x = HasByteOf named w.units (wanted_units w) x
 HasByteBy named w (Some e) x = LiesBetween e.start e.end x × (x < greatest_end)
+
+-- The runs of the bytes that are wanted, in the order of the units.
+abbrev pub wanted_runs : List NamedPlace → WantedParts → Option Extent → List Run
+wanted_runs named w None = filter_map (wanted_run named w.units) (wanted_units w)
+wanted_runs named w (Some e) = run_of_extent e ∷ []

@@ -11,6 +11,7 @@ ghost use Rattle.mxf_views.specs.Copies.{copies_of, preferred_of};
 ghost use Rattle.mxf_restore.specs.Plan.{LiesInOrder, order_cmp};
 ghost use Rattle.mxf_restore.specs.declared.plan.Order.{Order};
 ghost use Rattle.mxf_units.specs.Units.{IsKnown};
+ghost use Rattle.mxf_partial.specs.Gathered.{run_of_order};
 ghost use Rattle.mxf_partial.specs.Named.{AreNamed};
 ghost use Rattle.mxf_places.specs.declared.reason.Reason.{Reason};
 ghost use Rattle.mxf_partial.specs.Orders.{IsFindingOrder, IsOrdered, IsUnitPlan, UnitPlanParts, is_described};
@@ -21,14 +22,14 @@ mod metadata;
 
 use crate::asks::asked_places;
 use crate::leads::{add_fronts, helping_orders};
-use crate::wanted::{add_extent, wanted_bytes};
+use crate::wanted::{run_of_extent, wanted_bytes};
 use crate::wanted_units::WantedUnits;
 pub use metadata::metadata_plan_by_definition;
-use mxf_catalogue::{Cover, Semilattice};
+use mxf_catalogue::{Cover, Run};
 use mxf_klv::{MAX, OutOfMemory, sort_once};
 use mxf_places::{AtHand, Claim, OffsetRange, Reason, claims, ranges_lacking};
 use mxf_restore::{NamedPlace, Order, SectionOrders, is_again, named_places, sections};
-use mxf_units::{Extent, UnitStanding, Units};
+use mxf_units::{Extent, UnitStanding, Units, cover_of};
 use mxf_views::Views;
 use std::alloc::Global;
 use std::marker::Model;
@@ -161,31 +162,27 @@ fn is_none(orders: &[Order]) -> bool
 fn there(alloc: Global, units: &Units<'_>, orders: &[Order]) -> Result<Cover, OutOfMemory>
     ensures { IfOk result (λ c. (x : ℕ) → LiesIn c x ↔ (IsKnown units.now.known x ⊎ IsOrdered orders.now x)) }
 {
-    let ordered = ordered(alloc, orders)?;
-    Cover::join(alloc, units.known(), &ordered)
+    let mut runs: Vec<Run> = units.known().runs().collect(alloc)?;
+    add_ordered(&mut runs, orders)?;
+    cover_of(alloc, runs)
 }
 
-/// The offsets of orders, as far as files reach. They take memory.
-fn ordered(alloc: Global, orders: &[Order]) -> Result<Cover, OutOfMemory>
-    ensures { IfOk result (λ c. (x : ℕ) → LiesIn c x ↔ IsOrdered orders.now x) }
+/// Adds the runs of orders, as far as files reach.
+fn add_ordered(runs: &mut Vec<Run>, orders: &[Order]) -> Result<(), OutOfMemory>
+    ensures { OnOk result (runs.new.items ≡ runs.old.items ++ map run_of_order orders.now) }
 {
-    let mut ordered = Cover::new(alloc);
-    for order in orders {
-        add_order(&mut ordered, order)?;
-    }
-    Ok(ordered)
+    let found = orders.iter().map(|order| run_of_order(order));
+    Ok(runs.extend(found)?)
 }
 
-/// Adds the offsets of an order, as far as files reach.
-fn add_order(cover: &mut Cover, order: &Order) -> Result<(), OutOfMemory>
-    ensures { OnOk result ((x : ℕ) → LiesIn cover.new x
-        ↔ (LiesIn cover.old x ⊎ (LiesInOrder order.now x × (x < greatest_end)))) }
+/// The run of an order, as far as files reach.
+fn run_of_order(order: &Order) -> Run
+    ensures { result ≡ run_of_order order.now }
 {
-    let extent = Extent {
+    run_of_extent(Extent {
         start: order.start,
         end: order.end,
-    };
-    add_extent(cover, Some(extent))
+    })
 }
 
 /// Adds the orders of what is wanted and isn't there.

@@ -1,17 +1,18 @@
 //! The bytes that are wanted of edit units.
-ghost use Rattle.std.specs.Prelude.{◌≡◌, ◌↔◌, ◌⊎◌, ◌<◌, ℕ, IfOk, OnOk};
-ghost use Rattle.mxf_klv.specs.Note.{greatest_end};
+ghost use Rattle.std.specs.Prelude.{◌≡◌, ◌↔◌, ◌∷◌, [], ℕ, IfOk};
+ghost use Rattle.std.specs.List.{filter_map};
 ghost use Rattle.mxf_catalogue.specs.Runs.{LiesIn};
 ghost use Rattle.mxf_views.specs.Rises.{RiseBy};
-ghost use Rattle.mxf_partial.specs.Wanted.{HasByte, HasByteBy, HasByteOf, is_limit_named, reach_of, wanted_at};
-ghost use Rattle.mxf_partial.specs.Wanted.{wanted_of, wanted_units};
+ghost use Rattle.mxf_partial.specs.Gathered.{run_of_extent};
+ghost use Rattle.mxf_partial.specs.Wanted.{HasByteBy, IsOwn, is_limit_named, reach_of, wanted_at, wanted_of, wanted_run};
+ghost use Rattle.mxf_partial.specs.Wanted.{wanted_runs, wanted_units, whole_extent};
 
 use crate::named::is_named;
 use crate::wanted_units::WantedUnits;
-use mxf_catalogue::Cover;
+use mxf_catalogue::{Cover, Run};
 use mxf_klv::{MAX, OutOfMemory};
 use mxf_restore::NamedPlace;
-use mxf_units::{EditUnit, Extent, Location, UnitStanding, Units};
+use mxf_units::{EditUnit, Extent, Location, UnitStanding, Units, cover_of};
 use std::alloc::Global;
 
 /// The offsets of the bytes that are wanted, as far as files reach. They take memory.
@@ -23,39 +24,103 @@ pub(crate) fn wanted_bytes(
     requires { RiseBy (λ n. n.place) named.now }
     ensures { IfOk result (λ c. (x : ℕ) → LiesIn c x ↔ HasByteBy named.now wanted.now wanted.now.bytes x) }
 {
-    let mut bytes = Cover::new(alloc);
-    match wanted.bytes() {
-        Some(extent) => add_extent(&mut bytes, Some(extent))?,
-        None => add_each(&mut bytes, wanted, named)?,
-    }
-    Ok(bytes)
+    cover_of(alloc, wanted_runs(alloc, wanted, named)?)
 }
 
-/// Adds the bytes that are wanted of each unit, as far as files reach.
-fn add_each(
-    bytes: &mut Cover,
+/// The runs of the bytes that are wanted, as far as files reach. They take memory.
+fn wanted_runs(
+    alloc: Global,
     wanted: &WantedUnits<'_>,
     named: &[NamedPlace],
-) -> Result<(), OutOfMemory>
+) -> Result<Vec<Run>, OutOfMemory>
     requires { RiseBy (λ n. n.place) named.now }
-    ensures { OnOk result ((x : ℕ) → LiesIn bytes.new x
-        ↔ (LiesIn bytes.old x ⊎ HasByteOf named.now wanted.now.units (wanted_units wanted.now) x)) }
+    ensures { IfOk result (λ v. v.items ≡ wanted_runs named.now wanted.now wanted.now.bytes) }
 {
-    let units = wanted.units();
-    for unit in wanted.wanted() {
-        add_extent(bytes, wanted_of(named, units, unit))?;
+    match wanted.bytes() {
+        Some(extent) => one_run(alloc, extent),
+        None => runs_of_units(alloc, wanted, named),
     }
-    Ok(())
 }
 
-/// The bytes that are wanted of a unit, if some are.
+/// The run of some bytes alone. It takes memory.
+fn one_run(alloc: Global, extent: Extent) -> Result<Vec<Run>, OutOfMemory>
+    ensures { IfOk result (λ v. v.items ≡ run_of_extent extent ∷ []) }
+{
+    let mut runs = Vec::new(alloc);
+    runs.push(run_of_extent(extent))?;
+    Ok(runs)
+}
+
+/// The runs that are wanted of each unit, as far as files reach. They take memory.
+fn runs_of_units(
+    alloc: Global,
+    wanted: &WantedUnits<'_>,
+    named: &[NamedPlace],
+) -> Result<Vec<Run>, OutOfMemory>
+    requires { RiseBy (λ n. n.place) named.now }
+    ensures { IfOk result (λ v. v.items ≡ filter_map (wanted_run named.now wanted.now.units) (wanted_units wanted.now)) }
+{
+    let units = wanted.units();
+    let mut runs = Vec::new(alloc);
+    for unit in wanted.wanted() {
+        if let Some(run) = wanted_run(named, units, unit) {
+            runs.push(run)?;
+        }
+    }
+    Ok(runs)
+}
+
+/// The run that is wanted of a unit, if one is.
+fn wanted_run(named: &[NamedPlace], units: &Units<'_>, unit: &EditUnit) -> Option<Run>
+    requires named { RiseBy (λ n. n.place) named.now }
+    requires own { IsOwn units.now unit.now }
+    ensures { result ≡ wanted_run named.now units.now unit.now }
+{
+    wanted_of(named, units, unit).map(run_of_extent)
+}
+
+/// The bytes that are wanted of a unit, if some are. Where it is looked for is asked only if its extent doesn't say it.
 fn wanted_of(named: &[NamedPlace], units: &Units<'_>, unit: &EditUnit) -> Option<Extent>
+    requires named { RiseBy (λ n. n.place) named.now }
+    requires own { IsOwn units.now unit.now }
+    ensures { result ≡ wanted_of named.now units.now unit.now }
+{
+    if let Some(extent) = whole_extent(unit) {
+        return Some(extent);
+    }
+    match unit.standing {
+        UnitStanding::Missing | UnitStanding::Part | UnitStanding::Unsure => {
+            wanted_there(named, units, unit)
+        }
+        _ => None,
+    }
+}
+
+/// The same, by where the unit is looked for.
+fn wanted_there(named: &[NamedPlace], units: &Units<'_>, unit: &EditUnit) -> Option<Extent>
     requires { RiseBy (λ n. n.place) named.now }
     ensures { result ≡ wanted_of named.now units.now unit.now }
 {
     match units.location(unit.number) {
         Ok(location) => wanted_at(named, unit.standing, location),
         Err(_) => None,
+    }
+}
+
+/// The extent of a unit that is missing or there in part, if its end is known.
+fn whole_extent(unit: &EditUnit) -> Option<Extent>
+    ensures { result ≡ whole_extent unit.now }
+{
+    match unit.standing {
+        UnitStanding::Missing | UnitStanding::Part => {
+            let extent = unit.extent?;
+            if extent.end.is_some() {
+                Some(extent)
+            } else {
+                None
+            }
+        }
+        _ => None,
     }
 }
 
@@ -95,18 +160,13 @@ pub(crate) fn reach_of(location: Location) -> Option<u128>
     location.extent.end.or(location.zone.limit.map(u128::from))
 }
 
-/// Adds the bytes, as far as files reach.
-pub(crate) fn add_extent(cover: &mut Cover, extent: Option<Extent>) -> Result<(), OutOfMemory>
-    ensures { OnOk result ((x : ℕ) → LiesIn cover.new x
-        ↔ (LiesIn cover.old x ⊎ (HasByte extent x × (x < greatest_end)))) }
+/// The run of some bytes, as far as files reach; an empty one if they begin behind that.
+pub(crate) fn run_of_extent(extent: Extent) -> Run
+    ensures { result ≡ run_of_extent extent }
 {
-    let Some(extent) = extent else {
-        return Ok(());
-    };
     let most = u128::from(MAX);
-    let end = extent.end.unwrap_or(most).min(most);
-    if extent.start < end {
-        cover.add(extent.start as u64, end as u64)?;
+    Run {
+        start: extent.start.min(most) as u64,
+        end: extent.end.unwrap_or(most).min(most) as u64,
     }
-    Ok(())
 }

@@ -1,9 +1,10 @@
 //! The edit units that are wanted of an index.
 ghost use Rattle.std.specs.Prelude.{◌≡◌, ◌<◌, ◌^◌, ◌∷◌, [], IfOk};
+ghost use Rattle.std.specs.List.{AllByRecursion};
 ghost use Rattle.mxf_views.specs.Rises.{RiseBy};
 ghost use Rattle.mxf_units.specs.Ranges.{units_with_keys};
 ghost use Rattle.mxf_partial.specs.Many.{ends_wanted};
-ghost use Rattle.mxf_partial.specs.Wanted.{wanted_in};
+ghost use Rattle.mxf_partial.specs.Wanted.{IsOwn, wanted_in};
 
 use mxf_klv::OutOfMemory;
 use mxf_units::{EditUnit, Extent, UnitRange, Units, UnitsLeft};
@@ -23,8 +24,9 @@ pub struct WantedUnits<'a> {
 }
 
 impl<'a> Model for WantedUnits<'a> {
+    ghost use Rattle.std.specs.List.{AllByRecursion};
     ghost use Rattle.mxf_views.specs.Rises.{RiseBy};
-    ghost use Rattle.mxf_partial.specs.Wanted.{WantedParts};
+    ghost use Rattle.mxf_partial.specs.Wanted.{IsOwn, WantedParts};
 
     ghost Value = { WantedParts };
 
@@ -36,7 +38,7 @@ impl<'a> Model for WantedUnits<'a> {
       bytes = w.bytes;
     } };
 
-    ghost invariant = { λ w. RiseBy (λ u. u.number) w.wanted.items };
+    ghost invariant = { λ w. RiseBy (λ u. u.number) w.wanted.items × AllByRecursion (IsOwn w.units.now) w.wanted.items };
 }
 
 impl<'a> WantedUnits<'a> {
@@ -106,6 +108,7 @@ impl<'a> WantedUnits<'a> {
     pub fn wanted(&self) -> &[EditUnit]
         ensures is { result.now ≡ self.now.wanted }
         ensures rising { RiseBy (λ u. u.number) result.now }
+        ensures own { AllByRecursion (IsOwn self.now.units) result.now }
     {
         &self.wanted
     }

@@ -1,7 +1,7 @@
 -- When edit units lie side by side, by the tests.
 use Rattle.mxf_views.proofs.Common.{◌≡◌, ◌≢◌, ◌∙◌, ◌+◌, ◌*◌, ◌^◌, ◌<◌, ◌≤◌, ◌&&◌, ◌==◌, ℕ, Bool, true, false, Option, None}
 use Rattle.mxf_views.proofs.Common.{Some, Result, Ok, Err, List, [], ◌∷◌, ap, inl, inr, refl, subst, sym, In, IsGiven}
-use Rattle.mxf_views.proofs.Common.{IsOnlyPlace, IsPermutation, NoteParts, SegmentAtParts, segments_of, stream_offset}
+use Rattle.mxf_views.proofs.Common.{IsOnlyPlace, NoteParts, SegmentAtParts, segments_of, stream_offset}
 use Rattle.mxf_views.proofs.Common.{and_from, and_parts, eq-eqb, eqb-true, if◌then◌else◌, is_some, list_all-In, list_any}
 use Rattle.mxf_views.proofs.Common.{list_any-In, same_Some, same_bool}
 use Rattle.std.specs.Prelude.{IfNone}
@@ -10,6 +10,7 @@ use Rattle.mxf_views.specs.declared.index.place.StreamPlace.{StreamPlace}
 use Rattle.mxf_units.specs.EvenUnits.{AreEven, AreOfSize, EvenParts, common_size, has_both, is_of_size, told_zone, told_zone_by}
 use Rattle.mxf_units.specs.EssenceZones.{parts_of, zone_at}
 use Rattle.mxf_units.specs.Extents.{IsTold}
+use Rattle.mxf_units.specs.Repeated.{SayAll}
 use Rattle.mxf_units.specs.Standings.{IsZone}
 use Rattle.mxf_units.specs.Streams.{place_of, segments_for}
 use Rattle.mxf_units.specs.Units.{UnitsParts, is_told, location_at, location_in, location_of, standing_by, standing_in}
@@ -21,7 +22,6 @@ use Rattle.mxf_units.specs.declared.standing.UnitStanding.TheVariants as standin
 use Rattle.mxf_units.proofs.EvenLaws.{sized}
 use Rattle.mxf_units.proofs.ExtentLaws.{says-told, told-says}
 use Rattle.mxf_units.proofs.NextLaws.{of_index}
-use Rattle.mxf_units.proofs.NextPlaceLaws.{permuted}
 use Rattle.mxf_units.proofs.OneStanding.{one-zone}
 use Rattle.mxf_units.proofs.StandingPlaces.{IsPlacing, placing}
 use Rattle.mxf_units.proofs.StandingZones.{zone-says}
@@ -192,19 +192,25 @@ module _ (u : UnitsParts) where
   abbrev parts : ℕ → ℕ → ℕ → EssenceZone → EvenParts
   parts first last size zone = record { units = u; first = first; last = last; size = size; zone = zone }
 
-  module _ (listed : List SegmentAtParts) (order : IsPermutation segments listed) (first last : ℕ) where
+  module _ (listed : List SegmentAtParts) (say : SayAll segments listed) (first last : ℕ) where
+    -- The size and the stream of those that are left are those of all.
+    all_of_size : (r : ℕ × ℕ) → common_size listed ≡ Some r → AreOfSize segments r.0 r.1
+    all_of_size r is q i = elim (say.each q i) [
+      | inl k ↦ size_says listed r is q k
+      | inr t ↦ let a = size_says listed r is t.0 t.1 in (sym t.2.unit_bytes ∙ a.0, sym t.2.body_sid ∙ a.1)
+    ]
+
     pub tests_say : (r : ℕ × ℕ) (zone : EssenceZone) → common_size listed ≡ Some r → told_zone u first ≡ Some zone
         → first < last → last < 2 ^ 63 → 0 < r.0 → told_zone u last ≡ Some zone
         → list_any (has_both first last) listed ≡ true → AreEven (parts first last r.0 zone)
     tests_say r zone sized_ begin less number some end both =
         let found = (list_any-In (has_both first last) listed).0 both in
         let s = found.0 in
-        let h = (permuted segments listed order s).0 found.1 in
+        let h = say.among s found.1 in
         let two = and_parts (is_some (stream_offset s.segment first)) (is_some (stream_offset s.segment last)) found.2 in
         let x = value_of (stream_offset s.segment first) two.0 in
         let y = value_of (stream_offset s.segment last) two.1 in
-        let are : AreOfSize segments r.0 r.1 =
-        λ q i. size_says listed r sized_ q ((permuted segments listed order q).1 i) in
+        let are = all_of_size r sized_ in
         let a = sized s r.0 first x.0 some (are s h).0 x.1 in
         let b = sized s r.0 last y.0 some (are s h).0 y.1 in
         record {
@@ -242,12 +248,14 @@ module _ (u : UnitsParts) where
 
     module _ (size : ℕ) (zone : EssenceZone) (e : AreEven (parts first last size zone)) where
       pub has_size : common_size listed ≢ None
-      has_size = says_size listed size e.body_sid e.by ((permuted segments listed order e.by).1 e.held)
-          (λ q i. e.alike q ((permuted segments listed order q).0 i))
+      has_size = elim (say.each e.by e.held) [
+        | inl k ↦ says_size listed size e.body_sid e.by k (λ q i. e.alike q (say.among q i))
+        | inr t ↦ says_size listed size e.body_sid t.0 t.1 (λ q i. e.alike q (say.among q i))
+      ]
 
       pub some_size : (r : ℕ × ℕ) → common_size listed ≡ Some r → 0 < r.0
       some_size r is =
-          let here = (size_says listed r is e.by ((permuted segments listed order e.by).1 e.held)).0 in
+          let here = (all_of_size r is e.by e.held).0 in
           subst (λ x. 0 < x) (sym (e.alike e.by e.held).0 ∙ here) e.some
 
       only_of : (k : ℕ) → stream_offset e.by.segment k ≡ Some (size * k)
@@ -280,12 +288,19 @@ module _ (u : UnitsParts) where
       })
 
       pub gives_both : list_any (has_both first last) listed ≡ true
-      gives_both = (list_any-In (has_both first last) listed).1 (
-        e.by,
-        (permuted segments listed order e.by).1 e.held,
-        and_from (is_some (stream_offset e.by.segment first)) (is_some (stream_offset e.by.segment last))
-            (ap is_some e.first_given) (ap is_some e.last_given),
-      )
+      gives_both = (list_any-In (has_both first last) listed).1 (elim (say.each e.by e.held) [
+        | inl k ↦ (e.by, k, both e.by e.first_given e.last_given)
+        | inr t ↦ (
+          t.0,
+          t.1,
+          both t.0 (t.2.given first (size * first) e.first_given) (t.2.given last (size * last) e.last_given),
+        )
+      ])
+        where
+          both : (s : SegmentAtParts) → stream_offset s.segment first ≡ Some (size * first)
+              → stream_offset s.segment last ≡ Some (size * last) → has_both first last s ≡ true
+          both s a b = and_from (is_some (stream_offset s.segment first)) (is_some (stream_offset s.segment last))
+              (ap is_some a) (ap is_some b)
 
 -- What is so of units that are named so is so of these.
 pub renamed : (u : UnitsParts) (first last : ℕ) (e : EvenParts) → e.units ≡ u → e.first ≡ first → e.last ≡ last
@@ -295,14 +310,3 @@ renamed u first last e a b c are =
 
 pub if_none : {T : Type 0} (P : Type 0) (r : Option T) → r ≡ None → P → IfNone r P
 if_none P r e p = subst (λ o. IfNone o P) (sym e) p
-
--- One of some passes exactly if one of the same in another order does.
-pub any_permuted : (p : SegmentAtParts → Bool) (xs ys : List SegmentAtParts) → IsPermutation xs ys
-    → list_any p ys ≡ list_any p xs
-any_permuted p xs ys order =
-    let here = list_any-In p ys in
-    let there = list_any-In p xs in
-    let same = permuted xs ys order in
-    same_bool (list_any p ys) (list_any p xs)
-    (λ t. let s = here.0 t in there.1 (s.0, (same s.0).0 s.1, s.2))
-    (λ t. let s = there.0 t in here.1 (s.0, (same s.0).1 s.1, s.2))

@@ -1,6 +1,8 @@
 pub mod OrderLaws
 pub mod IntervalLaws
 pub mod NextPlaceLaws
+pub mod OffsetLaws
+pub mod RepeatedLaws
 pub mod WalkLaws
 pub mod LeastLaws
 pub mod PacketLaws

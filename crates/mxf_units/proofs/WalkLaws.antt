@@ -4,7 +4,7 @@ use Rattle.mxf_views.proofs.Common.{◌≡◌, ◌≢◌, ◌∙◌, ◌⊎◌, 
 use Rattle.mxf_views.proofs.Common.{not, List, [], ◌∷◌, Option, None, Some, Result, Ok, Err, refl, sym, ap, inl, inr}
 use Rattle.mxf_views.proofs.Common.{arith, eq-eqb, eqb-true, ◌*◌, filter_map, if◌then◌else◌, nat_le, nat_lt, option_map}
 use Rattle.mxf_views.proofs.Common.{unsigned_abs, min, ltb-true, and_from, and_parts, false_from_ne_true, leb-true}
-use Rattle.mxf_views.proofs.Common.{cons_option, list_any, IsPermutation, option_map_or, In, SameMembers, list_any-In}
+use Rattle.mxf_views.proofs.Common.{cons_option, list_any, option_map_or, In, SameMembers, list_any-In}
 use Rattle.mxf_views.proofs.Common.{same_bool, covers_constant, covers_entry, entry_offset, index_entry, entry_count}
 use Rattle.mxf_views.proofs.Common.{is_constant, SegmentAtParts, in_stream, place_in}
 use Rattle.mxf_sets.specs.declared.segment.offset.IndexEntry.{IndexEntry}
@@ -17,7 +17,8 @@ use Rattle.mxf_units.specs.NextPlaces.{first_unit, units_end}
 use Rattle.mxf_units.specs.Intervals.{IsAround}
 use Rattle.mxf_units.specs.Streams.{entry_of, is_given, is_same_entry, is_same_place, only_entry, only_place, place_of}
 use Rattle.mxf_units.specs.declared.standing.UnitStanding.{UnitStanding}
-use Rattle.mxf_units.proofs.NextPlaceLaws.{permuted, same-filter_map}
+use Rattle.mxf_units.specs.Repeated.{SayAll}
+use Rattle.mxf_units.proofs.RepeatedLaws.{said-entries, said-places}
 use Rattle.mxf_units.proofs.IntervalLaws.{near_alone}
 use Rattle.mxf_units.specs.declared.standing.UnitStanding.TheVariants as standings
 
@@ -167,14 +168,14 @@ any_given p unit (s ∷ segments) =
 same_any : {K : Type 0} (test : K → Bool) (xs ys : List K) → SameMembers xs ys → list_any test xs ≡ list_any test ys
 same_any {K} test xs ys same = grind (arith, list_any-In, same_bool, list_any)
 
--- So segments in another order, and those of them alone that may have it, place a unit as all do.
+-- So segments that say all, and those of them alone that may have it, place a unit as all do.
 module _ (unit : ℕ) (fits : unit < 2 ^ 64) (segments all near above : List SegmentAtParts)
-    (order : IsPermutation segments all) (around : IsAround first_unit units_end unit all near above) where
+    (say : SayAll segments all) (around : IsAround first_unit units_end unit all near above) where
   pub near-place : place_of near unit ≡ place_of segments unit
   near-place = ap (only_place None) (near_alone first_unit units_end (place_in unit) unit all near above around
       (λ s l. outside-place unit fits s (inl l)) (λ s l. outside-place unit fits s (inr l)))
       ∙ same-only_place (filter_map (place_in unit) all) (filter_map (place_in unit) segments)
-      (same-filter_map (place_in unit) all segments (permuted segments all order))
+      (said-places segments all say unit)
 
   pub near-entry : entry_of near unit ≡ entry_of segments unit
   near-entry =
@@ -182,11 +183,11 @@ module _ (unit : ℕ) (fits : unit < 2 ^ 64) (segments all near above : List Seg
       ap (only_entry None) (near_alone first_unit units_end f unit all near above around
       (λ s l. outside-entry unit fits s (inl l)) (λ s l. outside-entry unit fits s (inr l)))
       ∙ same-only_entry (filter_map f all) (filter_map f segments)
-      (same-filter_map f all segments (permuted segments all order))
+      (said-entries segments all say unit)
 
   pub near-given : (p : StreamPlace) → is_given p unit near ≡ is_given p unit segments
   near-given p = any_given p unit near
       ∙ ap (list_any (is_same_place p)) (near_alone first_unit units_end (place_in unit) unit all near above around
       (λ s l. outside-place unit fits s (inl l)) (λ s l. outside-place unit fits s (inr l)))
       ∙ same_any (is_same_place p) (filter_map (place_in unit) all) (filter_map (place_in unit) segments)
-      (same-filter_map (place_in unit) all segments (permuted segments all order)) ∙ sym (any_given p unit segments)
+      (said-places segments all say unit) ∙ sym (any_given p unit segments)

@@ -2,6 +2,7 @@ pub mod Words
 pub mod Streams
 pub mod LastUnits
 pub mod NextPlaces
+pub mod Repeated
 pub mod EssenceZones
 pub mod EvenUnits
 pub mod Units

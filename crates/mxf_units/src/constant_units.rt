@@ -1,9 +1,10 @@
 //! Edit units of one size (ST 377-1, Index Table Segment).
-ghost use Rattle.std.specs.Prelude.{◌≡◌, ◌+◌, ◌*◌, ◌^◌, ◌<◌, ◌≤◌, IfOk, IfSome, List};
+ghost use Rattle.std.specs.Prelude.{◌≡◌, ◌⊎◌, ◌+◌, ◌*◌, ◌^◌, ◌<◌, ◌≤◌, IfOk, IfSome, IsTrue, List, []};
 ghost use Rattle.std.specs.List.{AllByRecursion, filter_map};
 ghost use Rattle.std.specs.Option.{option_and_then};
 ghost use Rattle.mxf_units.specs.NextPlaces.{AreSized, constant_units, end_number, first_number, number_of};
 ghost use Rattle.mxf_units.specs.NextPlaces.{place_above};
+ghost use Rattle.mxf_units.specs.Repeated.{AreAmong};
 ghost use Rattle.mxf_units.specs.Streams.{offset_above};
 
 use crate::intervals::Interval;
@@ -32,6 +33,7 @@ impl ConstantUnits {
     pub(crate) fn of(segment: &SegmentAt<'_>) -> Option<ConstantUnits>
         ensures units { result ≡ constant_units segment.now }
         ensures sized { IfSome result AreSized }
+        ensures unlisted { IfSome result (λ _. segment.now.segment.entries ≡ []) }
     {
         let numbers = segment.segment.numbers();
         if numbers.unit_bytes == 0 {
@@ -63,6 +65,31 @@ impl ConstantUnits {
             body_sid: self.body_sid,
             offset: unit_bytes * unit,
         })
+    }
+
+    /// Whether all of others are among them, at the same places.
+    pub(crate) fn has_all_of(&self, others: &ConstantUnits) -> bool
+        ensures { IsTrue result → AreAmong others.now self.now }
+    {
+        self.body_sid == others.body_sid
+            && self.unit_bytes == others.unit_bytes
+            && self.start <= others.start
+            && self.go_as_far_as(others)
+    }
+
+    /// Whether they end where others end, or behind that.
+    fn go_as_far_as(&self, others: &ConstantUnits) -> bool
+        ensures { IsTrue result → ((self.now.duration ≡ 0) ⊎ ((0 < others.now.duration)
+            × (others.now.start + others.now.duration ≤ self.now.start + self.now.duration))) }
+    {
+        self.duration == 0 || (others.duration > 0 && others.end_unit() <= self.end_unit())
+    }
+
+    /// The number behind the last of them, if they have an end.
+    fn end_unit(&self) -> u128
+        ensures { result ≡ self.now.start + self.now.duration }
+    {
+        u128::from(self.start) + u128::from(self.duration)
     }
 
     /// The offset of that place above another place, in bytes, if it is in the stream of that.

@@ -53,6 +53,7 @@
 mod beside;
 mod bounds;
 mod constant_units;
+mod covers;
 mod essence_zone;
 mod even_units;
 mod first_packet;
@@ -63,12 +64,14 @@ pub mod laws;
 mod location;
 mod next_places;
 mod range;
+mod repeated;
 mod segments;
 mod standing;
 mod stream;
 mod unit;
 mod units;
 
+pub use covers::cover_of;
 pub use essence_zone::EssenceZone;
 pub use essence_zone::part::StreamPart;
 pub use even_units::{EvenUnits, UnitCounts, lists_units};

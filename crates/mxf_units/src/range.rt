@@ -114,8 +114,8 @@ fn first_needed(units: &Units<'_>, range: UnitRange) -> u64
     ensures bound { result ≤ range.first }
 {
     let mut from = range.first;
-    for unit in UnitsLeft::of(units, range) {
-        from = needed(from, unit.key);
+    for number in range.first..range.first + range.count {
+        from = needed(from, units.key(number));
     }
     from
 }

@@ -4,12 +4,13 @@ ghost use Rattle.mxf_klv.specs.Parts.{NoteParts, PacketParts};
 ghost use Rattle.mxf_klv.specs.Piece.{end_after, notes_from};
 ghost use Rattle.mxf_sets.specs.declared.segment.offset.IndexEntry.{IndexEntry};
 ghost use Rattle.mxf_units.specs.declared.unit.Extent.{Extent};
-ghost use Rattle.std.specs.List.Sorted.{IsPermutation};
+ghost use Rattle.std.specs.Option.{option_and_then};
 ghost use Rattle.std.specs.Result.{ForOk};
 ghost use Rattle.mxf_views.specs.declared.index.place.StreamPlace.{StreamPlace};
 ghost use Rattle.mxf_places.specs.AtHand.{AtHandParts, KnownParts};
 ghost use Rattle.mxf_units.specs.Entries.{IsEntryOf, IsKeyFrame};
 ghost use Rattle.mxf_units.specs.Extents.{IsEndPlaceOf, IsExtentEnd, IsExtentOf, IsTold};
+ghost use Rattle.mxf_units.specs.Repeated.{SayAll};
 ghost use Rattle.mxf_units.specs.Standings.{IsStanding, IsStandingIn};
 ghost use Rattle.mxf_units.specs.declared.location.Location.{Location};
 ghost use Rattle.mxf_units.specs.declared.standing.UnitStanding.{UnitStanding};
@@ -25,6 +26,7 @@ use crate::essence_zone::part::{StreamPart, parts_of, zone_at};
 use crate::intervals::Intervals;
 use crate::location::{Location, extent_by, extent_in, is_behind, standing_by};
 use crate::next_places::NextPlaces;
+use crate::repeated::without_repeated;
 use crate::segments::{entry_of, is_given, place_of, segments_for};
 use crate::standing::UnitStanding;
 use crate::unit::{EditUnit, Extent};
@@ -54,8 +56,8 @@ pub struct Units<'a> {
 
 impl<'a> Model for Units<'a> {
     ghost use Rattle.std.specs.Prelude.{List, ◌≡◌};
-    ghost use Rattle.std.specs.List.Sorted.{IsPermutation};
     ghost use Rattle.mxf_units.specs.NextPlaces.{AreNextPlaces};
+    ghost use Rattle.mxf_units.specs.Repeated.{SayAll};
     ghost use Rattle.mxf_units.specs.Streams.{segments_for};
     ghost use Rattle.mxf_units.specs.EssenceZones.{parts_of};
     ghost use Rattle.mxf_units.specs.Units.{AreBesideEssence, AreKnown, UnitsParts};
@@ -67,7 +69,7 @@ impl<'a> Model for Units<'a> {
       index_sid = u.index_sid;
     } };
 
-    ghost invariant = { λ u. IsPermutation (segments_for u.holdings u.index_sid) u.segments
+    ghost invariant = { λ u. SayAll (segments_for u.holdings u.index_sid) u.segments
         × AreNextPlaces (segments_for u.holdings u.index_sid) u.places
         × (u.parts.items ≡ parts_of u.holdings)
         × AreKnown (record { notes = u.holdings; at = u.at_hand.now }) u.known
@@ -89,7 +91,7 @@ impl<'a> Units<'a> {
         let holdings = Holdings::of(alloc, views)?;
         let known = known_of(alloc, &holdings, at_hand)?;
         let beside = beside_essence(alloc, &holdings)?;
-        let segments = segments_for(alloc, views, index_sid)?;
+        let segments = without_repeated(alloc, segments_for(alloc, views, index_sid)?)?;
         let places = NextPlaces::of(alloc, &segments)?;
         let segments = Intervals::of(alloc, segments)?;
         let parts = parts_of(alloc, &holdings)?;
@@ -126,9 +128,9 @@ impl<'a> Units<'a> {
         &self.known
     }
 
-    /// The segments of the index.
+    /// Those of the segments of the index that say all that any of them says.
     pub(crate) fn segments(&self) -> &[SegmentAt<'a>]
-        ensures { IsPermutation (segments_for self.now.known.notes self.now.index_sid) result.now }
+        ensures { SayAll (segments_for self.now.known.notes self.now.index_sid) result.now }
     {
         self.segments.all()
     }
@@ -239,6 +241,15 @@ impl<'a> Units<'a> {
         entry_of(self.segments_near(unit), unit).map(|entry| entry.temporal_offset)
     }
 
+    /// The key frame that the entry of a unit names, as [`Units::unit`] says it. It takes no memory, and looks at no
+    /// packet.
+    #[tactic(auto, unfolding(crate::specs::Units::unit_of))]
+    pub(crate) fn key(&self, unit: u64) -> Option<u64>
+        ensures { result ≡ (unit_of self.now.known self.now.index_sid unit).key }
+    {
+        key_by(unit, entry_of(self.segments_near(unit), unit))
+    }
+
     /// The unit with a number. Units are counted from 0 as they are stored. It takes no memory, and some binary
     /// searches, with a look at each segment of the index that overlaps there.
     #[tactic(auto, unfolding(crate::specs::Units::unit_of, crate::specs::Units::location_of))]
@@ -270,17 +281,23 @@ fn unit_by(
 ) -> EditUnit
     ensures { result ≡ unit_by number standing extent entry }
 {
-    let key = match entry {
-        Some(entry) => key_at(number, entry),
-        None => None,
-    };
     EditUnit {
         number,
         standing,
         extent,
-        key,
+        key: key_by(number, entry),
         temporal: entry.map(|entry| entry.temporal_offset),
         flags: entry.map(|entry| entry.flags),
+    }
+}
+
+/// The key frame that the entry of a unit names, if it has one.
+fn key_by(unit: u64, entry: Option<IndexEntry>) -> Option<u64>
+    ensures { result ≡ option_and_then (key_at unit) entry }
+{
+    match entry {
+        Some(entry) => key_at(unit, entry),
+        None => None,
     }
 }
 

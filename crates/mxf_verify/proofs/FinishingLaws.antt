@@ -23,7 +23,7 @@ use Rattle.mxf_verify.specs.declared.finishing.ToldBytes.{ToldBytes}
 use Rattle.mxf_verify.specs.declared.finishing.Uncompared.{Uncompared}
 use Rattle.mxf_verify.specs.declared.seen.Seen.{Seen}
 use Rattle.mxf_verify.specs.declared.verification.Differing.{Differing}
-use Rattle.mxf_verify.proofs.RangeLaws.{some_both, some_end}
+use Rattle.mxf_units.proofs.OffsetLaws.{some_both, some_end}
 use Rattle.mxf_verify.proofs.OtherLaws.{those_passing}
 use Rattle.mxf_verify.proofs.SeenLaws.{damaged_says}
 use Rattle.mxf_verify.proofs.ToldLaws.{met_says}

@@ -18,7 +18,7 @@ use Rattle.mxf_verify.specs.declared.saved.SavedTold.{SavedTold}
 use Rattle.mxf_verify.specs.declared.seen.Seen.{Seen}
 use Rattle.mxf_verify.specs.declared.told.Told.{Told}
 use Rattle.mxf_verify.proofs.ComparingLaws.{holds_first}
-use Rattle.mxf_verify.proofs.RangeLaws.{some_both, some_end}
+use Rattle.mxf_units.proofs.OffsetLaws.{some_both, some_end}
 
 -- a catalogue among sources with a further one is one of them, or that one
 pub saved_end : (sources : List Source) (s : Source) (notes : List NoteParts)

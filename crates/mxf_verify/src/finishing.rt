@@ -13,11 +13,12 @@ ghost use Rattle.mxf_verify.specs.Verifications.{IsVerification, parts_of};
 ghost use Rattle.mxf_verify.specs.Verifying.{Source};
 
 use crate::note_set::{NoteSet, OrderedNotes};
-use crate::ranges::{Reach, cover_of, rest_of};
+use crate::ranges::{Reach, rest_of};
 use crate::seen::Seen;
 use crate::verification::{CutNote, Differing, Verification};
 use mxf_catalogue::{Catalogue, Cover, Run};
 use mxf_klv::{Note, OutOfMemory};
+use mxf_units::cover_of;
 use std::alloc::Global;
 
 /// What sources say of the notes of a catalogue, by what was seen of them. It takes n log n of all.

@@ -4,39 +4,16 @@ ghost use Rattle.std.specs.List.{AllByRecursion, AllWithin};
 ghost use Rattle.std.specs.List.Sorted.{IsNonDecreasingBy};
 ghost use Rattle.mxf_klv.specs.Note.{greatest_end};
 ghost use Rattle.mxf_klv.specs.Rising.{In, SameMembers};
-ghost use Rattle.mxf_catalogue.specs.Runs.{LiesIn, SameOffsets};
+ghost use Rattle.mxf_catalogue.specs.Runs.{LiesIn};
 ghost use Rattle.mxf_catalogue.specs.declared.run.Run.{Run};
 ghost use Rattle.mxf_units.specs.Intervals.{greatest_ends};
 ghost use Rattle.mxf_verify.specs.Reaching.{HasOne};
 
 use mxf_catalogue::{Cover, Run};
 use mxf_klv::{MAX, OutOfMemory};
+use mxf_units::cover_of;
 use std::alloc::Global;
 use std::marker::Model;
-
-/// The offsets that lie in some of the ranges, which may be empty. It takes n log n of them.
-pub(crate) fn cover_of(alloc: Global, mut runs: Vec<Run>) -> Result<Cover, OutOfMemory>
-    requires { AllByRecursion (λ r. r.end ≤ greatest_end) runs.items }
-    ensures { IfOk result (λ c. SameOffsets c runs.items) }
-{
-    // Each goes after those that are there.
-    runs.sort_unstable_by_key(|run| run.start);
-    cover_of_each(alloc, &runs)
-}
-
-/// The same of ranges in any order.
-fn cover_of_each(alloc: Global, runs: &[Run]) -> Result<Cover, OutOfMemory>
-    requires { AllByRecursion (λ r. r.end ≤ greatest_end) runs.now }
-    ensures { IfOk result (λ c. SameOffsets c runs.now) }
-{
-    let mut cover = Cover::new(alloc);
-    for run in runs {
-        if run.start < run.end {
-            cover.add(run.start, run.end)?;
-        }
-    }
-    Ok(cover)
-}
 
 /// The offsets of the first cover that don't lie in the second. It takes n log n of their runs.
 pub(crate) fn rest_of(alloc: Global, all: &Cover, known: &Cover) -> Result<Cover, OutOfMemory>

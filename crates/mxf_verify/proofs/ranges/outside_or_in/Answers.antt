@@ -1,6 +1,6 @@
 use Rattle.mxf_views.proofs.Common.{◌≡◌, ◌++◌, inl, inr, rules, items_from_extend, YieldsList-from_first, all_append}
 use Rattle.mxf_views.proofs.Common.{IsWithin}
-use Rattle.mxf_verify.proofs.RangeLaws.{some_both}
+use Rattle.mxf_units.proofs.OffsetLaws.{some_both}
 use Rattle.mxf_verify.proofs.ranges.outside_or_in.Goals as goal
 
 pub returns : goal.returns

@@ -1,9 +1,9 @@
 use Rattle.mxf_views.proofs.Common.{◌+◌, List, subst, sym, take, take_all, greatest_end, SameOffsets}
 use Rattle.mxf_catalogue.specs.declared.run.Run.{Run}
 use Rattle.mxf_catalogue.proofs.CoverLaws.{end_within}
-use Rattle.mxf_verify.proofs.RangeLaws.{added-step, skipped-step}
-use Rattle.mxf_verify.proofs.ranges.cover_of_each.Goals.{else-run, then-run+in_ok-add}
-use Rattle.mxf_verify.proofs.ranges.cover_of_each.Goals as goal
+use Rattle.mxf_units.proofs.OffsetLaws.{added-step, skipped-step}
+use Rattle.mxf_units.proofs.covers.cover_of_each.Goals.{else-run, then-run+in_ok-add}
+use Rattle.mxf_units.proofs.covers.cover_of_each.Goals as goal
 
 pub add-requires-clause-within : goal.add-requires-clause-within
 add-requires-clause-within c = end_within greatest_end _ _ _ c.requires c.loop-run-test.true

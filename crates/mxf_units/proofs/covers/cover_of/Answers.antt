@@ -1,8 +1,8 @@
 use Rattle.mxf_views.proofs.Common.{◌≤◌, List, subst, sym, AllByRecursion, IfOk-weaker, greatest_end, SameOffsets}
 use Rattle.mxf_catalogue.specs.declared.run.Run.{Run}
 use Rattle.mxf_units.proofs.NextPlaceLaws.{all_permuted}
-use Rattle.mxf_verify.proofs.RangeLaws.{offsets_permuted}
-use Rattle.mxf_verify.proofs.ranges.cover_of.Goals as goal
+use Rattle.mxf_units.proofs.OffsetLaws.{offsets_permuted}
+use Rattle.mxf_units.proofs.covers.cover_of.Goals as goal
 
 pub cover_of_each-requires : goal.cover_of_each-requires
 cover_of_each-requires c =
