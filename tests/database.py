@@ -148,13 +148,14 @@ def last_of(line, count):
 def times_of(first, last, base, of):
     """The rows of the view `times` from one timecode to another, up to midnight if it isn't known to which."""
     is_open = last is None
-    hours = hours_between(first.replace(";", ":"), f"23:59:59:{base - 1:02}" if is_open else last.replace(";", ":"), base)
+    end = f"23:59:59:{base - 1:02}" if is_open else last.replace(";", ":")
+    hours = hours_between(first.replace(";", ":"), end, base)
     return [(*hour, base, int(";" in first), int(is_open), *of) for hour in hours]
 
 
 def wanted_times(said):
-    """The rows of the view `times` by the lines: the hours, the base, drop frame, whether the end isn't known, the index of a
-    clock, and the package and the track of a timecode component. Nothing that is compared lasts a day."""
+    """The rows of the view `times` by the lines: the hours, the base, drop frame, whether the end isn't known, the
+    index of a clock, and the package and the track of a timecode component. Nothing that is compared lasts a day."""
     rows, names, rates = [], {}, {}
     for line in lines_in(said, "describe", "name"):
         names[line["of-package"]] = line["text"]
@@ -173,10 +174,11 @@ def wanted_times(said):
 
 
 def wanted_words(said, name):
-    """The rows of the view `named` by the lines: each word of the names of a recording, its programs, packages and tracks."""
+    """The rows of the view `named` by the lines: each word of the names of a recording, its programs and its parts."""
     named = (("company", "show", "company"), ("product", "show", "product"), ("package", "describe", "name"),
              ("track", "describe", "track-name"))  # fmt: skip
-    texts = {(what, line["text"]) for what, command, of in named for line in lines_in(said, command, of) if line["text"]}
+    lines = [(what, line["text"]) for what, command, of in named for line in lines_in(said, command, of)]
+    texts = {(what, text) for what, text in lines if text}
     texts.add(("recording", name))
     words = {}
     for _, text in texts:

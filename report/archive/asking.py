@@ -106,8 +106,8 @@ def lines_of_list(path: str) -> list[str]:
 
 
 def origin_of(number: int, source: Source) -> Line:
-    """What is known of the file of a source without its bytes: its path, its size and the time of its last change. That of a
-    catalogue has to be there."""
+    """What is known of the file of a source without its bytes: its path, its size and the time of its last change. That
+    of a catalogue has to be there."""
     origin: Line = {"line": "origin", "number": number, "form": source.form, "offset": source.offset(), "path": source.path}
     origin.update(word=source.word(), size=None, modified=None, sha256=None)
     with contextlib.suppress(OSError, ValueError):
@@ -174,8 +174,8 @@ def version_of(path: str) -> str:
 
 
 class Tool:
-    """mxf_tool. Its first call says its faults and how far it is by itself. The launcher of the repository looks at each call
-    whether the program is current; once is enough, and then the program itself is asked."""
+    """mxf_tool. Its first call says its faults and how far it is by itself. The launcher of the repository looks at
+    each call whether the program is current; once is enough, and then the program itself is asked."""
 
     def __init__(self) -> None:
         launcher = program()

@@ -10,14 +10,14 @@ from archive.faults import NO_PROGRAM, OwnFault
 
 BLOCK = 1 << 16  # bytes that are read at once, as many as a pipe has
 
-# Signals that Python passes over, and a program that it calls doesn't: SIGPIPE and SIGXFSZ of Linux. The module signal has
-# them too, and takes as long to load as a call of mxf_tool.
+# Signals that Python passes over, and a program that it calls doesn't: SIGPIPE and SIGXFSZ of Linux. The module signal
+# has them too, and takes as long to load as a call of mxf_tool.
 SIGNALS = (13, 25)
 
 
 class Call:
-    """A call of a program. It begins when it is told to, at the latest when its lines are asked for. What it says of faults is
-    kept, or goes where that of this program goes. The call is over when its block ends."""
+    """A call of a program. It begins when it is told to, at the latest when its lines are asked for. What it says of
+    faults is kept, or goes where that of this program goes. The call is over when its block ends."""
 
     def __init__(self, words: list[str], given: bytes = b"", is_kept: bool = True) -> None:
         self.words = words
@@ -41,7 +41,8 @@ class Call:
                 actions.append((os.POSIX_SPAWN_DUP2, end, place))
             try:
                 # The module subprocess, with the modules that it loads, takes as long as several calls of mxf_tool.
-                self.process = os.posix_spawnp(self.words[0], self.words, os.environ, file_actions=actions, setsigdef=SIGNALS)
+                named = {"file_actions": actions, "setsigdef": SIGNALS}
+                self.process = os.posix_spawnp(self.words[0], self.words, os.environ, **named)
             except OSError as fault:
                 raise OwnFault(NO_PROGRAM, f"{self.words[0]} can't be run: {fault.strerror}") from fault
 
@@ -68,7 +69,7 @@ class Call:
         self.end()
 
     def blocks(self) -> Iterator[bytes]:
-        """What it prints, as it comes. What it says of faults is taken beside that, so it never waits for this program."""
+        """What it prints, as it comes. What it says of faults is taken beside that, so it waits for nobody."""
         reading = set(self.streams)
         waiting = select.poll()
         for stream in reading:

@@ -86,8 +86,8 @@ class Gathering:
         return ["--skim"] if self.asked.is_skim else []
 
     def ask_all(self, sources: Sources, opened: contextlib.ExitStack) -> None:
-        """Adds what each command says, in the order in which a reader of the lines needs it. A small catalogue is asked by
-        five calls at once. Meanwhile the catalogues are digested."""
+        """Adds what each command says, in the order in which a reader of the lines needs it. A small catalogue is asked
+        by five calls at once. Meanwhile the catalogues are digested."""
         calls = [self.tool.call([command, *self.skimming()], sources) for command in COMMANDS]
         is_at_once = is_small_catalogue(sources)
         if is_at_once:

@@ -8,8 +8,8 @@ from archive.moments import HOURS, Counting
 
 
 class Span(namedtuple("Span", "first count counting is_open")):
-    """Timecodes one after another: the first, how many there are, how they are numbered, and whether there may be more than is
-    known."""
+    """Timecodes one after another: the first, how many there are, how they are numbered, and whether there may be more
+    than is known."""
 
     __slots__ = ()
 
@@ -19,13 +19,14 @@ class Span(namedtuple("Span", "first count counting is_open")):
         begin, first = counting.number(self.first), int(self.first[:2])
         end = begin + min(max(self.count, 1), day)
         for turn, hour in (divmod(place, HOURS) for place in range(first, min(first + HOURS + 1, 2 * HOURS))):
-            border = counting.number(f"{hour:02}:00:00:00") + turn * day
+            past = turn * day
+            border = counting.number(f"{hour:02}:00:00:00") + past
             after = border + day // HOURS
             if border >= end:
                 return
             yield {
                 "hour": hour, "base": counting.base, "is_drop": int(counting.is_drop), "is_open": int(self.is_open),
-                "first": counting.label(max(begin, border) - turn * day), "last": counting.label(min(end, after) - 1 - turn * day),
+                "first": counting.label(max(begin, border) - past), "last": counting.label(min(end, after) - 1 - past),
             }  # fmt: skip
 
 

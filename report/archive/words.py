@@ -1,7 +1,7 @@
 """The words of a call: the commands, the words behind each, its options, and the help that tells them.
 
-They are read here and not by argparse. To load that, and to tell it the words of a command, takes longer than all calls of
-mxf_tool of a small catalogue.
+They are read here and not by argparse. To load that, and to tell it the words of a command, takes longer than all calls
+of mxf_tool of a small catalogue.
 """
 from __future__ import annotations
 
@@ -11,7 +11,10 @@ from types import SimpleNamespace
 
 Words = SimpleNamespace
 
-DESCRIPTION = "Keeps what mxf_tool says of the recordings of an archive in a database, and answers\nwhat is asked of all."
+DESCRIPTION = (
+    "Keeps what mxf_tool says of the recordings of an archive in a database, and answers\n"
+    "what is asked of all."
+)
 EPILOG = (
     "DB is the file of the database. A source SRC is at:OFFSET:PATH, range:OFFSET:PATH,\n"
     "slice:OFFSET:LENGTH:PATH or cat:PATH, as of mxf_tool. MXF_TOOL names another program.\n"
@@ -27,16 +30,16 @@ class WordFault(Exception):
         self.command = command
 
 
-# A word behind a command: the field that has it, its name, what it is, and how many there are at least and at most. If there
-# may be several, it is the last, and the field has a list.
+# A word behind a command: the field that has it, its name, what it is, and how many there are at least and at most. If
+# there may be several, it is the last, and the field has a list.
 Word = namedtuple("Word", "field name said least most", defaults=(1, 1))
 
-# An option: its name, the field that it sets, what it does, and to what it sets the field. If it takes a word, that has a
-# name, and is read by the value. Of options of one kind one alone may be given.
+# An option: its name, the field that it sets, what it does, and to what it sets the field. If it takes a word, that has
+# a name, and is read by the value. Of options of one kind one alone may be given.
 Option = namedtuple("Option", "name field said value takes kind", defaults=(True, "", ""))
 
-# A command: the module that has the function of its name, what it does, its words and its options, and the fields that aren't
-# None without an option. A field with a list takes each word, and needs one.
+# A command: the module that has the function of its name, what it does, its words and its options, and the fields that
+# aren't None without an option. A field with a list takes each word, and needs one.
 Command = namedtuple("Command", "module said words options fields")
 
 
@@ -87,12 +90,13 @@ COMMANDS = {
     "add": Command("adding", "put a recording into the database, or in its own place", (DATABASE, NAME, SOURCE), ADDED,
                    {"skim": False}),
     "list": Command("listing", "print recordings", (DATABASE,), LISTS + FORMS, {"what": "all", **TABLE}),
-    "find": Command("listing", "print which recordings have words, an identifier or a timecode", (DATABASE, FIND), FORMS, TABLE),
+    "find": Command("listing", "print which recordings have words, an identifier or a timecode", (DATABASE, FIND),
+                    FORMS, TABLE),
     "show": Command("listing", "print all of a recording", (DATABASE, NAME), FORMS, TABLE),
     "orders": Command("listing", "print what is to be restored", (DATABASE,), ORDERED + FORMS,
                       {"by": "name", "merge": 0, **TABLE}),
-    "verify": Command("adding", "verify a recording, and keep what comes of it", (DATABASE, NAME, SOURCE), (AGAINST, SOURCES),
-                      {"against": []}),
+    "verify": Command("adding", "verify a recording, and keep what comes of it", (DATABASE, NAME, SOURCE),
+                      (AGAINST, SOURCES), {"against": []}),
     "match": Command("matching", "print of which recording fragments are, and where they lie in it", (DATABASE, SOURCE),
                      (SOURCES, *FORMS), TABLE),
     "lines": Command("adding", "print what add would put into the database", (NAME, SOURCE), ADDED, {"skim": False}),
@@ -209,8 +213,14 @@ def usage_of(name: str | None) -> str:
     options = [f"{option.name} {option.takes}".rstrip() for option in command.options]
     needed = [f"--{field}" for field, value in command.fields.items() if value == []]
     shown = [text if text.split()[0] in needed else f"[{text}]" for text in options]
-    words = [word.name if word.most else f"{word.name}.." if word.least else f"[{word.name}..]" for word in command.words]
-    return " ".join(["usage: mxf_archive", name, *shown, *words]) + "\n"
+    return " ".join(["usage: mxf_archive", name, *shown, *map(shown_word, command.words)]) + "\n"
+
+
+def shown_word(word: Word) -> str:
+    """A word behind a command as a line of usage shows it."""
+    if word.most:
+        return word.name
+    return f"{word.name}.." if word.least else f"[{word.name}..]"
 
 
 def help_of(name: str | None) -> str:
