@@ -1,10 +1,9 @@
 -- What was read of a range tells of all that its reader gives.
-use Rattle.mxf_views.proofs.Common.{◌≡◌, ℕ, ◌+◌, ◌-◌, ◌<◌, ◌≤◌, List, [], ◌∷◌, ◌++◌, length, take, drop, Option, Some}
-use Rattle.mxf_views.proofs.Common.{None, refl, sym, ap, subst, ◌∙◌, arith, option_map_or, Consumes, IfSome_then}
-use Rattle.mxf_views.proofs.Common.{take-take, take_rest, drop-take, drop-append-le, NoteParts, heads_at, head_at}
+use Rattle.mxf_views.proofs.Common.{◌≡◌, ℕ, ◌+◌, List, [], ◌∷◌, ◌++◌, length, take, drop, Option, Some}
+use Rattle.mxf_views.proofs.Common.{None, refl, sym, ap, subst, ◌∙◌, arith, option_map_or, Consumes}
+use Rattle.mxf_views.proofs.Common.{take-take, NoteParts, heads_at, head_at}
 use Rattle.mxf_views.proofs.Common.{notes_in, packets_in, rest_in, reduced_union, New, Absorb}
 use Rattle.std.specs.Prelude.{IfSome, IsSome, unwrap_or}
-use Rattle.std.specs.Fmt.{option_append}
 use Rattle.mxf_read.specs.declared.report.Report.{Report}
 use Rattle.mxf_read.specs.declared.gathering.part.Part.TheVariants.{Range}
 use Rattle.mxf_read.specs.declared.gathering.report.PieceReport.{PieceReport}

@@ -1,7 +1,7 @@
 -- What is noted of a skim's piece or range, by all that its reader gives.
 use Rattle.mxf_views.proofs.Common.{◌≡◌, ◌↔◌, ◌⊎◌, ℕ, ◌+◌, ◌-◌, ◌<◌, ◌≤◌, List, [], ◌∷◌, ◌++◌, length, take, drop, Option}
 use Rattle.mxf_views.proofs.Common.{None, Some, true, refl, sym, ap, subst, ◌∙◌, arith, inl, inr, append-nil, append_assoc}
-use Rattle.mxf_views.proofs.Common.{option_map_or, Consumes, IfSome_then, drop-append-le, length-take, take_rest, NoteParts, Ok}
+use Rattle.mxf_views.proofs.Common.{option_map_or, Consumes, IfSome_then, drop-append-le, take_rest, NoteParts, Ok}
 use Rattle.mxf_views.proofs.Common.{notes_in, IsOpen, stop_in, reduced_union, IsFileOf, IsAtEnd, In, has_note, head_note}
 use Rattle.std.specs.Prelude.{IfSome, IsSome, unwrap_or, is_some}
 use Rattle.mxf_catalogue.specs.Content.{reduced_union-IsUnion}

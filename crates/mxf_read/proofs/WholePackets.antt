@@ -1,19 +1,18 @@
 -- Whole packets at the front of bytes, which are noted one after another.
-use Rattle.mxf_views.proofs.Common.{◌≡◌, ℕ, suc, ◌+◌, ◌-◌, ◌<◌, ◌≤◌, List, [], ◌∷◌, ◌++◌, length, take, drop, None, Some, refl, Result, Ok, Err}
-use Rattle.mxf_views.proofs.Common.{sym, ap, subst, ◌∙◌, arith, append_assoc, append-nil, take_at, length-append}
-use Rattle.mxf_views.proofs.Common.{NoteParts, PacketParts, size_of, note_of, end_of, packet_at, rest_in}
-use Rattle.std.proofs.Common.{take-append-drop, length-take, get_or, map}
-use Rattle.std.proofs.lemmas.List.{drop_more, get_or-map, get_or-take}
-use Rattle.sha2.specs.Sha256.{sha256}
+use Rattle.mxf_views.proofs.Common.{◌≡◌, ℕ, ◌+◌, ◌<◌, ◌≤◌, List, [], ◌∷◌, ◌++◌, length, take, drop, None, Some, refl, Result, Ok, Err}
+use Rattle.mxf_views.proofs.Common.{sym, ap, subst, ◌∙◌, arith, append_assoc, append-nil, length-append}
+use Rattle.mxf_views.proofs.Common.{PacketParts, size_of, note_of, end_of, packet_at, rest_in}
+use Rattle.std.proofs.Common.{take-append-drop, length-take, get_or}
+use Rattle.std.proofs.lemmas.List.{drop_more}
 use Rattle.mxf_klv.specs.Note.{greatest_end}
 use Rattle.mxf_klv.proofs.PieceLaws.{packet_at-given, packet_at-stands}
 use Rattle.mxf_skim.specs.declared.scan.Scan.{Scan}
 use Rattle.mxf_skim.specs.declared.scan.Scan.TheVariants.{Full}
-use Rattle.mxf_read.specs.Feeding.{Fails, Feeds, HasTaken, Knows, NotesNone, NotesOne, TakesFront, TakesSome}
+use Rattle.mxf_read.specs.Feeding.{Fails, Feeds, Knows, NotesNone, NotesOne, TakesFront, TakesSome}
 use Rattle.mxf_read.specs.WholePackets.{StandAtFront}
 use Rattle.mxf_read.specs.ValueSoFar.{noted_if, passes}
 use Rattle.mxf_read.specs.declared.piece.Piece.{Piece}
-use Rattle.mxf_read.proofs.Feeding.{Feeds-none, Feeds-trans, holds, noted_packet}
+use Rattle.mxf_read.proofs.Feeding.{Feeds-trans, holds, noted_packet}
 
 -- a whole packet was noted where no byte of it had come
 one_fed : (p q : Piece) (bytes : List ℕ) (pk : PacketParts) → p.scan ≡ Full → p.stop ≡ None → p.value ≡ None

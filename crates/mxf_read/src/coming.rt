@@ -108,6 +108,13 @@ impl ComingValue {
         self.left
     }
 
+    /// The number of the value's bytes.
+    pub(crate) fn length(&self) -> u64
+        ensures { result ≡ self.now.ber.value }
+    {
+        self.ber.value()
+    }
+
     /// The head of the packet.
     pub(crate) fn head(&self) -> Note
         ensures { result ≡ head_parts self.now.offset self.now.key self.now.ber.width self.now.ber.value }

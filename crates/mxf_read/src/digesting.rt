@@ -19,7 +19,7 @@ pub(crate) const FEWEST: usize = 3;
 pub(crate) const MOST: usize = 64;
 
 /// The fewest bytes of a value that is digested with others: shorter ones gain little.
-const LEAST_VALUE: usize = 128;
+pub(crate) const LEAST_VALUE: u64 = 128;
 
 /// A whole packet whose note holds a digest of the value.
 #[derive(Drop)]
@@ -53,8 +53,8 @@ impl<'a> DigestedPacket<'a> {
     fn of(packet: Packet<'a>) -> Option<DigestedPacket<'a>>
         ensures { IfSome result (λ p. p ≡ packet.entry) }
     {
-        let count = packet.value().len();
-        if count < LEAST_VALUE || Note::keeps(&packet.key(), count as u64) {
+        let count = packet.value().len() as u64;
+        if count < LEAST_VALUE || Note::keeps(&packet.key(), count) {
             return None;
         }
         Some(DigestedPacket { packet })
@@ -85,10 +85,6 @@ fn packet_at_front(offset: u64, bytes: &[u8]) -> Option<(DigestedPacket<'_>, usi
     ensures room { IfSome result (λ x. x.1 ≤ length bytes.now) }
     ensures within { IfSome result (λ x. offset + x.1 ≤ greatest_end) }
 {
-    // A length that one byte spells is that of a short value, and most packets of no use here have one.
-    if *bytes.get(16)? < 0x80 {
-        return None;
-    }
     let (packet, size) = next_packet(offset, bytes).ok()?;
     Some((DigestedPacket::of(packet)?, size))
 }

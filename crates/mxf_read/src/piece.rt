@@ -8,7 +8,7 @@ ghost use Rattle.mxf_skim.specs.declared.scan.Scan.{Scan};
 ghost use Rattle.mxf_skim.specs.declared.scan.Scan.TheVariants.{Full};
 
 use crate::coming::ComingValue;
-use crate::digesting::{DigestedPacket, FEWEST, digests_of, packets_at_front};
+use crate::digesting::{DigestedPacket, FEWEST, LEAST_VALUE, digests_of, packets_at_front};
 use crate::report::Report;
 use mxf_catalogue::Catalogue;
 use mxf_klv::{KEY_AND_LENGTH, Note, OutOfMemory, Stop, next_key_and_length};
@@ -79,6 +79,14 @@ impl Piece {
     {
         match &self.value {
             Some(value) => left < value.left(),
+            None => false,
+        }
+    }
+
+    /// Whether a value has begun that has more than `most` bytes.
+    pub(crate) fn is_within_more_than(&self, most: u64) -> bool {
+        match &self.value {
+            Some(value) => most < value.length(),
             None => false,
         }
     }
@@ -196,27 +204,11 @@ impl Piece {
     {
         let mut rest = bytes;
         'bytes: while !rest.is_empty() && self.stop.is_none() {
-            let used = self.take_some(rest)?;
+            let used = self.take(rest)?;
             let (_, after) = rest.split_at(used);
             rest = after;
         }
         Ok(())
-    }
-
-    /// Takes bytes of the next packet, or whole packets whose values are digested at once, and says how many bytes.
-    fn take_some(&mut self, bytes: &[u8]) -> Result<usize, OutOfMemory>
-        requires fed { IsFed self.old }
-        requires goes_on { self.old.stop ≡ None }
-        requires more { 0 < length bytes.now }
-        ensures { TakesSome self.old self.new bytes.now result }
-    {
-        if self.reads_next_packet() {
-            let packets = packets_at_front(self.alloc, self.at, bytes)?;
-            if packets.len() >= FEWEST {
-                return self.take_packets(&packets, bytes);
-            }
-        }
-        self.take(bytes)
     }
 
     /// Whether the next byte begins a packet, whose value is read.
@@ -252,12 +244,12 @@ impl Piece {
         Ok((self.at - start) as usize)
     }
 
-    /// Takes bytes of the next packet, and says how many.
+    /// Takes bytes of the next packet, or whole packets whose values are digested at once, and says how many bytes.
     fn take(&mut self, bytes: &[u8]) -> Result<usize, OutOfMemory>
         requires fed { IsFed self.old }
         requires goes_on { self.old.stop ≡ None }
         requires more { 0 < length bytes.now }
-        ensures { TakesFront self.old self.new bytes.now result }
+        ensures { TakesSome self.old self.new bytes.now result }
     {
         match self.value.take() {
             Some(value) => self.take_value(value, bytes),
@@ -266,19 +258,25 @@ impl Piece {
     }
 
     /// Takes bytes of the next packet's key and length, and says how many. If they come whole, they are read where they
-    /// lie.
+    /// lie; if whole packets do whose values are digested at once, these are taken.
     fn take_head(&mut self, bytes: &[u8]) -> Result<usize, OutOfMemory>
         requires fed { IsFed self.old }
         requires goes_on { self.old.stop ≡ None }
         requires head { self.old.value ≡ None }
         requires more { 0 < length bytes.now }
-        ensures { TakesFront self.old self.new bytes.now result }
+        ensures { TakesSome self.old self.new bytes.now result }
     {
         if !self.head.is_empty() {
             return self.take_more_of_head(bytes);
         }
         match next_key_and_length(self.at, bytes) {
             Ok((key, ber)) => {
+                if ber.value() >= LEAST_VALUE && self.reads_next_packet() {
+                    let packets = packets_at_front(self.alloc, self.at, bytes)?;
+                    if packets.len() >= FEWEST {
+                        return self.take_packets(&packets, bytes);
+                    }
+                }
                 let value = ComingValue::by(self.alloc, self.scan, self.at, key, ber)?;
                 self.go_on(value)?;
                 Ok(16 + usize::from(ber.width()))

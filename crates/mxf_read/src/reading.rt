@@ -6,6 +6,7 @@ ghost use Rattle.mxf_read.specs.Skimming.{SkimsAll, SkimsOnce};
 ghost use Rattle.mxf_read.specs.declared.reading.Cause.TheVariants as causes;
 ghost use Rattle.mxf_read.specs.declared.reading.StepFault.TheVariants as faults;
 
+use crate::digesting::MOST;
 use crate::piece::Piece;
 use crate::ticks::ReadTicks;
 use mxf_klv::OutOfMemory;
@@ -146,9 +147,9 @@ pub(crate) fn feed_step<R: Read>(
 /// Feeds the piece with at most `limit` bytes of the reader, until it stops, through a window. Interrupted reads are
 /// repeated, 1,024 times at most.
 ///
-/// The first read is of 65,536 bytes at most. After one that fills its room the next has twice as much, up to 16,777,216
-/// bytes, if there is memory: so the values of many packets come at once, and are digested side by side. The window
-/// keeps its room for the next piece.
+/// The first read is of 65,536 bytes at most. After one that fills its room with few packets the next has twice as
+/// much, up to 16,777,216 bytes, if there is memory: so the values of many packets come at once, and are digested side
+/// by side. Where a value is too long for that, the room stays. The window keeps its memory for the next piece.
 pub(crate) fn read_through<R: Read>(
     piece: &mut Piece,
     from: &mut R,
@@ -163,11 +164,12 @@ pub(crate) fn read_through<R: Read>(
     let mut interruptions = 0;
     widen(window, room)?;
     'steps: while left > 0 && !piece.has_stopped() {
+        let noted = piece.noted();
         match feed_step(piece, from, left.min(room), window) {
             Ok(0) => return Ok(()),
             Ok(count) => {
                 left -= count;
-                if count == room {
+                if count == room && gains_by_more(piece, noted) {
                     room = more_room(window, room);
                 }
             }
@@ -179,6 +181,13 @@ pub(crate) fn read_through<R: Read>(
         }
     }
     Ok(())
+}
+
+/// Whether more packets would be digested at once if more bytes came at once: fewer were noted since there were
+/// `before` notes than are digested at once, and the value that has begun isn't too long.
+fn gains_by_more(piece: &Piece, before: u64) -> bool {
+    piece.noted() < before.saturating_add(MOST as u64)
+        && !piece.is_within_more_than(GREATEST_ROOM / 4)
 }
 
 /// Makes room in the window for so many bytes.

@@ -1,5 +1,4 @@
-use Rattle.std.proofs.Common.{[], List, append-nil, subst}
-use Rattle.mxf_klv.specs.Parts.{PacketParts}
+use Rattle.std.proofs.Common.{[], append-nil, subst}
 use Rattle.mxf_read.specs.WholePackets.{StandAtFront}
 use Rattle.mxf_read.proofs.digesting.packets_at_front.Goals as goal
 

@@ -1,4 +1,4 @@
-use Rattle.std.proofs.Common.{arith, length-take, take, subst, ◌∙◌}
+use Rattle.std.proofs.Common.{arith, length-take, take, subst}
 use Rattle.std.proofs.lemmas.List.{take-append-le}
 use Rattle.mxf_read.specs.Feeding.{Feeds}
 use Rattle.mxf_read.proofs.reading.feed_step.Goals as goal

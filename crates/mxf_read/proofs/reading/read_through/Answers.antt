@@ -17,8 +17,8 @@ returns-in-Ok-eq0 g c =
       inl (inr (step.ended (omega (arith, c.in-Ok-eq0.field-0-test)))),
     )
 
-pub steps-preserved-then-count-room : goal.steps-preserved-then-count-room
-steps-preserved-then-count-room g c =
+pub steps-preserved-then-gains_by_more : goal.steps-preserved-then-gains_by_more
+steps-preserved-then-gains_by_more g c =
     let (done, counted, consumed, fed, repeats, some, wide) = c.steps.invariant in
     let step = c.in-Ok.ensures in
     let both = length-append done step.bytes in (

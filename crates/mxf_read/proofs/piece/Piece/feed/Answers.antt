@@ -22,7 +22,7 @@ bytes-preserved c =
       split ∙ ap (λ (t : List ℕ). done ++ t) (sym (take-append-drop n rest))
           ∙ sym (append_assoc done (take n rest) (drop n rest))
           ∙ ap (λ (t : List ℕ). (done ++ take n rest) ++ t) (sym c.split_at.ensures.back),
-      Feeds-trans c.args.self.now c.bytes.self c.take_some.new.self done (take n rest) fed c.in_ok-used.ensures.fed,
+      Feeds-trans c.args.self.now c.bytes.self c.take.new.self done (take n rest) fed c.in_ok-used.ensures.fed,
     )
 
 pub returns-else-is_none-clause-fed : goal.returns-else-is_none-clause-fed
@@ -38,5 +38,5 @@ returns-else-is_none-clause-fed c =
 pub returns-in_err-used-clause-err : goal.returns-in_err-used-clause-err
 returns-in_err-used-clause-err c =
     let (done, split, fed) = c.bytes.invariant in
-    where_failed c.from_residual.result (subst (Fails c.args.self.now c.take_some.new.self) (sym split)
-    (Fails-joined c.args.self.now c.bytes.self c.take_some.new.self done c.bytes.rest.now fed c.in_err-used.ensures))
+    where_failed c.from_residual.result (subst (Fails c.args.self.now c.take.new.self) (sym split)
+    (Fails-joined c.args.self.now c.bytes.self c.take.new.self done c.bytes.rest.now fed c.in_err-used.ensures))

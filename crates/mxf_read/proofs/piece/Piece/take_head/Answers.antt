@@ -1,7 +1,8 @@
 use Rattle.mxf_views.proofs.Common.{◌≡◌, ◌+◌, ◌-◌, ◌++◌, [], length, take, arith, refl, sym, ap, ◌∙◌, take_all}
-use Rattle.mxf_views.proofs.Common.{LengthParts, IsHeadNow}
+use Rattle.mxf_views.proofs.Common.{LengthParts, IsHeadNow, rules}
 use Rattle.mxf_read.proofs.Feeding.{begun, head_whole, passing_as}
 use Rattle.mxf_read.proofs.Reports.{nil_from}
+use Rattle.mxf_read.proofs.WholePackets.{some_of_front}
 use Rattle.mxf_read.proofs.piece.Piece.take_head.Goals as goal
 
 pub returns-in_ok-go_on-in-Ok : goal.returns-in_ok-go_on-in-Ok
@@ -33,3 +34,11 @@ returns-in_ok-go_on-in-Ok c =
           (begun scan o m bytes p v (16 + c.from.result) fed c.requires.goes_on c.requires.head now used made.offset
           made.none (passing_as scan p v fed.knows.taken_by _ _ made.key made.length made.passing));
     }
+
+pub returns-in_err-value-in-Ok : goal.returns-in_err-value-in-Ok
+returns-in_err-value-in-Ok c = some_of_front c.args.self.now c.args.self.now c.args.bytes.now
+    c.from_residual-in_err-value-in-Ok.result (search rules)
+
+pub returns-in_err-go_on-in-Ok : goal.returns-in_err-go_on-in-Ok
+returns-in_err-go_on-in-Ok c = some_of_front c.args.self.now c.go_on.new.self c.args.bytes.now
+    c.from_residual-in_err-go_on-in-Ok.result (search rules)
