@@ -220,7 +220,7 @@ fn take_part<R: Read + Drop>(
 /// What all parts hold together. Of each piece or range 1,099,511,627,776 bytes are read at most; the file of a
 /// catalogue has 1,073,741,824 bytes at most. A range's start is searched for in its first 33,554,432 bytes, which are
 /// held in memory that is kept from range to range. If there is none, the range hands nothing, and nothing more of it
-/// is read. A piece is read through 65,536 bytes of memory, which grow up to 16,777,216 while reads fill them.
+/// is read. A piece is read through 65,536 bytes of memory, which grow up to 16,777,216 for long packets.
 ///
 /// Whatever the order, the repeats and the joins of the parts, the notes are exactly those that the parts hand: any
 /// calls that were handed the same notes hold the same and write the same bytes. Each view is its function of the
