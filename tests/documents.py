@@ -5,11 +5,12 @@ there, and the function has the clauses that stand in parentheses after it. Sees
 file of crates/ stands in it. Sees that each row of a table stands in a table, which an empty line would end, and that
 the numbers of tests, edits, runs and files that a document gives are those of the scripts and crates. Sees that each row
 of docs/PROMISES.md names a clause or what tries it, and that its list has each public call that can be out of memory.
-Looks up in docs/MODEL.md each definition that a clause of a public function of the libraries cites, and compares the
-table of docs/LAYERS.md with crates.txt. Compares each page of docs/api with what tests/api_pages.py makes of the
-sources, and what docs/FORMATS.md owns (exit statuses, stops, forms of a source, findings, words of lines) with what
-README.md, docs/GUIDE.md, the man page and the sources say of it. Looks up the names of code of docs/MODEL.md and
-docs/DECISIONS.md in the sources. Only failures are printed; the last line is 'N passed, M failed'.
+Looks up in docs/MODEL.md each definition that a clause of a public function of the libraries cites, and each file of
+definitions that it names in the crate of the heading above. Compares the table of docs/LAYERS.md with crates.txt.
+Compares each page of docs/api with what tests/api_pages.py makes of the sources, and what docs/FORMATS.md owns (exit
+statuses, stops, forms of a source, findings, words of lines) with what README.md, docs/GUIDE.md, the man page and the
+sources say of it. Looks up the names of code of docs/MODEL.md and docs/DECISIONS.md in the sources. Only failures are
+printed; the last line is 'N passed, M failed'.
 """
 import ast
 import collections
@@ -170,7 +171,7 @@ def has_entry(model, file, name):
     """Whether the text has the name of a definition, or that of its relation or record: a test and a maker have that in
     small letters. Of small files it has the file."""
     if EXAMPLES.fullmatch(pathlib.Path(file).stem):
-        return f"(../{file})" in model
+        return re.search(rf"`(?:mxf_\w+/)?{pathlib.Path(file).name}`", model) is not None
     return f"`{name}`" in model or f"`{name.title().replace('_', '')}`" in model
 
 
@@ -184,6 +185,20 @@ def verdicts_of_definitions(document):
             cited.update(cited_in(source, exported_by(crate)))
     for file, name in sorted(cited):
         yield 1, f"{name} of {file}", None if has_entry(text_of(document), file, name) else "no such definition"
+
+
+def verdicts_of_definition_files(document):
+    """For each file of definitions that docs/MODEL.md names, with its crate or below the heading of that: its line, its
+    name, and that it isn't there, or None."""
+    if document.name != "MODEL.md":
+        return
+    below = ""
+    for number, line in enumerate(lines_of(document), 1):
+        heading = re.match(r"## (mxf_\w+)", line)
+        below = heading[1] if heading else below
+        for crate, name in re.findall(r"`(?:(mxf_\w+)/)?(\w+\.antt)`", line):
+            file = TOP / "crates" / (crate or below) / "specs" / name
+            yield number, name, None if file.exists() else f"no such file of {crate or below}"
 
 
 def crates():
@@ -614,7 +629,7 @@ def fault_of_fact(file, owned, there):
 VERDICTS = (
     verdicts_of_promises, verdicts_of_memory,
     verdicts_of_links, verdicts_of_contracts, verdicts_of_tables, verdicts_of_quotes,
-    verdicts_of_definitions, verdicts_of_layers, verdicts_of_numbers, verdicts_of_api, verdicts_of_code,
+    verdicts_of_definitions, verdicts_of_definition_files, verdicts_of_layers, verdicts_of_numbers, verdicts_of_api, verdicts_of_code,
     verdicts_of_facts, verdicts_of_declarations,
 )  # fmt: skip
 
