@@ -2,12 +2,11 @@
 ghost use Rattle.std.specs.Prelude.{◌≡◌, ◌<◌, ◌^◌, ◌∷◌, [], IfOk};
 ghost use Rattle.std.specs.List.{AllByRecursion};
 ghost use Rattle.mxf_views.specs.Rises.{RiseBy};
-ghost use Rattle.mxf_units.specs.Ranges.{units_with_keys};
 ghost use Rattle.mxf_partial.specs.Many.{ends_wanted};
 ghost use Rattle.mxf_partial.specs.Wanted.{IsOwn, wanted_in};
 
 use mxf_klv::OutOfMemory;
-use mxf_units::{EditUnit, Extent, UnitRange, Units, UnitsLeft};
+use mxf_units::{EditUnit, Extent, UnitRange, Units, units_with_keys};
 use std::alloc::Global;
 use std::marker::Model;
 
@@ -50,7 +49,7 @@ impl<'a> WantedUnits<'a> {
     ) -> Result<WantedUnits<'a>, OutOfMemory>
         ensures { IfOk result (λ w. w ≡ wanted_in units.now range.first range.count) }
     {
-        let wanted = listed(alloc, units, range)?;
+        let wanted = units_with_keys(alloc, units, range)?;
         Ok(WantedUnits {
             units,
             first: range.first(),
@@ -129,11 +128,4 @@ fn two(alloc: Global, first: EditUnit, last: EditUnit) -> Result<Vec<EditUnit>, 
     units.push(first)?;
     units.push(last)?;
     Ok(units)
-}
-
-/// The units of a range, and those before them from the least key frame on that they name. They take memory.
-fn listed(alloc: Global, units: &Units<'_>, range: UnitRange) -> Result<Vec<EditUnit>, OutOfMemory>
-    ensures { IfOk result (λ v. v.items ≡ units_with_keys units.now range.first range.count) }
-{
-    Ok(UnitsLeft::with_keys(units, range).collect(alloc)?)
 }

@@ -3,12 +3,14 @@ use Rattle.mxf_views.proofs.Common.{◌≡◌, ◌∙◌, ◌↔◌, ◌⊎◌, 
 use Rattle.mxf_views.proofs.Common.{List, [], ◌∷◌, refl, sym, ap, subst, inl, inr, arith, min, ◌||◌, ◌++◌, append_assoc}
 use Rattle.mxf_views.proofs.Common.{filter_map, nat_le, Option, None, Some, and_from, and_parts, cases_lt}
 use Rattle.mxf_views.proofs.Common.{false_from_ne_true, leb-true, cons_option, list_all, list_any, range_with_len}
-use Rattle.mxf_views.proofs.Common.{NoteParts, covered_end, either, same_bool}
+use Rattle.mxf_views.proofs.Common.{NoteParts, covered_end, either, map, map-append, same_bool}
 use Rattle.mxf_places.specs.Held.{IsDisputedAt, IsHeld, held_end, is_disputed_at, is_held}
 use Rattle.mxf_places.specs.AtHand.{KnownParts, has_offset}
 use Rattle.mxf_places.proofs.AtHandLaws.{has_offset-says}
 use Rattle.mxf_places.proofs.HeldLaws.{held_end-bound, is_disputed_at-says, is_held-says}
-use Rattle.mxf_units.specs.Units.{IsKnown, are_all_held, are_all_known, is_any_disputed, is_any_known, is_known}
+use Rattle.mxf_units.specs.Ranges.{units_from}
+use Rattle.mxf_units.specs.Units.{IsKnown, UnitsParts, are_all_held, are_all_known, is_any_disputed, is_any_known}
+use Rattle.mxf_units.specs.Units.{is_known, unit_of}
 
 pub either-says : (a b : Bool) → (a || b) ≡ true → (a ≡ true) ⊎ (b ≡ true)
 either-says true b e = inl refl
@@ -103,3 +105,19 @@ pub skipped-step : {K : Type 0} (f : ℕ → Option K) (xs whole : List K) (a b 
     → xs ++ filter_map f (range_with_len a (b - a)) ≡ whole
     → xs ++ filter_map f (range_with_len (a + 1) (b - (a + 1))) ≡ whole
 skipped-step f xs whole a b l e h = grind (arith, filter_map, range_with_len, cons_option, range-first)
+
+-- ---- units one after another
+
+range_append : (a m n : ℕ) → range_with_len a m ++ range_with_len (a + m) n ≡ range_with_len a (m + n)
+range_append a zero n = ap (λ x. range_with_len x n) (omega arith)
+range_append a (suc m) n = grind (arith, range_with_len, range_append (a + 1) m n)
+
+-- those from one up to another, and those from that on
+pub units_append : (u : UnitsParts) (from first count : ℕ) → from ≤ first
+    → units_from u from (first - from) ++ units_from u first count ≡ units_from u from (first - from + count)
+units_append u from first count low =
+    let unit = unit_of u.known u.index_sid in
+    let met : from + (first - from) ≡ first = omega arith in
+    sym (map-append unit (range_with_len from (first - from)) (range_with_len first count))
+    ∙ ap (map unit) (ap (λ x. range_with_len from (first - from) ++ range_with_len x count) (sym met)
+    ∙ range_append from (first - from) count)

@@ -11,7 +11,7 @@
 //! | Which indexes are there? | [`index_sids`], [`named_index_sids`] | the IndexSIDs of the segments, rising; those
 //! that partitions name and no segment has |
 //! | Up to which unit does one reach? | [`last_unit`] | the last unit to which a segment gives a place, if there is one |
-//! | Which units are asked for, and which key frames before them? | [`UnitRange`], [`UnitsLeft`] | the units, one after
+//! | Which units are asked for, and which key frames before them? | [`UnitRange`], [`UnitsLeft`], [`units_with_keys`] | the units, one after
 //! another |
 //! | Where does a unit lie, and is it held? | [`Units::of`], then [`Units::unit`] | [`EditUnit`]: its [`UnitStanding`],
 //! its [`Extent`], and what its index entry says |
@@ -79,7 +79,7 @@ pub use first_packet::behind_index;
 pub use indexes::{index_sids, named_index_sids};
 pub use last::last_unit;
 pub use location::Location;
-pub use range::{UnitRange, UnitsLeft};
+pub use range::{UnitRange, UnitsLeft, units_with_keys};
 pub use standing::UnitStanding;
 pub use unit::{EditUnit, Extent};
 pub use units::Units;

@@ -1,11 +1,13 @@
 //! Edit units one after another.
-ghost use Rattle.std.specs.Prelude.{◌≡◌, ◌+◌, ◌-◌, ◌<◌, ◌≤◌, ◌⊎◌, IfNone, IfSome};
+ghost use Rattle.std.specs.Prelude.{◌≡◌, ◌+◌, ◌-◌, ◌<◌, ◌≤◌, ◌⊎◌, IfNone, IfOk, IfSome};
 ghost use Rattle.std.specs.Iterator.{YieldsFirst, item_count};
 ghost use Rattle.std.specs.Option.{option_to_list};
 ghost use Rattle.mxf_units.specs.Ranges.{least_of, needed_from, units_from, units_with_keys};
 
 use crate::unit::EditUnit;
 use crate::units::Units;
+use mxf_klv::OutOfMemory;
+use std::alloc::Global;
 use std::marker::Model;
 
 /// The greatest edit unit: segments state theirs as signed numbers of eight bytes.
@@ -94,28 +96,36 @@ impl<'a> UnitsLeft<'a> {
             left: range.count,
         }
     }
-
-    /// All units of a range, and those before them from the least key frame on that they name.
-    pub fn with_keys(units: &'a Units<'a>, range: UnitRange) -> UnitsLeft<'a>
-        ensures { result ≡ units_with_keys units.now range.first range.count }
-    {
-        let next = first_needed(units, range);
-        UnitsLeft {
-            units,
-            next,
-            left: range.first - next + range.count,
-        }
-    }
 }
 
-/// The first unit that those of a range need: theirs, or the least of the key frames that they name.
-fn first_needed(units: &Units<'_>, range: UnitRange) -> u64
-    ensures first { result ≡ needed_from range.first (units_from units.now range.first range.count) }
-    ensures bound { result ≤ range.first }
+/// The units of a range, and those before them from the least key frame on that they name. They take memory. Each is
+/// asked once.
+pub fn units_with_keys(
+    alloc: Global,
+    units: &Units<'_>,
+    range: UnitRange,
+) -> Result<Vec<EditUnit>, OutOfMemory>
+    ensures { IfOk result (λ v. v.items ≡ units_with_keys units.now range.first range.count) }
 {
-    let mut from = range.first;
-    for number in range.first..range.first + range.count {
-        from = needed(from, units.key(number));
+    let own: Vec<EditUnit> = UnitsLeft::of(units, range).collect(alloc)?;
+    let next = needed_from(range.first, &own);
+    if next == range.first {
+        return Ok(own);
+    }
+    let left = range.first - next;
+    let mut all: Vec<EditUnit> = UnitsLeft { units, next, left }.collect(alloc)?;
+    all.extend_from_slice(&own)?;
+    Ok(all)
+}
+
+/// The first unit that some need: a first one, or the least of the key frames that they name.
+fn needed_from(first: u64, units: &[EditUnit]) -> u64
+    ensures first { result ≡ needed_from first units.now }
+    ensures bound { result ≤ first }
+{
+    let mut from = first;
+    for unit in units {
+        from = needed(from, unit.key);
     }
     from
 }

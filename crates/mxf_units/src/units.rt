@@ -241,15 +241,6 @@ impl<'a> Units<'a> {
         entry_of(self.segments_near(unit), unit).map(|entry| entry.temporal_offset)
     }
 
-    /// The key frame that the entry of a unit names, as [`Units::unit`] says it. It takes no memory, and looks at no
-    /// packet.
-    #[tactic(auto, unfolding(crate::specs::Units::unit_of))]
-    pub(crate) fn key(&self, unit: u64) -> Option<u64>
-        ensures { result ≡ (unit_of self.now.known self.now.index_sid unit).key }
-    {
-        key_by(unit, entry_of(self.segments_near(unit), unit))
-    }
-
     /// The unit with a number. Units are counted from 0 as they are stored. It takes no memory, and some binary
     /// searches, with a look at each segment of the index that overlaps there.
     #[tactic(auto, unfolding(crate::specs::Units::unit_of, crate::specs::Units::location_of))]
