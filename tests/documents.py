@@ -10,8 +10,8 @@ Looks up in docs/MODEL.md each definition that a clause of a public function of 
 definitions that it names in the crate of the heading above. Compares the table of docs/LAYERS.md with crates.txt.
 Compares each page of docs/api with what tests/api_pages.py makes of the sources, and what docs/FORMATS.md owns (exit
 statuses, stops, forms of a source, findings, words of lines) with what README.md, docs/GUIDE.md, the man page and the
-sources say of it. Looks up the names of code of docs/MODEL.md, docs/DECISIONS.md and docs/FORMATS.md in the sources. Only failures are
-printed; the last line is 'N passed, M failed'.
+sources say of it. Looks up the names of code of docs/MODEL.md, docs/DECISIONS.md and docs/FORMATS.md in the sources. Only
+failures are printed; the last line is 'N passed, M failed'.
 """
 import ast
 import collections
@@ -432,7 +432,7 @@ def words_of_sources():
 
 
 def verdicts_of_code(document):
-    """For each name of code of MODEL.md, DECISIONS.md and FORMATS.md in docs: its line, the name, and that no source has it, or
+    """For each name of code of MODEL.md, DECISIONS.md and FORMATS.md: its line, the name, and that no source has it, or
     None."""
     if document.name not in ("MODEL.md", "DECISIONS.md", "FORMATS.md"):
         return
