@@ -1,16 +1,17 @@
 #!/usr/bin/env python3
 """Looks up each link of the documents: the file is there, and has the heading that the link names. If a link is to a
-source and names a function or a type, or if one is named with its crate and modules (`crate::module::call`), that is
-there, and the function has the clauses that stand in parentheses after it. Sees that each line of a block that names a
-file of crates/ stands in it. Sees that each row of a table stands in a table, which an empty line would end, and that
-the numbers of tests, edits, runs and files that a document gives are those of the scripts and crates. Sees that each row
-of docs/PROMISES.md names a clause or what tries it, and that its list has each public call that can be out of memory.
+source and names a function or a type, or if one is named with its crate and modules (`crate::module::call`, or several as
+`crate::module::{call (clause), call}`), that is there, and the function has the clauses that stand in parentheses after
+it. Sees that each line of a block that names a file of crates/ stands in it. Sees that each row of a table stands in a
+table, which an empty line would end, and that the numbers of tests, edits, runs and files that a document gives are those
+of the scripts and crates. Sees that each row of docs/PROMISES.md names a clause, what tries it or edits that there are,
+and that its list has each public call that can be out of memory.
 Looks up in docs/MODEL.md each definition that a clause of a public function of the libraries cites, and each file of
 definitions that it names in the crate of the heading above. Compares the table of docs/LAYERS.md with crates.txt.
 Compares each page of docs/api with what tests/api_pages.py makes of the sources, and what docs/FORMATS.md owns (exit
 statuses, stops, forms of a source, findings, words of lines) with what README.md, docs/GUIDE.md, the man page and the
-sources say of it. Looks up the names of code of docs/MODEL.md and docs/DECISIONS.md in the sources. Only failures are
-printed; the last line is 'N passed, M failed'.
+sources say of it. Looks up the names of code of docs/MODEL.md, docs/DECISIONS.md and docs/FORMATS.md in the sources. Only
+failures are printed; the last line is 'N passed, M failed'.
 """
 import ast
 import collections
@@ -26,6 +27,7 @@ LINK = re.compile(r"\[[^\]]*\]\(([^)\s]+)\)")
 CLAUSES = r"(?: \(((?:`\w+`,? ?)+))?"
 CONTRACT = re.compile(r"\[`([\w:]+)`\]\(([^)\s]+\.rt)\)" + CLAUSES)
 PLACED = re.compile(r"`(mxf_\w+(?:::\w+)+)`" + CLAUSES)
+GROUPED = re.compile(r"`(mxf_\w+(?:::\w+)*)::\{([^`]*)\}`")
 LIBRARIES = (
     "mxf_digests", "mxf_klv", "mxf_sets", "mxf_catalogue", "mxf_skim", "mxf_views", "mxf_references", "mxf_findings", "mxf_tracks", "mxf_clocks",
     "mxf_places", "mxf_restore", "mxf_map", "mxf_units", "mxf_timed", "mxf_partial", "mxf_read", "mxf_readings",
@@ -99,18 +101,25 @@ def place_of(name):
     return (sources[count - 1] if count else folder / "lib.rt"), parts[count:]
 
 
+def placed_in(line):
+    """The functions and types that a line names with their crates and modules, each with its clauses."""
+    for name, clauses in PLACED.findall(line):
+        yield name, re.findall(r"\w+", clauses)
+    for place, names in GROUPED.findall(line):
+        for name, clauses in re.findall(r"([\w:]+)(?: \(([\w, ]+)\))?", names):
+            yield f"{place}::{name}", re.findall(r"\w+", clauses)
+
+
 def verdicts_of_contracts(document):
     """For each function or type of a source that is named: its line, its name, and why it isn't there, or None."""
     for number, line in enumerate(lines_of(document), 1):
         for name, path, clauses in CONTRACT.findall(line):
             text = text_of(document.parent / path)
             yield number, name, fault_of_contract(text, name.split("::")[-1], re.findall(r"\w+", clauses))
-        for name, clauses in PLACED.findall(line):
+        for name, clauses in placed_in(line):
             source, own = place_of(name)
             is_module = not own and source.exists()
-            yield number, name, None if is_module else fault_of_contract(
-                text_of(source), own[-1] if own else "", re.findall(r"\w+", clauses)
-            )
+            yield number, name, None if is_module else fault_of_contract(text_of(source), own[-1] if own else "", clauses)
 
 
 def verdicts_of_tables(document):
@@ -299,14 +308,23 @@ def fault_of_trial(words):
 def fault_of_promise(cell):
     """Why nothing carries the promise of a cell: it names no clause and not what tries it; or None."""
     proof, marked, trial = cell.partition("tried")
-    is_named = CONTRACT.search(proof) or PLACED.search(proof)
+    is_named = CONTRACT.search(proof) or PLACED.search(proof) or GROUPED.search(proof)
     if (proof or not marked) and not is_named and not any(words in proof for words in CARRIED):
         return "neither a clause nor what it is tried by"
     return fault_of_trial(trial) if marked else None
 
 
+def fault_of_edits(cell):
+    """Why a cell doesn't name edits by their crates, as tests/edits takes them, or None."""
+    named = re.findall(r"`(mxf_\w+)/(\w+)`", cell)
+    missing = [f"{crate}/{name}" for crate, name in named if not list((TOP / "crates" / crate).glob(f"*/{name}.edit"))]
+    return f"no such edit as {', '.join(missing)}" if missing else None if named else "no edit is named"
+
+
 # What is looked up in the second cells of docs/PROMISES.md, by the heading above them.
-PROMISED = {"Carried by": fault_of_promise, "Tried by": fault_of_trial, "Field or contract": None, "Edit": None}
+PROMISED = {
+    "Carried by": fault_of_promise, "Tried by": fault_of_trial, "Field or contract": None, "Edit": fault_of_edits,
+}  # fmt: skip
 
 
 def verdicts_of_promises(document):
@@ -414,9 +432,9 @@ def words_of_sources():
 
 
 def verdicts_of_code(document):
-    """For each name of code of docs/MODEL.md and docs/DECISIONS.md: its line, the name, and that no source has it, or
+    """For each name of code of MODEL.md, DECISIONS.md and FORMATS.md: its line, the name, and that no source has it, or
     None."""
-    if document.name not in ("MODEL.md", "DECISIONS.md"):
+    if document.name not in ("MODEL.md", "DECISIONS.md", "FORMATS.md"):
         return
     known = words_of_sources()
     for number, line in enumerate(lines_of(document), 1):
