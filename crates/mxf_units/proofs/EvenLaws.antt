@@ -1,13 +1,12 @@
 -- Edit units of one size that lie side by side.
-use Rattle.mxf_views.proofs.Common.{◌≡◌, ◌∙◌, ◌+◌, ◌*◌, ◌-◌, ◌^◌, ◌<◌, ◌≤◌, ◌&&◌, ◌||◌, ◌==◌, ℕ, Bool, true, Option, None}
-use Rattle.mxf_views.proofs.Common.{Some, Ok, Err, List, ap, arith, inl, inr, subst, sym, and_parts, leb-true, lt-ltb, In}
-use Rattle.mxf_views.proofs.Common.{NoteParts, PartitionParts, IsGiven, IsOnlyPlace, SegmentAtParts, segments_of, nat_le}
+use Rattle.mxf_views.proofs.Common.{◌≡◌, ◌∙◌, ◌+◌, ◌*◌, ◌-◌, ◌<◌, ◌≤◌, ◌||◌, ◌==◌, ℕ, Bool, true, Option, None}
+use Rattle.mxf_views.proofs.Common.{Some, Ok, List, ap, arith, inl, inr, subst, sym, and_parts, leb-true, lt-ltb, In}
+use Rattle.mxf_views.proofs.Common.{NoteParts, PartitionParts, IsOnlyPlace, SegmentAtParts, segments_of, nat_le}
 use Rattle.mxf_views.proofs.Common.{nat_lt, if◌then◌else◌, unsigned_abs, covers_constant, covers_entry, entry_offset}
 use Rattle.mxf_views.proofs.Common.{stream_offset, is_constant, cases_lt, ◌≢◌, ◌⊎◌, false, option_map, option_or, refl}
 use Rattle.mxf_views.proofs.Common.{same_Some, unwrap_or, [], ◌∷◌, count_by, count_by-cons, map, range_with_len, suc, tally}
 use Rattle.mxf_views.proofs.Common.{zero, IsTrue, LiesIn, not, not-true, ◌↔◌}
 use Rattle.std.proofs.Math.Nat.{mul-le-mul_left}
-use Rattle.mxf_views.specs.declared.index.place.StreamPlace.{StreamPlace}
 use Rattle.mxf_catalogue.specs.declared.run.Run.{Run}
 use Rattle.mxf_places.specs.AtHand.{KnownParts}
 use Rattle.mxf_places.specs.Held.{AreDisputed, IsDisputedAt, IsHeld}
@@ -23,8 +22,8 @@ use Rattle.mxf_units.specs.declared.even_units.Common.{Common}
 use Rattle.mxf_units.specs.declared.even_units.Common.TheVariants as commons
 use Rattle.mxf_units.specs.declared.even_units.UnitCounts.{UnitCounts}
 use Rattle.mxf_units.specs.declared.unit.EditUnit.{EditUnit}
-use Rattle.mxf_units.specs.Extents.{IsEndPlaceOf, IsTold}
-use Rattle.mxf_units.specs.Standings.{AllHeld, AnyDisputed, AnyKnown, BeginsUpTo, IsLast, IsStandingIn, IsZone}
+use Rattle.mxf_units.specs.Extents.{IsEndPlaceOf}
+use Rattle.mxf_units.specs.Standings.{AllHeld, AnyDisputed, AnyKnown, BeginsUpTo, IsStandingIn, IsZone}
 use Rattle.mxf_units.specs.Standings.{LiesInside}
 use Rattle.mxf_units.specs.Streams.{IsNext, segments_for}
 use Rattle.mxf_units.specs.Units.{AreBesideEssence, AreKnown, are_all_held, are_all_known, is_any_disputed}

@@ -1,9 +1,9 @@
 -- When edit units lie side by side, by the tests.
-use Rattle.mxf_views.proofs.Common.{◌≡◌, ◌≢◌, ◌∙◌, ◌+◌, ◌*◌, ◌^◌, ◌<◌, ◌≤◌, ◌&&◌, ◌==◌, ℕ, Bool, true, false, Option, None}
-use Rattle.mxf_views.proofs.Common.{Some, Result, Ok, Err, List, [], ◌∷◌, ap, inl, inr, refl, subst, sym, In, IsGiven}
+use Rattle.mxf_views.proofs.Common.{◌≡◌, ◌≢◌, ◌∙◌, ◌*◌, ◌^◌, ◌<◌, ◌==◌, ℕ, Bool, true, false, Option, None}
+use Rattle.mxf_views.proofs.Common.{Some, Result, Ok, Err, List, [], ◌∷◌, ap, inl, inr, refl, subst, sym, In}
 use Rattle.mxf_views.proofs.Common.{IsOnlyPlace, NoteParts, SegmentAtParts, segments_of, stream_offset}
 use Rattle.mxf_views.proofs.Common.{and_from, and_parts, eq-eqb, eqb-true, if◌then◌else◌, is_some, list_all-In, list_any}
-use Rattle.mxf_views.proofs.Common.{list_any-In, same_Some, same_bool}
+use Rattle.mxf_views.proofs.Common.{list_any-In, same_Some}
 use Rattle.std.specs.Prelude.{IfNone}
 use Rattle.std.specs.List.{list_all}
 use Rattle.mxf_views.specs.declared.index.place.StreamPlace.{StreamPlace}

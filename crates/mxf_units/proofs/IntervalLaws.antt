@@ -1,5 +1,5 @@
 -- Intervals that may have a number.
-use Rattle.mxf_views.proofs.Common.{◌≡◌, ◌∙◌, ◌<◌, ◌≤◌, ◌+◌, ◌++◌, ℕ, zero, suc, List, [], ◌∷◌, Option, None, refl, sym}
+use Rattle.mxf_views.proofs.Common.{◌≡◌, ◌∙◌, ◌<◌, ◌≤◌, ◌++◌, ℕ, zero, suc, List, [], ◌∷◌, Option, None, refl, sym}
 use Rattle.mxf_views.proofs.Common.{ap, append-nil, append_assoc, arith, drop, filter_map, get_or, length, max, min}
 use Rattle.mxf_views.proofs.Common.{subst, take, AllByRecursion, AllWithin, cons_option, IsNonDecreasing}
 use Rattle.mxf_views.proofs.Common.{IsNonDecreasingBy, nat_cmp, nat_tests, length-take, take-append-drop, take-take}

@@ -1,6 +1,6 @@
 -- What is held and disputed of ranges.
 use Rattle.mxf_views.proofs.Common.{◌≡◌, ◌∙◌, ◌↔◌, ◌⊎◌, ◌<◌, ◌≤◌, ◌+◌, ◌-◌, ℕ, zero, suc, Bool, true, false, IsTrue}
-use Rattle.mxf_views.proofs.Common.{List, [], ◌∷◌, refl, sym, ap, subst, inl, inr, arith, min, ◌||◌, ◌++◌, append_assoc}
+use Rattle.mxf_views.proofs.Common.{List, [], ◌∷◌, refl, sym, ap, inl, inr, arith, min, ◌||◌, ◌++◌, append_assoc}
 use Rattle.mxf_views.proofs.Common.{filter_map, nat_le, Option, None, Some, and_from, and_parts, cases_lt}
 use Rattle.mxf_views.proofs.Common.{false_from_ne_true, leb-true, cons_option, list_all, list_any, range_with_len}
 use Rattle.mxf_views.proofs.Common.{NoteParts, covered_end, either, map, map-append, same_bool}
@@ -109,8 +109,15 @@ skipped-step f xs whole a b l e h = grind (arith, filter_map, range_with_len, co
 -- ---- units one after another
 
 range_append : (a m n : ℕ) → range_with_len a m ++ range_with_len (a + m) n ≡ range_with_len a (m + n)
-range_append a zero n = ap (λ x. range_with_len x n) (omega arith)
-range_append a (suc m) n = grind (arith, range_with_len, range_append (a + 1) m n)
+range_append a zero n =
+    let same : a + 0 ≡ a = omega arith in
+    let none : n ≡ 0 + n = omega arith in
+    ap (λ x. range_with_len x n) same ∙ ap (range_with_len a) none
+range_append a (suc m) n =
+    let here : a + suc m ≡ (a + 1) + m = omega arith in
+    let more : suc m + n ≡ suc (m + n) = omega arith in
+    ap (λ l. a ∷ l) (ap (λ x. range_with_len (a + 1) m ++ range_with_len x n) here ∙ range_append (a + 1) m n)
+    ∙ sym (ap (range_with_len a) more)
 
 -- those from one up to another, and those from that on
 pub units_append : (u : UnitsParts) (from first count : ℕ) → from ≤ first

@@ -1,15 +1,14 @@
 -- Segments beside which others say nothing new.
-use Rattle.mxf_views.proofs.Common.{◌≡◌, ◌∙◌, ◌↔◌, ◌⊎◌, ◌+◌, ◌*◌, ◌-◌, ◌<◌, ◌≤◌, ◌==◌, ◌&&◌, ◌||◌, ◌++◌, ℕ, Bool, true}
+use Rattle.mxf_views.proofs.Common.{◌≡◌, ◌∙◌, ◌⊎◌, ◌*◌, ◌-◌, ◌++◌, ℕ, Bool, true}
 use Rattle.mxf_views.proofs.Common.{false, List, [], ◌∷◌, Option, None, Some, refl, sym, ap, subst, inl, inr, arith}
-use Rattle.mxf_views.proofs.Common.{and_from, and_parts, eqb-true, filter_map, if◌then◌else◌, le-leb, leb-true, length}
-use Rattle.mxf_views.proofs.Common.{lt-ltb, ltb-true, nat_le, nat_lt, option_map, unsigned_abs, IsPermutation, In}
-use Rattle.mxf_views.proofs.Common.{In-append, In-filter_map, SameMembers, covers_constant, covers_entry, entry_offset}
-use Rattle.mxf_views.proofs.Common.{index_entry, stream_offset, SegmentParts, entry_count, is_constant, SegmentAtParts}
+use Rattle.mxf_views.proofs.Common.{and_parts, filter_map, if◌then◌else◌, length}
+use Rattle.mxf_views.proofs.Common.{ltb-true, nat_lt, option_map, unsigned_abs, IsPermutation, In}
+use Rattle.mxf_views.proofs.Common.{In-append, In-filter_map, SameMembers, covers_entry, entry_offset}
+use Rattle.mxf_views.proofs.Common.{index_entry, stream_offset, entry_count, is_constant, SegmentAtParts}
 use Rattle.mxf_views.proofs.Common.{◌/◌, in_stream, place_in, list_any, list_any-In, same_bool}
 use Rattle.std.proofs.Math.Nat.{zero-div}
 use Rattle.mxf_sets.specs.Offset.{entry_at}
 use Rattle.mxf_sets.specs.Segment.{entry_size}
-use Rattle.mxf_sets.specs.declared.segment.offset.IndexEntry.{IndexEntry}
 use Rattle.mxf_views.specs.declared.index.place.StreamPlace.{StreamPlace}
 use Rattle.mxf_units.specs.EvenUnits.{has_entries}
 use Rattle.mxf_units.specs.NextPlaces.{AreNextPlaces, NextPlacesParts, constant_units}

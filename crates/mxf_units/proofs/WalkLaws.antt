@@ -1,6 +1,6 @@
 -- The place and the entry that all of some are: whichever way these stand, and by those segments alone that may have
 -- them.
-use Rattle.mxf_views.proofs.Common.{◌≡◌, ◌≢◌, ◌∙◌, ◌⊎◌, ◌==◌, ◌&&◌, ◌||◌, ◌<◌, ◌≤◌, ◌+◌, ◌-◌, ◌^◌, ℕ, Bool, true, false}
+use Rattle.mxf_views.proofs.Common.{◌≡◌, ◌≢◌, ◌∙◌, ◌⊎◌, ◌||◌, ◌<◌, ◌-◌, ◌^◌, ℕ, Bool, true, false}
 use Rattle.mxf_views.proofs.Common.{not, List, [], ◌∷◌, Option, None, Some, Result, Ok, Err, refl, sym, ap, inl, inr}
 use Rattle.mxf_views.proofs.Common.{arith, eq-eqb, eqb-true, ◌*◌, filter_map, if◌then◌else◌, nat_le, nat_lt, option_map}
 use Rattle.mxf_views.proofs.Common.{unsigned_abs, min, ltb-true, and_from, and_parts, false_from_ne_true, leb-true}

@@ -107,15 +107,27 @@ pub fn units_with_keys(
 ) -> Result<Vec<EditUnit>, OutOfMemory>
     ensures { IfOk result (λ v. v.items ≡ units_with_keys units.now range.first range.count) }
 {
-    let own: Vec<EditUnit> = UnitsLeft::of(units, range).collect(alloc)?;
+    let own = listed(alloc, units, range.first, range.count)?;
     let next = needed_from(range.first, &own);
     if next == range.first {
         return Ok(own);
     }
-    let left = range.first - next;
-    let mut all: Vec<EditUnit> = UnitsLeft { units, next, left }.collect(alloc)?;
+    let mut all = listed(alloc, units, next, range.first - next)?;
     all.extend_from_slice(&own)?;
     Ok(all)
+}
+
+/// So many units from one on. They take memory.
+fn listed(
+    alloc: Global,
+    units: &Units<'_>,
+    next: u64,
+    left: u64,
+) -> Result<Vec<EditUnit>, OutOfMemory>
+    requires { next + left ≤ 9223372036854775808 }
+    ensures { IfOk result (λ v. v.items ≡ units_from units.now next left) }
+{
+    Ok(UnitsLeft { units, next, left }.collect(alloc)?)
 }
 
 /// The first unit that some need: a first one, or the least of the key frames that they name.

@@ -1,6 +1,5 @@
-use Rattle.std.proofs.Common.{◌≡◌, ◌-◌, ◌<◌, ◌≤◌, ℕ, arith, true}
+use Rattle.std.proofs.Common.{◌-◌, arith}
 use Rattle.std.proofs.lemmas.Bool.{leb-true}
-use Rattle.mxf_catalogue.specs.Runs.{LiesIn}
 use Rattle.mxf_units.proofs.even_units.has_all.Goals as goal
 
 -- The set ends below the last of the offsets, so that isn't in it.

@@ -1,4 +1,4 @@
-use Rattle.std.proofs.Common.{◌≡◌, ◌<◌, ◌≤◌, ℕ, arith, subst, sym, true}
+use Rattle.std.proofs.Common.{arith}
 use Rattle.std.proofs.lemmas.Bool.{ltb-true}
 use Rattle.mxf_units.proofs.RangeLaws.{held-below}
 use Rattle.mxf_units.proofs.even_units.is_any_held.Goals as goal

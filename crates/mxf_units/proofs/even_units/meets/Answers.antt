@@ -1,6 +1,5 @@
-use Rattle.std.proofs.Common.{◌≡◌, ◌<◌, ◌≤◌, ℕ, arith, true, subst, sym}
+use Rattle.std.proofs.Common.{arith}
 use Rattle.std.proofs.lemmas.Bool.{ltb-true}
-use Rattle.mxf_catalogue.specs.Runs.{LiesIn}
 use Rattle.mxf_units.proofs.even_units.meets.Goals as goal
 
 pub returns-then-from-end : goal.returns-then-from-end

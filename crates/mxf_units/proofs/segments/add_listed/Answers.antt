@@ -1,7 +1,5 @@
-use Rattle.mxf_views.proofs.Common.{◌∙◌, ◌≡◌, ◌++◌, ◌+◌, ◌-◌, ◌<◌, List, [], ◌∷◌, ap, arith, filter_map, subst, sym, ℕ}
-use Rattle.mxf_views.proofs.Common.{AllByRecursion, range_with_len, all_push, place_in}
-use Rattle.mxf_views.specs.declared.index.place.StreamPlace.{StreamPlace}
-use Rattle.mxf_units.specs.Streams.{IsSmall}
+use Rattle.mxf_views.proofs.Common.{arith, filter_map}
+use Rattle.mxf_views.proofs.Common.{range_with_len, all_push, place_in}
 use Rattle.mxf_units.proofs.RangeLaws.{placed-step, skipped-step}
 use Rattle.mxf_units.proofs.segments.add_listed.Goals.{in-Some+in_ok-push, in_default}
 use Rattle.mxf_units.proofs.segments.add_listed.Goals as goal

@@ -1,8 +1,8 @@
-use Rattle.std.proofs.Common.{◌≡◌, ◌∙◌, ◌+◌, ◌/◌, ◌<◌, ◌≤◌, ℕ, IfSome, Option, arith, subst}
+use Rattle.std.proofs.Common.{◌∙◌, ◌+◌, ◌/◌, ◌<◌, ◌≤◌, ℕ, IfSome, Option, arith, subst}
 use Rattle.mxf_units.specs.EvenUnits.{IsCommon}
 use Rattle.mxf_units.specs.Units.{unit_of}
 use Rattle.mxf_units.specs.declared.even_units.Common.{Common}
-use Rattle.mxf_units.proofs.EvenLaws.{both_counts, common_counts, one_counts}
+use Rattle.mxf_units.proofs.EvenLaws.{both_counts, common_counts}
 use Rattle.mxf_units.proofs.even_units.EvenUnits.+counts_from.Goals as goal
 
 pub returns-in-Some-clause-counts : goal.returns-in-Some-clause-counts

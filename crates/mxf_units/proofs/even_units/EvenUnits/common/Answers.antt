@@ -1,4 +1,4 @@
-use Rattle.mxf_views.proofs.Common.{◌≡◌, ◌∙◌, ◌+◌, ◌*◌, ◌<◌, ◌≤◌, ◌^◌, ℕ, arith, ap, subst}
+use Rattle.mxf_views.proofs.Common.{arith, ap, subst}
 use Rattle.mxf_units.specs.EvenUnits.{AreAtHandTogether, AreEven, AreHeldTogether, AreNeitherTogether, EvenParts}
 use Rattle.mxf_units.proofs.EvenLaws.{hand_together, held_together, moved, neither_together}
 use Rattle.mxf_units.proofs.even_units.EvenUnits.common.Goals as goal

@@ -1,9 +1,8 @@
-use Rattle.mxf_views.proofs.Common.{◌≡◌, ◌∙◌, ◌+◌, ◌-◌, ◌<◌, ◌≤◌, ◌^◌, ℕ, arith, ap, sym}
+use Rattle.mxf_views.proofs.Common.{◌≡◌, ◌∙◌, ◌+◌, ◌-◌, ◌≤◌, arith, ap, sym}
 use Rattle.mxf_units.specs.EvenUnits.{EvenParts, counts_of, counts_of_standing}
 use Rattle.mxf_units.specs.Ranges.{units_from}
 use Rattle.mxf_units.specs.Units.{unit_of}
 use Rattle.mxf_units.specs.declared.unit.EditUnit.{EditUnit}
-use Rattle.mxf_units.specs.declared.even_units.UnitCounts.{UnitCounts}
 use Rattle.mxf_units.proofs.EvenLaws.{both_counts, one_counts}
 use Rattle.mxf_units.proofs.even_units.EvenUnits.counts.Goals as goal
 

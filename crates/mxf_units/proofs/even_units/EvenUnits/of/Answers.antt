@@ -1,5 +1,4 @@
-use Rattle.mxf_views.proofs.Common.{◌≡◌, ◌∙◌, ◌<◌, ◌≤◌, ◌^◌, ℕ, Option, None, Some, Ok, Err, arith, ap, sym, true, false}
-use Rattle.mxf_units.specs.EvenUnits.{AreEven, EvenParts, common_size, told_zone}
+use Rattle.mxf_views.proofs.Common.{◌≡◌, ◌∙◌, Some, arith, sym}
 use Rattle.mxf_units.proofs.EvenTests.{first_zone, gives_both, has_size, last_zone, if_none, renamed, some_size, tests_say}
 use Rattle.mxf_units.proofs.even_units.EvenUnits.of.Goals as goal
 use Rattle.mxf_units.proofs.even_units.EvenUnits.of.Goals.{then-last-first-via-then-last-first}

@@ -1,7 +1,6 @@
 use Rattle.mxf_views.proofs.Common.{◌∙◌, ◌<◌, List, ap, arith, subst, sym, AllByRecursion}
 use Rattle.mxf_views.specs.declared.index.place.StreamPlace.{StreamPlace}
-use Rattle.mxf_units.specs.Intervals.{IsAround}
-use Rattle.mxf_units.specs.NextPlaces.{AreSized, NextPlacesParts, end_number, first_number, next_by}
+use Rattle.mxf_units.specs.NextPlaces.{AreSized, end_number, first_number, next_by}
 use Rattle.mxf_units.specs.Streams.{least_above, lesser, offsets_in}
 use Rattle.mxf_units.proofs.LeastLaws.{lesser_assoc, small-least}
 use Rattle.mxf_units.proofs.NextPlaceLaws.{all_around, around-least}
