@@ -352,14 +352,15 @@ def calls_with_memory():
 
 
 def verdicts_of_memory(document):
-    """For each call that can answer that it is out of memory: that the list at the top of docs/PROMISES.md hasn't its
-    name, or None."""
+    """For each call that can answer that it is out of memory: that the list of such calls in docs/PROMISES.md hasn't
+    its name, or None."""
     if document.name != "PROMISES.md":
         return
-    top = text_of(document).split("\n## ")[0]
+    _, _, behind = text_of(document).partition("\n### Calls that take memory\n")
+    listed = behind.split("\n## ")[0]
     for owner, name in calls_with_memory():
         names = [f"`{owner}::{name}`"] if name in ("of", "read") else [f"`{owner}::{name}`", f"`{name}`"]
-        fault = None if any(named in top for named in names) else "not in the list of calls that take memory"
+        fault = None if any(named in listed for named in names) else "not in the list of calls that take memory"
         yield 1, f"{owner}::{name}" if owner else name, fault
 
 
