@@ -10,16 +10,17 @@ use Rattle.mxf_verify.specs.Agreeing.{agrees, agrees_with}
 use Rattle.mxf_verify.specs.Candidates.{notes_of, offset_of}
 use Rattle.mxf_verify.specs.Compared.{AreSame, ComparesBytes}
 use Rattle.mxf_verify.specs.Taking.{HasTaken, agreeing, has_digest, told}
-use Rattle.mxf_verify.specs.SourceReads.{AreApart, ReadsSource, HasReadAll}
+use Rattle.mxf_verify.specs.SourceReads.{AreApart, HasDigested, HasRead, ReadsSource}
 use Rattle.mxf_verify.specs.Verifying.{IsAmong, IsSaidBy, front_bytes, front_size, held_in, held_size, is_digested}
 use Rattle.mxf_verify.specs.declared.candidate.Candidate.{Candidate}
 use Rattle.mxf_verify.specs.declared.compared.Compared.{Compared}
 use Rattle.mxf_verify.specs.declared.comparison.Comparison.{Comparison}
 use Rattle.mxf_verify.specs.declared.reading.Reading.{Reading}
 use Rattle.mxf_verify.proofs.ByteLaws.{agrees_none}
-use Rattle.mxf_verify.proofs.CandidateLaws.{and_true}
+use Rattle.mxf_verify.proofs.CandidateLaws.{and_true, covered_by_size, front_within}
+use Rattle.mxf_verify.proofs.ReadingLaws.{notes_between, passed_to, stand_apart}
 use Rattle.mxf_verify.proofs.SaidLaws.{said_told}
-use Rattle.mxf_verify.proofs.TakingLaws.{all_held}
+use Rattle.mxf_verify.proofs.TakingLaws.{all_held, notes_taken, value_none}
 
 -- no byte says anything else
 agrees_with_none : (n : NoteParts) → agrees_with n [] ≡ true
@@ -76,25 +77,12 @@ told_are_same offset bytes (suc digested) (r ∷ notes) are left (suc k) d l h a
     told_are_same offset bytes digested notes (λ j x m q. are (suc j) x (omega arith) (omega arith))
     (λ j x m q. left (suc j) x (omega arith) (omega arith)) k d (omega arith) (omega arith) among
 
--- the notes are those that it began with
-notes_told : (offset : ℕ) (bytes : List ℕ) (digested : ℕ) (notes : List (Bor NoteParts))
-    → notes_of (map (told offset bytes) (take digested notes) ++ map (agreeing offset bytes) (drop digested notes))
-    ≡ notes
-unfolding told agreeing
-notes_told offset bytes zero [] = refl
-notes_told offset bytes (suc digested) [] = refl
-notes_told offset bytes zero (r ∷ notes) = ap (λ l. r ∷ l) (notes_told offset bytes zero notes)
-notes_told offset bytes (suc digested) (r ∷ notes) = ap (λ l. r ∷ l) (notes_told offset bytes digested notes)
-
-pub notes_read : (offset : ℕ) (bytes : List ℕ) (digested : ℕ) (notes : List (Bor NoteParts)) (c : Comparison)
-    → HasReadAll offset bytes digested notes c → notes_of c.candidates.items ≡ notes
-notes_read offset bytes digested notes c h = ap notes_of h.taken.candidates ∙ notes_told offset bytes digested notes
-
-pub read_are_same : (offset : ℕ) (bytes : List ℕ) (digested : ℕ) (notes : List (Bor NoteParts)) (c : Comparison)
-    → AllWithin (λ r. IsNote r.now) notes 0 (length notes) → HasReadAll offset bytes digested notes c
-    → AreSame offset bytes c.candidates.items
-read_are_same offset bytes digested notes c are h =
-    subst (AreSame offset bytes) (sym h.taken.candidates) (told_are_same offset bytes digested notes are h.left)
+read_are_same : (offset : ℕ) (bytes : List ℕ) (notes : List (Bor NoteParts)) (r : Reading)
+    → AllWithin (λ x. IsNote x.now) notes 0 (length notes) → HasRead offset bytes bytes notes r
+    → AreSame offset bytes r.comparison.candidates.items
+read_are_same offset bytes notes r are h =
+    subst (AreSame offset bytes) (sym h.compared.taken.candidates)
+    (told_are_same offset bytes r.next notes are h.compared.left)
 
 -- what is so of the note of each candidate is so of each of the notes
 pub notes_within : (P : Bor NoteParts → Type 0) (cs : List Candidate) → AllWithin (λ c. P c.note) cs 0 (length cs)
@@ -115,6 +103,35 @@ none_taken offset c fresh behind at = record {
   behind = notes_within (λ r. offset ≤ r.now.offset) c.candidates.items behind;
   ended = λ k d l h q. absurd (omega arith);
 }
+
+-- so far no digest was compared, and the first note that knows one is next
+none_read : (offset : ℕ) (r : Reading)
+    → AllWithin (λ x. x.is_same ≡ true) r.comparison.candidates.items 0 (length r.comparison.candidates.items)
+    → AllWithin (λ x. offset ≤ offset_of x) r.comparison.candidates.items 0 (length r.comparison.candidates.items)
+    → r.comparison.at ≡ offset → AreApart r.comparison.candidates.items
+    → r.next ≤ length r.comparison.candidates.items
+    → AllWithin (λ x. is_digested x.note.now ≡ false) r.comparison.candidates.items 0 r.next → r.hasher ≡ None
+    → HasRead offset [] [] (notes_of r.comparison.candidates.items) r
+none_read offset r fresh behind at apart within undigested none =
+    let cs = r.comparison.candidates.items in
+    let notes = notes_of cs in
+    let count = length-map cs (λ (x : Candidate). x.note) in
+    let begun = notes_within (λ x. offset ≤ x.now.offset) cs behind in record {
+      compared = record {
+        apart = stand_apart cs apart;
+        taken = passed_to offset [] 0 r.next notes r.comparison (omega arith) (omega (arith, count, within))
+            (notes_between (λ x. is_digested x.now ≡ false) cs 0 r.next within undigested)
+            (none_taken offset r.comparison fresh behind at);
+        left = λ j x l m q. omega (
+          arith,
+          begun j x (omega arith) m,
+          covered_by_size (get_or notes j x).now,
+          front_within (get_or notes j x).now,
+        );
+      };
+      digest = subst (HasDigested offset [] r.next notes) (sym none) (λ j x l m q.
+          value_none (get_or notes j x).now offset [] (omega (arith, begun j x (omega arith) m)));
+    }
 
 -- what came is the front of the source
 pub front_came : (before after : Option (List ℕ)) (more : List ℕ) (limit : ℕ) → Consumes before after more
@@ -159,12 +176,14 @@ pub compares_bytes : (all : List Candidate) (offset limit first last : ℕ) (bef
     → AllWithin (λ x. offset_of x < offset) all 0 first → AllWithin (λ x. offset ≤ offset_of x) all first (length all)
     → AllWithin (λ x. offset + limit ≤ offset_of x) all last (length all) → first ≤ last → last ≤ length all
     → old.comparison.candidates.items ≡ take (last - first) (drop first all) → old.comparison.at ≡ offset
+    → AreApart all → old.next ≤ length old.comparison.candidates.items
+    → AllWithin (λ x. is_digested x.note.now ≡ false) old.comparison.candidates.items 0 old.next → old.hasher ≡ None
     → ReadsSource before after old new (offset + limit)
     → c.first ≡ first → c.candidates.items ≡ new.comparison.candidates.items → c.end ≡ new.comparison.at
     → IfSome before (λ bytes. ComparesBytes all offset (offset + limit) (take limit bytes) c)
-compares_bytes all offset limit first last None after old new c fresh are lower upper behind l m items at r place same end = tt
+compares_bytes all offset limit first last None after old new c fresh are lower upper behind l m items at apart inside undigested none r place same end = tt
 compares_bytes all offset limit first last
-    (Some bytes) after old new c fresh are lower upper behind l m items at r place same end =
+    (Some bytes) after old new c fresh are lower upper behind l m items at apart inside undigested none r place same end =
     let part = take (last - first) (drop first all) in
     let is_fresh = subst (λ cs. AllWithin (λ x. x.is_same ≡ true) cs 0 (length cs)) (sym items)
     (slice_within (λ x. x.is_same ≡ true) all first (last - first) (λ k d l h. fresh k d (omega arith) h)) in
@@ -173,7 +192,9 @@ compares_bytes all offset limit first last
     let are_notes = subst (λ cs. AllWithin (λ (x : Candidate). IsNote x.note.now) cs 0 (length cs)) (sym items)
     (slice_within (λ x. IsNote x.note.now) all first (last - first) (λ k d l h. are k d (omega arith) h)) in
     let notes = notes_of old.comparison.candidates.items in
-    let (digested, read) = r.taken offset [] notes (none_taken offset old.comparison is_fresh is_ahead at) in
+    let are_apart = subst AreApart (sym items) (part_apart all first (last - first) apart) in
+    let read = r.reads offset [] notes
+    (none_read offset old is_fresh is_ahead at are_apart inside undigested none) in
     let within : length r.more ≤ limit = omega (arith, r.within, r.at, at) in
     let ended : (length r.more ≡ limit) ⊎ IsAtEnd after =
     elim r.ended as (λ _. (length r.more ≡ limit) ⊎ IsAtEnd after) [
@@ -182,7 +203,7 @@ compares_bytes all offset limit first last
     ] in
     let came = front_came (Some bytes) after r.more limit r.consumed within ended in
     let named : notes_of c.candidates.items ≡ notes =
-    ap notes_of same ∙ notes_read offset r.more digested notes new.comparison read in
+    ap notes_of same ∙ notes_taken offset r.more new.next notes new.comparison read.compared.taken in
     let size : length part ≡ last - first =
     omega (arith, length-take (last - first) (drop first all), length-drop first all) in
     let count : length c.candidates.items ≡ last - first =
@@ -197,7 +218,7 @@ compares_bytes all offset limit first last
       behind = λ k d p q. behind k d (omega (arith, place, count, p)) q;
       same = subst (AreSame offset (take limit bytes)) (sym same)
           (subst (λ b. AreSame offset b new.comparison.candidates.items) came
-          (read_are_same offset r.more digested notes new.comparison
+          (read_are_same offset r.more notes new
           (notes_within (λ x. IsNote x.now) old.comparison.candidates.items are_notes) read));
       at = end ∙ r.at ∙ ap (λ k. k + length r.more) at ∙ ap (λ b. offset + length b) came;
     }

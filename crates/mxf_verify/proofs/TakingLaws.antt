@@ -4,23 +4,23 @@ use Rattle.std.proofs.Common.{◌≡◌, ◌+◌, ◌-◌, ◌<◌, ◌≤◌, �
 use Rattle.std.proofs.Common.{[], ◌∷◌, ◌++◌, length, take, drop, map, get_or, set, refl, sym, ap, ◌∙◌, subst}
 use Rattle.std.proofs.Common.{append-nil, min, arith, inl, inr}
 use Rattle.std.proofs.lemmas.Bool.{cases_lt}
-use Rattle.std.proofs.lemmas.List.{drop-drop, drop-take, get_or_default, length-append, length-drop, length-map}
-use Rattle.std.proofs.lemmas.List.{length-take, take_all}
-use Rattle.std.proofs.Math.Seq.{drop-append_seam}
+use Rattle.std.proofs.lemmas.List.{drop_all, get_or_default, length-append, length-drop, length-map, length-take}
+use Rattle.std.proofs.lemmas.List.{take_all}
 use Rattle.std.specs.List.{AllWithin}
 use Rattle.std.specs.Str.{bytes_eq}
 use Rattle.sha2.specs.Sha256.{sha256}
 use Rattle.mxf_klv.specs.Parts.{NoteParts}
 use Rattle.mxf_klv.specs.Note.{covered_end}
 use Rattle.mxf_verify.specs.Verifying.{IsAmong, front_size, held_in, held_size, is_digested}
-use Rattle.mxf_verify.specs.Agreeing.{agrees_on, agrees_with, part_of}
-use Rattle.mxf_verify.specs.Candidates.{also, compared}
-use Rattle.mxf_verify.specs.Taking.{HasTaken, agreeing, has_digest, told}
+use Rattle.mxf_verify.specs.Agreeing.{agrees_on, agrees_with, part_of, value_part}
+use Rattle.mxf_verify.specs.Candidates.{also, compared, notes_of}
+use Rattle.mxf_verify.specs.Taking.{HasTaken, agreeing, has_digest, told, value_in}
 use Rattle.mxf_verify.specs.declared.comparison.Comparison.{Comparison}
 use Rattle.mxf_verify.specs.declared.candidate.Candidate.{Candidate}
 use Rattle.mxf_verify.proofs.ByteLaws.{drop_of_append, take_of_append}
 use Rattle.mxf_verify.proofs.AgreementLaws.{agrees_with_append}
-use Rattle.mxf_verify.proofs.CandidateLaws.{agrees_on_none, and_true, compared_none, covered_by_size, part_behind}
+use Rattle.mxf_verify.proofs.CandidateLaws.{agrees_on_none, and_true, compared_none, covered_by_size, front_within}
+use Rattle.mxf_verify.proofs.CandidateLaws.{part_behind}
 
 -- what a note holds of bytes and further ones
 pub held_append : (n : NoteParts) (offset : ℕ) (bytes more : List ℕ) → offset ≤ n.offset
@@ -123,19 +123,32 @@ told_next offset bytes zero (r ∷ notes) is_same d e h digested same = λ i.
 told_next offset bytes (suc k) (r ∷ notes) is_same d e h digested same =
     grind (arith, told_next offset bytes k notes is_same d e (omega arith) digested same)
 
--- what is held of bytes that end with a note is, behind what stands ahead of the value, the last of them
-pub value_taken : (n : NoteParts) (offset : ℕ) (bytes value : List ℕ) → offset ≤ n.offset
-    → offset + length bytes ≡ n.offset + front_size n → length value ≡ held_size n - front_size n
-    → front_size n ≤ held_size n → drop (front_size n) (held_in n offset (bytes ++ value)) ≡ value
-unfolding held_in
-value_taken n offset bytes value h at size fits =
-    let d = n.offset - offset in
+-- of a value there is what came before, and what further bytes have of it
+pub value_more : (n : NoteParts) (offset : ℕ) (bytes more : List ℕ) → offset ≤ n.offset
+    → value_in n offset (bytes ++ more) ≡ value_in n offset bytes ++ value_part n (offset + length bytes) more
+unfolding value_in value_part
+value_more n offset bytes more h =
     let f = front_size n in
-    let whole : held_size n ≡ f + length value = omega (arith, size) in
-    let place : length bytes ≡ d + f = omega arith in
-    ap (λ k. drop f (take k (drop d (bytes ++ value)))) whole ∙ drop-take f (length value) (drop d (bytes ++ value))
-    ∙ ap (take (length value)) (drop-drop f d (bytes ++ value) ∙ ap (λ k. drop k (bytes ++ value)) (sym place)
-    ∙ drop-append_seam bytes value) ∙ take_all (length value) value (omega arith)
+    let held = held_in n offset bytes in
+    let part = part_of n (offset + length bytes) more in
+    let came = held_length n offset bytes h in
+    let front = front_within n in
+    let seen : f - length held ≡ f - (offset + length bytes - n.offset) = omega (arith, came, front) in
+    ap (drop f) (held_append n offset bytes more h) ∙ drop_of_append f held part ∙ ap (λ k. drop f held ++ drop k part) seen
+
+-- nothing of one that begins where the bytes end, or behind
+pub value_none : (n : NoteParts) (offset : ℕ) (bytes : List ℕ) → offset + length bytes ≤ n.offset
+    → value_in n offset bytes ≡ []
+unfolding value_in held_in
+value_none n offset bytes h =
+    ap (λ l. drop (front_size n) (take (held_size n) l)) (drop_all (n.offset - offset) bytes (omega arith))
+    ∙ ap (drop (front_size n)) (take_all (held_size n) [] (omega arith)) ∙ drop_all (front_size n) [] (omega arith)
+
+-- the digest of the value is the one that the note knows, or isn't
+pub digest_same : (n : NoteParts) (offset : ℕ) (bytes digest : List ℕ) → digest ≡ sha256 (value_in n offset bytes)
+    → bytes_eq digest n.held ≡ has_digest n (held_in n offset bytes)
+unfolding value_in has_digest
+digest_same n offset bytes digest e = ap (λ v. bytes_eq v n.held) e
 
 count_of : (offset : ℕ) (bytes : List ℕ) (k : ℕ) (notes : List (Bor NoteParts))
     → length (map (told offset bytes) (take k notes) ++ map (agreeing offset bytes) (drop k notes)) ≡ length notes
@@ -156,45 +169,28 @@ pub same_note : (offset : ℕ) (bytes : List ℕ) (k : ℕ) (notes : List (Bor N
 same_note offset bytes k notes c h d e few =
     ap (λ l. (get_or l k d).note) h.candidates ∙ note_at offset bytes k notes d e few
 
--- bytes came that end with the note at a place, the last of them its value, and its digest was compared
-pub digest_taken : (offset : ℕ) (bytes value : List ℕ) (k : ℕ) (notes : List (Bor NoteParts)) (old new : Comparison)
-    (is_same : Bool) (d : Candidate) → HasTaken offset (bytes ++ value) k notes old → k < length old.candidates.items
-    → IsTrue (is_digested (get_or old.candidates.items k d).note.now)
-    → offset + length bytes ≡ (get_or old.candidates.items k d).note.now.offset
-    + front_size (get_or old.candidates.items k d).note.now
-    → old.at ≡ covered_end (get_or old.candidates.items k d).note.now
-    → front_size (get_or old.candidates.items k d).note.now ≤ held_size (get_or old.candidates.items k d).note.now
-    → is_same ≡ bytes_eq (sha256 value) (get_or old.candidates.items k d).note.now.held
+-- the digest of the note at a place was compared, all of which came
+pub digest_said : (offset : ℕ) (bytes : List ℕ) (k : ℕ) (notes : List (Bor NoteParts)) (old new : Comparison)
+    (is_same : Bool) (d : Candidate) (e : Bor NoteParts) → HasTaken offset bytes k notes old → k < length notes
+    → IsTrue (is_digested (get_or notes k e).now) → covered_end (get_or notes k e).now ≤ offset + length bytes
+    → is_same ≡ has_digest (get_or notes k e).now (held_in (get_or notes k e).now offset bytes)
     → new.candidates.items ≡ set old.candidates.items k (also is_same (get_or old.candidates.items k d))
-    → new.at ≡ old.at → HasTaken offset (bytes ++ value) (k + 1) notes new
-unfolding has_digest
-digest_taken offset bytes value k notes old new is_same d h few digested front end fits same said at =
-    let n = (get_or old.candidates.items k d).note.now in
-    let whole = bytes ++ value in
-    let count = as_many offset whole k notes old h in
-    let within : k < length notes = omega (arith, count, few) in
-    let note = same_note offset whole k notes old h d d.note within in
-    let behind : offset ≤ n.offset = subst (λ (r : Bor NoteParts). offset ≤ r.now.offset) (sym note)
-    (h.behind k d.note (omega arith) within) in
-    let size = length-append bytes value in
-    let covered = covered_by_size n in
-    let came : length value ≡ held_size n - front_size n = omega (arith, size, covered, end, h.at, front) in
-    let held = value_taken n offset bytes value behind front came fits in
-    let told_same : is_same ≡ has_digest n (held_in n offset whole) =
-    same ∙ ap (λ v. bytes_eq (sha256 v) n.held) (sym held) in record {
-      candidates = grind (arith, set, also, get_or, told_next, whole, within, is_digested, note, has_digest, held_in);
-      at = at ∙ h.at;
-      behind = h.behind;
-      ended = λ j x l m q. elim (cases_lt j k) [
-        | inl low ↦ h.ended j x l low q
-        | inr high ↦ (
-            let last : j ≡ k = omega (arith, high, m) in
-            let there : get_or notes k d.note ≡ get_or notes j x =
-            get_or_default notes k d.note x within ∙ ap (λ i. get_or notes i x) (sym last) in
-            let ends = ap (λ (r : Bor NoteParts). covered_end r.now) (note ∙ there) in
-            omega (arith, ends, end, h.at))
-      ];
-    }
+    → new.at ≡ old.at → HasTaken offset bytes (k + 1) notes new
+digest_said offset bytes k notes old new is_same d e h within digested ends same said at = record {
+  candidates = said ∙ ap (λ (l : List Candidate). set l k (also is_same (get_or l k d))) h.candidates
+      ∙ told_next offset bytes k notes is_same d e within digested same;
+  at = at ∙ h.at;
+  behind = h.behind;
+  ended = λ j x l m q. elim (cases_lt j k) [
+    | inl low ↦ h.ended j x l low q
+    | inr high ↦ (
+        let last : j ≡ k = omega (arith, high, m) in
+        let there : get_or notes k e ≡ get_or notes j x =
+        get_or_default notes k e x within ∙ ap (λ i. get_or notes i x) (sym last) in
+        let end = ap (λ (r : Bor NoteParts). covered_end r.now) there in
+        omega (arith, end, ends))
+  ];
+}
 
 -- one that knows no digest has told all
 pub told_over : (offset : ℕ) (bytes : List ℕ) (k : ℕ) (notes : List (Bor NoteParts)) (e : Bor NoteParts)
@@ -206,12 +202,16 @@ told_over offset bytes zero (r ∷ notes) e h none = λ i.
     sym (told_undigested offset bytes r none) i ∷ map (agreeing offset bytes) notes
 told_over offset bytes (suc k) (r ∷ notes) e h none = grind (arith, told_over offset bytes k notes e (omega arith) none)
 
--- before any digest was compared each candidate has the note at its place
-pub note_agreeing : (offset : ℕ) (bytes : List ℕ) (notes : List (Bor NoteParts)) (j : ℕ) (d : Candidate)
-    (e : Bor NoteParts) → j < length notes
-    → (get_or (map (told offset bytes) (take 0 notes) ++ map (agreeing offset bytes) (drop 0 notes)) j d).note
-    ≡ get_or notes j e
-unfolding agreeing
-note_agreeing offset bytes [] j d e h = absurd (omega arith)
-note_agreeing offset bytes (r ∷ notes) zero d e h = refl
-note_agreeing offset bytes (r ∷ notes) (suc j) d e h = note_agreeing offset bytes notes j d e (omega arith)
+-- the notes are those that it began with
+notes_told : (offset : ℕ) (bytes : List ℕ) (digested : ℕ) (notes : List (Bor NoteParts))
+    → notes_of (map (told offset bytes) (take digested notes) ++ map (agreeing offset bytes) (drop digested notes))
+    ≡ notes
+unfolding told agreeing
+notes_told offset bytes zero [] = refl
+notes_told offset bytes (suc digested) [] = refl
+notes_told offset bytes zero (r ∷ notes) = ap (λ l. r ∷ l) (notes_told offset bytes zero notes)
+notes_told offset bytes (suc digested) (r ∷ notes) = ap (λ l. r ∷ l) (notes_told offset bytes digested notes)
+
+pub notes_taken : (offset : ℕ) (bytes : List ℕ) (digested : ℕ) (notes : List (Bor NoteParts)) (c : Comparison)
+    → HasTaken offset bytes digested notes c → notes_of c.candidates.items ≡ notes
+notes_taken offset bytes digested notes c h = ap notes_of h.candidates ∙ notes_told offset bytes digested notes

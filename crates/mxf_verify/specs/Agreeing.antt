@@ -25,3 +25,7 @@ agrees_on n seen bytes =
 -- Those of further bytes, the first of which lies at an offset, that the note holds.
 unfoldable pub part_of : NoteParts → ℕ → List ℕ → List ℕ
 part_of n at bytes = take (held_size n - (at - n.offset)) (drop (n.offset - at) bytes)
+
+-- Those of them that are of its value.
+unfoldable pub value_part : NoteParts → ℕ → List ℕ → List ℕ
+value_part n at bytes = drop (front_size n - (at - n.offset)) (part_of n at bytes)

@@ -1,10 +1,11 @@
 -- Notes that are compared with the bytes of a source as these come (this project's profile).
-use Rattle.std.specs.Prelude.{◌-◌, ◌≤◌, ◌&&◌, ℕ, Bool, List, length, map}
+use Rattle.std.specs.Prelude.{◌-◌, ◌<◌, ◌≤◌, ◌&&◌, ℕ, Bool, IsTrue, List, length, map, slice_index_or}
 use Rattle.std.specs.List.{AllWithin}
 use denote.Bor.{Bor}
 use Rattle.mxf_klv.specs.Parts.{NoteParts}
 use Rattle.mxf_klv.specs.Note.{covered_end}
 use Rattle.mxf_verify.specs.Agreeing.{agrees_on, part_of}
+use Rattle.mxf_verify.specs.Verifying.{is_digested}
 use Rattle.mxf_verify.specs.declared.candidate.Candidate.{Candidate}
 
 -- The candidate, compared with further bytes, the first of which lies at an offset.
@@ -28,3 +29,8 @@ also is_same c = record c { is_same = c.is_same && is_same }
 -- The notes of candidates.
 abbrev pub notes_of : List Candidate → List (Bor NoteParts)
 notes_of candidates = map (λ (c : Candidate). c.note) candidates
+
+-- At the place stands a candidate that knows a digest, if one stands there.
+abbrev pub IsAtDigested : ℕ → List Candidate → Type 0
+IsAtDigested place candidates = (d : Candidate) → place < length candidates
+    → IsTrue (is_digested (slice_index_or candidates place d).note.now)

@@ -4,6 +4,7 @@ pub mod Compared
 pub mod Comparing
 pub mod Finishing
 pub mod Fixities
+pub mod Hashing
 pub mod Opposing
 pub mod Others
 pub mod Reaching

@@ -15,6 +15,10 @@ use Rattle.mxf_verify.specs.declared.comparison.Comparison.{Comparison}
 unfoldable pub has_digest : NoteParts → List ℕ → Bool
 has_digest n bytes = bytes_eq (sha256 (drop (front_size n) bytes)) n.held
 
+-- Those of the bytes from an offset on that are of the note's value.
+unfoldable pub value_in : NoteParts → ℕ → List ℕ → List ℕ
+value_in n offset bytes = drop (front_size n) (held_in n offset bytes)
+
 -- The bytes are what the note says, as far as it says it byte by byte; and their value has its digest.
 unfoldable pub agreeing : ℕ → List ℕ → Bor NoteParts → Candidate
 agreeing offset bytes r = record { note = r; is_same = agrees_with r.now (held_in r.now offset bytes) }

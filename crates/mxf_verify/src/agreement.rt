@@ -2,7 +2,7 @@
 ghost use Rattle.std.specs.Prelude.{◌≡◌, ◌++◌, ◌≤◌, ◌||◌, drop, length, not, take};
 ghost use Rattle.mxf_klv.specs.Ber.{length_bytes};
 ghost use Rattle.mxf_klv.specs.Note.{keeps_value};
-ghost use Rattle.mxf_verify.specs.Agreeing.{agrees, agrees_on, part_of};
+ghost use Rattle.mxf_verify.specs.Agreeing.{agrees, agrees_on, part_of, value_part};
 ghost use Rattle.mxf_verify.specs.Verifying.{front_bytes};
 
 use byteorder::{BigEndian, ByteOrder};
@@ -120,4 +120,17 @@ pub(crate) fn part_of<'b>(note: &Note, at: u64, bytes: &'b [u8]) -> &'b [u8]
     let rest = behind(bytes, note.offset().saturating_sub(at) as usize);
     let (part, _) = rest.split_at(left.min(rest.len() as u64) as usize);
     part
+}
+
+/// Those of further bytes, the first of which lies at a file offset, that are of the note's value.
+#[tactic(auto, unfolding(crate::specs::Agreeing::value_part))]
+pub(crate) fn value_part<'b>(note: &Note, at: u64, bytes: &'b [u8]) -> &'b [u8]
+    ensures { result.now ≡ value_part note.now at bytes.now }
+{
+    let front = 16 + u64::from(note.width());
+    let seen = at.saturating_sub(note.offset());
+    behind(
+        part_of(note, at, bytes),
+        front.saturating_sub(seen) as usize,
+    )
 }

@@ -12,9 +12,11 @@ use crate::candidate::Candidate;
 use crate::reading::Reading;
 use mxf_klv::{MAX, Note, OutOfMemory, below};
 use mxf_read::PartFault;
-use sha2::{Digest, Sha256};
 use std::alloc::Global;
 use std::io::Read;
+
+/// How many bytes the window has room for at first through which a source is read.
+const LEAST_ROOM: usize = 65_536;
 
 /// Notes that were compared with the bytes of a source, of all candidates those from a place on, and where the bytes
 /// end, as a file offset.
@@ -62,9 +64,10 @@ pub(crate) fn compare_bytes<'a, R: Read>(
     let first = below(all, offset);
     let last = below(all, end).max(first);
     let candidates = Vec::from_slice(alloc, &all[first..last])?;
-    let mut reading = Reading::of(candidates, offset);
-    let mut room = [0u8; 65536];
-    reading.read_all(from, end, &Sha256::digest(&[]), &mut room)?;
+    let mut window = Vec::new(alloc);
+    window.resize(LEAST_ROOM, 0)?;
+    let mut reading = Reading::of(alloc, candidates, offset);
+    reading.read_all(from, end, &mut window)?;
     let Reading { comparison, .. } = reading;
     Ok(Compared {
         first,

@@ -26,6 +26,7 @@ mod comparing;
 mod comparison;
 mod finishing;
 mod fixity;
+mod hashing;
 pub mod laws;
 mod note_set;
 mod opposing;

@@ -17,11 +17,8 @@ use mxf_catalogue::Catalogue;
 use mxf_klv::{MAX, OutOfMemory};
 use mxf_read::{GREATEST_PIECE, GatherFault, Part, PartFault, gather};
 use std::alloc::Global;
-use std::io::{BufReader, Read};
+use std::io::Read;
 use thiserror::Error;
-
-/// The bytes that are read of a piece or range at once, if less is asked for.
-const BUFFER: usize = 65_536;
 
 /// Why a reference wasn't verified.
 #[derive(Clone, Copy, Debug, PartialEq, Eq, Error)]
@@ -52,8 +49,10 @@ impl From<OutOfMemory> for VerifyFault {
 /// looked for in them: bytes that no longer look like packets are judged like all others. 1,099,511,627,776 bytes of
 /// each are read at most, and none at or above [`MAX`]. A saved catalogue is its content.
 ///
-/// It takes memory for each note of the reference, two buffers of 65,536 bytes, and of catalogues what [`gather`] takes
-/// of each by itself. The first part that is at fault ends it. The parts are dropped in every case.
+/// It takes memory for each note of the reference, of pieces and ranges a window of at most 16,777,216 bytes, one after
+/// another, and of catalogues what [`gather`] takes of each by itself. The window has 65,536 bytes at first. It grows
+/// where more values come whole with it, which are digested side by side, and stays as it is if there is no memory for
+/// that. The first part that is at fault ends it. The parts are dropped in every case.
 pub fn verify<'a, R: Read + Drop>(
     alloc: Global,
     reference: &'a Catalogue,
@@ -109,10 +108,7 @@ fn take_bytes<R: Read + Drop>(
         SeesNext number (source_at offset bytes) seen.old seen.new)) }
     ensures fault { IfErr result IsOfAnyPart }
 {
-    // Small packets don't cost a read of the system each.
-    let Ok(mut from) = BufReader::with_capacity(alloc, BUFFER, from) else {
-        return Err(PartFault::OutOfMemory);
-    };
+    let mut from = from;
     let offset = offset.min(MAX);
     let read = seen
         .reference

@@ -1,26 +1,13 @@
-use Rattle.mxf_views.proofs.Common.{◌∙◌, ◌+◌, ◌-◌, ◌≤◌, IfSome, length, refl, arith, subst, sym, take, AllWithin}
-use Rattle.mxf_views.proofs.Common.{IsNonDecreasingBy}
+use Rattle.mxf_views.proofs.Common.{◌∙◌, ◌+◌, ◌-◌, IfSome, refl, arith, subst, sym, take, IsNonDecreasingBy}
 use Rattle.mxf_verify.specs.Candidates.{offset_of}
 use Rattle.mxf_verify.specs.Compared.{ComparesBytes}
 use Rattle.mxf_verify.specs.declared.compared.Compared.{Compared}
-use Rattle.mxf_verify.specs.SourceReads.{AreApart}
-use Rattle.mxf_verify.proofs.ComparedLaws.{compares_bytes, part_apart, part_rises, slice_within}
+use Rattle.mxf_verify.proofs.ComparedLaws.{compares_bytes, part_rises}
 use Rattle.mxf_verify.proofs.compared.compare_bytes.Goals as goal
 
 pub of-reading-requires-clause-rising : goal.of-reading-requires-clause-rising
 of-reading-requires-clause-rising g c = subst (IsNonDecreasingBy offset_of) (sym c.in_ok-candidates.ensures.items)
     (part_rises c.args.all.now c.below-first.result (c.max-last.result - c.below-first.result) c.requires.rising)
-
-pub read_all-requires-clause-ahead : goal.read_all-requires-clause-ahead
-read_all-requires-clause-ahead g c i d h =
-    let e = c.of-reading.ensures.candidates ∙ c.in_ok-candidates.ensures.items in
-    let ahead = subst (λ cs. AllWithin (λ x. c.args.offset ≤ offset_of x) cs 0 (length cs)) (sym e)
-    (slice_within (λ x. c.args.offset ≤ offset_of x) c.args.all.now c.below-first.result
-    (c.max-last.result - c.below-first.result) c.below-first.ensures.above) in
-    omega (arith, ahead i d (omega arith) h, c.of-reading.ensures.at)
-
-pub read_all-requires-clause-apart : goal.read_all-requires-clause-apart
-read_all-requires-clause-apart g c = grind (arith, part_apart)
 
 pub returns-clause-compared : goal.returns-clause-compared
 returns-clause-compared g c =
@@ -36,5 +23,6 @@ returns-clause-compared g c =
     (λ k d l h. c.below.ensures.above k d (omega (arith, c.max-last.ensures, l)) h) (omega (arith, c.max-last.ensures))
     (omega (arith, c.max-last.ensures, c.below.ensures.bound, c.below-first.ensures.bound))
     (c.of-reading.ensures.candidates
-    ∙ c.in_ok-candidates.ensures.items) c.of-reading.ensures.at c.in_ok-read_all.ensures
+    ∙ c.in_ok-candidates.ensures.items) c.of-reading.ensures.at c.requires.apart c.of-reading.ensures.within
+    c.of-reading.ensures.undigested c.of-reading.ensures.hasher c.in_ok-read_all.ensures
     refl refl refl)
