@@ -1,12 +1,14 @@
 -- Units one after another.
 use Rattle.mxf_views.proofs.Common.{◌≡◌, ◌∙◌, ◌==◌, ◌+◌, ◌++◌, ◌≤◌, ℕ, List, [], ◌∷◌, Option, None, Some, Result, Err}
-use Rattle.mxf_views.proofs.Common.{ap, arith, filter_map, flat_map, if◌then◌else◌, length, refl, subst, sym}
-use Rattle.mxf_views.proofs.Common.{length-map-range_with_len, cons_option, count_by-cons, tally}
+use Rattle.mxf_views.proofs.Common.{◌-◌, ap, arith, drop, filter_map, flat_map, if◌then◌else◌, length, map, min, refl}
+use Rattle.mxf_views.proofs.Common.{length-map-range_with_len, cons_option, count_by-cons, range_with_len, subst, suc, sym}
+use Rattle.mxf_views.proofs.Common.{tally, zero}
+use Rattle.std.proofs.lemmas.List.{drop-map}
 use Rattle.mxf_timed.specs.Shown.{TimedParts}
 use Rattle.mxf_units.specs.Units.{UnitsParts, unit_of}
 use Rattle.mxf_units.specs.declared.standing.UnitStanding.{UnitStanding}
 use Rattle.mxf_units.specs.declared.unit.EditUnit.{EditUnit}
-use Rattle.mxf_units.specs.Ranges.{least_of, needed_from, units_from}
+use Rattle.mxf_units.specs.Ranges.{least_of, needed_from, units_from, units_with_keys}
 use Rattle.mxf_forms.specs.Forms.{PrintedLine}
 use Rattle.mxf_lines.specs.UnitLines.{hand_count, held_count, is_hand, is_held, last_line, unit_line, unit_lines}
 use Rattle.mxf_lines.specs.UnitLines.{units_line, units_status}
@@ -41,7 +43,42 @@ from-step first u us = by u.key
     by None = refl
     by (Some key) = refl
 
--- No unit is counted as both.
+-- ---- those that are asked for, behind those before them that they need
+
+-- Numbers one after another, from a later one on.
+numbers_behind : (k from count all first : ℕ) → all ≡ k + count → first ≡ from + k
+    → drop k (range_with_len from all) ≡ range_with_len first count
+numbers_behind zero from count all first e f =
+    let as_many : all ≡ count = omega arith in
+    let same : from ≡ first = omega arith in λ i. range_with_len (same i) (as_many i)
+numbers_behind (suc k) from count zero first e f = absurd (omega arith)
+numbers_behind (suc k) from count (suc all) first e f =
+    numbers_behind k (from + 1) count all first (omega arith) (omega arith)
+
+least-below : (x : ℕ) (ys : List ℕ) → least_of x ys ≤ x
+least-below x [] = omega arith
+least-below x (y ∷ ys) = omega (arith, least-below (min x y) ys)
+
+pub wanted_length : (u : UnitsParts) (first count : ℕ)
+    → length (units_with_keys u first count) ≡ first - needed_from first (units_from u first count) + count
+wanted_length u first count =
+    let from = needed_from first (units_from u first count) in units_length u from (first - from + count)
+
+-- They are the last ones.
+pub asked-last : (u : UnitsParts) (first count : ℕ)
+    → drop (length (units_with_keys u first count) - count) (units_with_keys u first count) ≡ units_from u first count
+asked-last u first count =
+    let unit = unit_of u.known u.index_sid in
+    let from = needed_from first (units_from u first count) in
+    let all = first - from + count in
+    let low = least-below first (filter_map (λ (v : EditUnit). v.key) (units_from u first count)) in
+    let many = wanted_length u first count in
+    let before : length (units_with_keys u first count) - count ≡ first - from = omega (arith, many) in
+    ap (λ k. drop k (units_with_keys u first count)) before ∙ drop-map unit (first - from) (range_with_len from all)
+    ∙ ap (map unit) (numbers_behind (first - from) from count all first (omega arith) (omega (arith, low)))
+
+-- ---- no unit is counted as both
+
 one_count : (s : UnitStanding) → tally (is_held s) + tally (is_hand s) ≤ 1
 one_count standings.Held = omega arith
 one_count standings.Hand = omega arith

@@ -4,11 +4,11 @@ ghost use Rattle.std.specs.List.{list_any};
 ghost use Rattle.mxf_klv.specs.Written.{Puts, Writes};
 ghost use Rattle.mxf_restore.specs.declared.disputes.Disputes.{Disputes};
 ghost use Rattle.mxf_partial.specs.Orders.{IsUnitPlan, UnitPlanParts};
-ghost use Rattle.mxf_partial.specs.Wanted.{WantedParts};
+ghost use Rattle.mxf_partial.specs.Wanted.{WantedParts, wanted_in};
 ghost use Rattle.mxf_lines.specs.Printing.{Prints};
 ghost use Rattle.mxf_lines.specs.UnitPlanLines.{AreToldDisputes, is_open, order_lines, told_disputes, unit_plan_lines};
 ghost use Rattle.mxf_lines.specs.UnitPlanLines.{disputes_of_many, many_plan_lines, many_plan_status, told_plan_lines};
-ghost use Rattle.mxf_lines.specs.UnitPlanLines.{unit_plan_status, wanted_of};
+ghost use Rattle.mxf_lines.specs.UnitPlanLines.{told_units, unit_plan_status, wanted_of};
 ghost use Rattle.mxf_lines.specs.UnitLines.{units_line};
 
 use super::AnswerFault;
@@ -43,7 +43,7 @@ pub fn print_unit_plan<W: Write>(
 {
     let wanted = WantedUnits::of_range(alloc, units, range)?;
     let plan = UnitPlan::of(alloc, &wanted)?;
-    print_planned(alloc, units, range, &wanted, &plan, form, writer)
+    print_planned(alloc, &wanted, &plan, form, writer)
 }
 
 /// Prints a plan that orders header metadata alone, in a form, and answers 1.
@@ -80,24 +80,32 @@ fn print_orders<W: Write>(
 /// Prints a plan for the units of a range, in a form.
 fn print_planned<W: Write>(
     alloc: Global,
-    units: &Units<'_>,
-    range: UnitRange,
     wanted: &WantedUnits<'_>,
     plan: &UnitPlan,
     form: Form,
     writer: &mut W,
 ) -> Result<u8, AnswerFault>
-    requires { wanted.now ≡ wanted_of units.now range }
+    requires { wanted.now ≡ wanted_in wanted.now.units wanted.now.first wanted.now.count }
     ensures lines { Prints form (Writes (W.contents writer.old) (W.contents writer.new)) result
-        (unit_plan_lines (wanted_of units.now range) plan.now) }
-    ensures status { IfOk result (λ status. status ≡ unit_plan_status (wanted_of units.now range) plan.now) }
+        (unit_plan_lines wanted.now plan.now) }
+    ensures status { IfOk result (λ status. status ≡ unit_plan_status wanted.now plan.now) }
 {
-    let last = UnitsLine::of(units, range);
+    let last = UnitsLine::of(wanted.first(), told_units(wanted));
     let told = Told {
         disputes: told_disputes(wanted),
         last,
     };
     print_told(alloc, told, plan, form, writer)
+}
+
+/// Those units of a range that are asked for: the last of the wanted ones, behind the key frames before them.
+fn told_units<'w>(wanted: &'w WantedUnits<'_>) -> &'w [EditUnit]
+    requires { wanted.now ≡ wanted_in wanted.now.units wanted.now.first wanted.now.count }
+    ensures { result.now ≡ told_units wanted.now }
+{
+    let units = wanted.wanted();
+    let (_, told) = units.split_at(units.len() - wanted.count() as usize);
+    told
 }
 
 /// Prints what to restore so that many edit units can be cut out of the file, in a form. The answer is 0 if nothing is to

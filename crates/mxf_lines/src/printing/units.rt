@@ -1,6 +1,6 @@
 //! Edit units of an index, and their lines.
 ghost use Rattle.std.specs.Prelude.{◌≡◌, ◌==◌, ◌+◌, ◌-◌, ◌<◌, ◌≤◌, ◌⊎◌, ◌∷◌, [], if◌then◌else◌, IfNone, IfOk, IfSome};
-ghost use Rattle.std.specs.Prelude.{Option, codes};
+ghost use Rattle.std.specs.Prelude.{Option, codes, length};
 ghost use Rattle.std.specs.Option.{option_and_then, option_map};
 ghost use Rattle.mxf_klv.specs.Written.{Puts, Writes};
 ghost use Rattle.mxf_units.specs.Ranges.{needed_from, units_from};
@@ -95,7 +95,7 @@ fn print_units<W: Write>(
         result (unit_lines shown.now range.first (units_from units.now range.first range.count)) }
     ensures status { IfOk result (λ status. status ≡ units_status (units_from units.now range.first range.count)) }
 {
-    let mut last = UnitsLine::of_none(range);
+    let mut last = UnitsLine::of_none(range.first(), range.count());
     for unit in UnitsLeft::of(units, range) {
         UnitLine { unit, shown }.print_to(printer, writer)?;
         last.add(&unit);
@@ -205,17 +205,17 @@ pub struct UnitsLine {
 }
 
 impl UnitsLine {
-    /// That of the units of a range.
-    pub fn of(units: &Units<'_>, range: UnitRange) -> UnitsLine
-        ensures units { result.units ≡ range.count }
-        ensures held { result.held ≡ held_count (units_from units.now range.first range.count) }
-        ensures hand { result.hand ≡ hand_count (units_from units.now range.first range.count) }
-        ensures from { result.from ≡ needed_from range.first (units_from units.now range.first range.count) }
+    /// That of some units, the first of which has this number.
+    pub fn of(first: u64, units: &[EditUnit]) -> UnitsLine
+        ensures units { result.units ≡ length units.now }
+        ensures held { result.held ≡ held_count units.now }
+        ensures hand { result.hand ≡ hand_count units.now }
+        ensures from { result.from ≡ needed_from first units.now }
         ensures bound { result.held + result.hand ≤ result.units }
     {
-        let mut last = UnitsLine::of_none(range);
-        for unit in UnitsLeft::of(units, range) {
-            last.add(&unit);
+        let mut last = UnitsLine::of_none(first, units.len() as u64);
+        for unit in units {
+            last.add(unit);
         }
         last
     }
@@ -232,15 +232,15 @@ impl UnitsLine {
         }
     }
 
-    /// That of the units of a range, before any is counted.
-    fn of_none(range: UnitRange) -> UnitsLine
-        ensures { result ≡ record { units = range.count; held = 0; hand = 0; from = range.first } }
+    /// That of so many units from one on, before any is counted.
+    fn of_none(first: u64, count: u64) -> UnitsLine
+        ensures { result ≡ record { units = count; held = 0; hand = 0; from = first } }
     {
         UnitsLine {
-            units: range.count(),
+            units: count,
             held: 0,
             hand: 0,
-            from: range.first(),
+            from: first,
         }
     }
 

@@ -23,10 +23,11 @@ loop-unit-init g c =
     record {
       lines = leads_first (ap (λ (us : List EditUnit). flat_map (λ u. unit_line c.args.shown.now u ∷ []) us
           ++ last_line first units ∷ []) items);
-      units = ap (λ (l : UnitsLine). l.units) c.of_none-last.ensures;
+      units = ap (λ (l : UnitsLine). l.units) c.of_none-last.ensures ∙ c.count.ensures;
       held = omega (arith, none, counts);
       hand = omega (arith, no_hand, others);
-      from = λ i. needed_from (c.of_none-last.ensures i).from (items i);
+      from = (λ i. needed_from (c.of_none-last.ensures i).from (items i))
+          ∙ ap (λ k. needed_from k units) c.first.ensures;
       bound = omega (arith, none, no_hand, many);
     }
 
