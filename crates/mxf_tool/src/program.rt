@@ -170,14 +170,21 @@ fn perform_with(
     request: &Request<'_, '_>,
     lists: &Lists,
 ) -> Exit {
-    let beside = match sources_of(rt.alloc(), request.beside, &lists.beside) {
-        Ok(beside) => beside,
-        Err(fault) => return tell(rt, telling, &fault),
-    };
-    let sources = match sources_of(rt.alloc(), request.named, &lists.named) {
-        Ok(sources) => sources,
-        Err(fault) => return tell(rt, telling, &fault),
-    };
+    match perform_named(rt, telling, request, lists) {
+        Ok(exit) => exit,
+        Err(fault) => tell(rt, telling, &fault),
+    }
+}
+
+/// Does what is asked for, of the sources that words and lists with these bytes name.
+fn perform_named<'a, 'b: 'a>(
+    rt: &HostRuntime,
+    telling: Telling,
+    request: &Request<'_, 'b>,
+    lists: &'a Lists,
+) -> Result<Exit, RunFault<'a>> {
+    let beside = sources_of(rt.alloc(), request.beside, &lists.beside)?;
+    let sources = sources_of(rt.alloc(), request.named, &lists.named)?;
     let inputs = Inputs {
         telling,
         scan: request.scan,
@@ -185,10 +192,7 @@ fn perform_with(
         beside: &beside,
         sources: &sources,
     };
-    match perform_on(rt, inputs, request.task) {
-        Ok(exit) => exit,
-        Err(fault) => tell(rt, telling, &fault),
-    }
+    perform_on(rt, inputs, request.task)
 }
 
 /// Does what is asked for.
@@ -248,27 +252,38 @@ fn told_skim<'a>(
     Ok(exit)
 }
 
-/// Prints what is asked for of what is held of the sources.
+/// Prints what is asked for of what is held of the sources, and if hints are told, what of the sources doesn't go
+/// together.
 fn print_held<'a>(
     rt: &HostRuntime,
     inputs: Inputs<'_, 'a>,
     asked: Told<'a>,
     held: &HeldBySources,
 ) -> Result<Exit, RunFault<'a>> {
-    let exit = match asked {
-        Told::Answer(ask) => print_answer(rt, Printed::Answer(ask, held), inputs.form)?,
+    let exit = print_asked(rt, inputs, asked, held)?;
+    told_held(rt, inputs, held, false, exit)
+}
+
+/// Prints what is asked for of what is held of the sources.
+fn print_asked<'a>(
+    rt: &HostRuntime,
+    inputs: Inputs<'_, 'a>,
+    asked: Told<'a>,
+    held: &HeldBySources,
+) -> Result<Exit, RunFault<'a>> {
+    match asked {
+        Told::Answer(ask) => print_answer(rt, Printed::Answer(ask, held), inputs.form),
         Told::Map { grid, with_extents } => {
             let map = Printed::Map {
                 grid,
                 with_extents,
                 held,
             };
-            print_answer(rt, map, inputs.form)?
+            print_answer(rt, map, inputs.form)
         }
-        Told::Units(asked) => print_units(rt, inputs, asked, held)?,
-        Told::UnitPlan(asked) => print_unit_plan(rt, inputs, asked, held)?,
-    };
-    told_held(rt, inputs, held, false, exit)
+        Told::Units(asked) => print_units(rt, inputs, asked, held),
+        Told::UnitPlan(asked) => print_unit_plan(rt, inputs, asked, held),
+    }
 }
 
 /// Writes the catalogue of what the sources hold together, and prints how many notes it has.

@@ -51,27 +51,42 @@ fn renew_at<'a, 'r>(
         inputs.beside,
         inputs.sources,
     )?;
+    renew_by(rt, inputs, renewing, place, &earlier, later)
+}
+
+/// Writes what the earlier sources hold, renewed by what the later ones do, and prints what was dropped.
+fn renew_by<'a, 'r>(
+    rt: &'r HostRuntime,
+    inputs: Inputs<'_, 'a>,
+    renewing: Renewing<'a>,
+    place: Reservation<'r, HostRuntime>,
+    earlier: &HeldBySources,
+    later: Later,
+) -> Result<Exit, RunFault<'a>> {
     let Later {
         views,
         reports,
         shifts,
     } = later;
-    if !renewing.drops {
-        judge_offsets(inputs.sources, &shifts)?;
-    }
+    judge_offsets(renewing, inputs.sources, &shifts)?;
     let is_wrong = inputs.telling.has_hints
         && (is_contradicted(&earlier.gathered.views) || is_contradicted(&views));
     let newer = views.into_catalogue();
-    let exit = save_renewed(rt, inputs, renewing, place, &earlier, newer)?;
-    if is_wrong && tell_both_offsets(rt, inputs).is_err() {
-        return Err(RunFault::OutOfMemory);
-    }
+    let exit = save_renewed(rt, inputs, renewing, place, earlier, newer)?;
+    told_offsets(rt, inputs, is_wrong)?;
     let is_strict = renewing.saving.is_strict;
-    told_both(rt, inputs, is_strict, &earlier, reports.as_slice(), exit)
+    told_both(rt, inputs, is_strict, earlier, reports.as_slice(), exit)
 }
 
-/// Refuses the first source whose partition packs say that it begins elsewhere.
-fn judge_offsets<'a>(sources: &[Source<'a>], shifts: &[Option<Shift>]) -> Result<(), RunFault<'a>> {
+/// Refuses the first source whose partition packs say that it begins elsewhere, unless all is to be dropped.
+fn judge_offsets<'a>(
+    renewing: Renewing<'_>,
+    sources: &[Source<'a>],
+    shifts: &[Option<Shift>],
+) -> Result<(), RunFault<'a>> {
+    if renewing.drops {
+        return Ok(());
+    }
     for (source, shift) in sources.iter().zip(shifts) {
         match (source.place(), shift) {
             (Some(_), Some(shift)) => {
@@ -82,6 +97,18 @@ fn judge_offsets<'a>(sources: &[Source<'a>], shifts: &[Option<Shift>]) -> Result
             }
             _ => {}
         }
+    }
+    Ok(())
+}
+
+/// Tells of each earlier and later source that begins at another offset by its partition packs, if one may.
+fn told_offsets<'a>(
+    rt: &HostRuntime,
+    inputs: Inputs<'_, '_>,
+    is_wrong: bool,
+) -> Result<(), RunFault<'a>> {
+    if is_wrong && tell_both_offsets(rt, inputs).is_err() {
+        return Err(RunFault::OutOfMemory);
     }
     Ok(())
 }
