@@ -1,10 +1,11 @@
 -- Units one after another.
 use Rattle.mxf_views.proofs.Common.{◌≡◌, ◌∙◌, ◌==◌, ◌+◌, ◌++◌, ◌≤◌, ℕ, List, [], ◌∷◌, Option, None, Some, Result, Err}
 use Rattle.mxf_views.proofs.Common.{◌-◌, ap, arith, drop, filter_map, flat_map, if◌then◌else◌, length, map, min, refl}
-use Rattle.mxf_views.proofs.Common.{length-map-range_with_len, cons_option, count_by-cons, range_with_len, subst, suc, sym}
+use Rattle.mxf_views.proofs.Common.{cons_option, count_by-cons, range_with_len, subst, suc, sym}
 use Rattle.mxf_views.proofs.Common.{tally, zero}
 use Rattle.std.proofs.lemmas.List.{drop-map}
 use Rattle.mxf_timed.specs.Shown.{TimedParts}
+use Rattle.mxf_units.proofs.RangeLaws.{units_length}
 use Rattle.mxf_units.specs.Units.{UnitsParts, unit_of}
 use Rattle.mxf_units.specs.declared.standing.UnitStanding.{UnitStanding}
 use Rattle.mxf_units.specs.declared.unit.EditUnit.{EditUnit}
@@ -17,9 +18,6 @@ use Rattle.mxf_lines.specs.declared.printing.AnswerFault.TheVariants.{OutOfMemor
 use Rattle.mxf_forms.specs.declared.form.Form.{Form}
 use Rattle.mxf_lines.proofs.PrintLaws.{Leads, PrintsPart}
 use Rattle.mxf_units.specs.declared.standing.UnitStanding.TheVariants as standings
-
-pub units_length : (u : UnitsParts) (first count : ℕ) → length (units_from u first count) ≡ count
-units_length u first count = length-map-range_with_len (unit_of u.known u.index_sid) first count
 
 -- One unit more.
 pub held-step : (u : EditUnit) (us : List EditUnit) → held_count (u ∷ us) ≡ held_count (u ∷ []) + held_count us

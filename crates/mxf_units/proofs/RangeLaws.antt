@@ -3,7 +3,8 @@ use Rattle.mxf_views.proofs.Common.{◌≡◌, ◌∙◌, ◌↔◌, ◌⊎◌, 
 use Rattle.mxf_views.proofs.Common.{List, [], ◌∷◌, refl, sym, ap, inl, inr, arith, min, ◌||◌, ◌++◌, append_assoc}
 use Rattle.mxf_views.proofs.Common.{filter_map, nat_le, Option, None, Some, and_from, and_parts, cases_lt}
 use Rattle.mxf_views.proofs.Common.{false_from_ne_true, leb-true, cons_option, list_all, list_any, range_with_len}
-use Rattle.mxf_views.proofs.Common.{NoteParts, covered_end, either, map, map-append, same_bool}
+use Rattle.mxf_views.proofs.Common.{NoteParts, covered_end, either, length, length-map-range_with_len, map, map-append}
+use Rattle.mxf_views.proofs.Common.{same_bool}
 use Rattle.mxf_places.specs.Held.{IsDisputedAt, IsHeld, held_end, is_disputed_at, is_held}
 use Rattle.mxf_places.specs.AtHand.{KnownParts, has_offset}
 use Rattle.mxf_places.proofs.AtHandLaws.{has_offset-says}
@@ -118,6 +119,9 @@ range_append a (suc m) n =
     let more : suc m + n ≡ suc (m + n) = omega arith in
     ap (λ l. a ∷ l) (ap (λ x. range_with_len (a + 1) m ++ range_with_len x n) here ∙ range_append (a + 1) m n)
     ∙ sym (ap (range_with_len a) more)
+
+pub units_length : (u : UnitsParts) (first count : ℕ) → length (units_from u first count) ≡ count
+units_length u first count = length-map-range_with_len (unit_of u.known u.index_sid) first count
 
 -- those from one up to another, and those from that on
 pub units_append : (u : UnitsParts) (from first count : ℕ) → from ≤ first

@@ -169,4 +169,9 @@ impl<'a> Iterator for UnitsLeft<'a> {
         self.left -= 1;
         Some(unit)
     }
+
+    fn size_hint(&self) -> (usize, Option<usize>) {
+        let left = self.left as usize;
+        (left, Some(left))
+    }
 }

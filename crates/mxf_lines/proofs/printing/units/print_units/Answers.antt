@@ -6,7 +6,7 @@ use Rattle.mxf_lines.specs.UnitLines.{hand_count, held_count, last_line, unit_li
 use Rattle.mxf_lines.specs.declared.printing.units.UnitsLine.{UnitsLine}
 use Rattle.mxf_lines.proofs.PrintLaws.{leads_failed, leads_first, leads_more}
 use Rattle.mxf_lines.proofs.UnitLineLaws.{all_counted, answered, as_fault, from-step, hand-step, held-step, most-one}
-use Rattle.mxf_lines.proofs.UnitLineLaws.{units_length}
+use Rattle.mxf_units.proofs.RangeLaws.{units_length}
 use Rattle.mxf_lines.proofs.printing.units.print_units.Goals as goal
 
 pub loop-unit-init : goal.loop-unit-init
