@@ -115,6 +115,12 @@ impl ComingValue {
         self.ber.value()
     }
 
+    /// The number of the packet's bytes.
+    pub(crate) fn size(&self) -> u64 {
+        let head = 16 + u64::from(self.ber.width());
+        self.ber.value().saturating_add(head)
+    }
+
     /// The head of the packet.
     pub(crate) fn head(&self) -> Note
         ensures { result ≡ head_parts self.now.offset self.now.key self.now.ber.width self.now.ber.value }

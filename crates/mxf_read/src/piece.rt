@@ -83,12 +83,9 @@ impl Piece {
         }
     }
 
-    /// Whether a value has begun that has more than `most` bytes.
-    pub(crate) fn is_within_more_than(&self, most: u64) -> bool {
-        match &self.value {
-            Some(value) => most < value.length(),
-            None => false,
-        }
+    /// The packet whose value has begun, if one has.
+    pub(crate) fn coming(&self) -> Option<&ComingValue> {
+        self.value.as_ref()
     }
 
     /// Whether any of the last `left` bytes is wanted: none is after a stop, nor inside a value that they don't end.

@@ -21,6 +21,9 @@ const LEAST_ROOM: u64 = 65_536;
 /// The greatest number of bytes that a window has room for.
 const GREATEST_ROOM: u64 = 16_777_216;
 
+/// How many values are digested side by side.
+const SIDE_BY_SIDE: u64 = 4;
+
 /// What one read came to.
 #[derive(Clone, Copy, Debug, PartialEq, Eq)]
 pub enum Step {
@@ -149,7 +152,8 @@ pub(crate) fn feed_step<R: Read>(
 ///
 /// The first read is of 65,536 bytes at most. After one that fills its room with few packets the next has twice as
 /// much, up to 16,777,216 bytes, if there is memory: so the values of many packets come at once, and are digested side
-/// by side. Where a value is too long for that, the room stays. The window keeps its memory for the next piece.
+/// by side. Where a value is too long for that, the room stays. Of packets of one size a read takes no part of one, and
+/// a multiple of four. The window keeps its memory for the next piece.
 pub(crate) fn read_through<R: Read>(
     piece: &mut Piece,
     from: &mut R,
@@ -161,15 +165,18 @@ pub(crate) fn read_through<R: Read>(
 {
     let mut room = LEAST_ROOM;
     let mut left = limit;
+    let mut packet = 0;
     let mut interruptions = 0;
     widen(window, room)?;
     'steps: while left > 0 && !piece.has_stopped() {
         let noted = piece.noted();
-        match feed_step(piece, from, left.min(room), window) {
+        packet = size_begun(piece).unwrap_or(packet);
+        let asked = left.min(even_read(piece, packet, room));
+        match feed_step(piece, from, asked, window) {
             Ok(0) => return Ok(()),
             Ok(count) => {
                 left -= count;
-                if count == room && gains_by_more(piece, noted) {
+                if count == asked && gains_by_more(piece, noted) {
                     room = more_room(window, room);
                 }
             }
@@ -183,11 +190,41 @@ pub(crate) fn read_through<R: Read>(
     Ok(())
 }
 
+/// The number of bytes of the packet whose value has begun, if one has.
+fn size_begun(piece: &Piece) -> Option<u64> {
+    Some(piece.coming()?.size())
+}
+
+/// How many bytes the next read takes at most, if there is room for so many: those to come of the value that has begun,
+/// and after it of as many packets of one size as end with a multiple of four. If four don't come whole, as many as there
+/// is room for.
+fn even_read(piece: &Piece, packet: u64, room: u64) -> u64
+    requires { 0 < room }
+    ensures some { 0 < result }
+    ensures within { result ≤ room }
+{
+    let begun = match piece.coming() {
+        Some(value) => value.left(),
+        None => 0,
+    };
+    let four = packet.saturating_mul(SIDE_BY_SIDE);
+    if four == 0 || room < begun {
+        return room;
+    }
+    let even = room - (room - begun) % four;
+    if even > begun { even } else { room }
+}
+
 /// Whether more packets would be digested at once if more bytes came at once: fewer were noted since there were
 /// `before` notes than are digested at once, and the value that has begun isn't too long.
 fn gains_by_more(piece: &Piece, before: u64) -> bool {
-    piece.noted() < before.saturating_add(MOST as u64)
-        && !piece.is_within_more_than(GREATEST_ROOM / 4)
+    if piece.noted() >= before.saturating_add(MOST as u64) {
+        return false;
+    }
+    match piece.coming() {
+        Some(value) => value.length() <= GREATEST_ROOM / 4,
+        None => true,
+    }
 }
 
 /// Makes room in the window for so many bytes.

@@ -25,6 +25,9 @@ use thiserror::Error;
 /// The fewest values that are digested at once. Fewer are digested as fast one after another.
 const FEWEST: usize = 3;
 
+/// How many values are digested side by side.
+const SIDE_BY_SIDE: usize = 4;
+
 /// The fewest bytes of a value with which those begin that are digested at once: shorter ones gain little.
 const LEAST_VALUE: u64 = 128;
 
@@ -98,7 +101,7 @@ impl<'a> Reading<'a> {
     /// Reads the bytes of a source up to a file offset, or to its end, through a window. An interrupted read is repeated,
     /// 1,024 times at most.
     ///
-    /// Where a read fills the window, it may become twice as wide.
+    /// Where a read takes all that it asks for, the window may become twice as wide.
     pub(crate) fn read_all<R: Read>(
         &mut self,
         from: &mut R,
@@ -113,11 +116,12 @@ impl<'a> Reading<'a> {
         let mut repeats = GREATEST_INTERRUPTIONS;
         'reads: while self.comparison.at < end {
             let before = self.next;
-            let count = self.read_some(from, end, window, &mut repeats)?;
+            let asked = self.even_room(window.len());
+            let count = self.read_some(from, end, &mut window[..asked], &mut repeats)?;
             if count == 0 {
                 return Ok(());
             }
-            self.widen(window, count, before);
+            self.widen(window, count == asked, before);
         }
         Ok(())
     }
@@ -143,13 +147,44 @@ impl<'a> Reading<'a> {
         Ok(count)
     }
 
-    /// Makes a window twice as wide, up to [`GREATEST_ROOM`], if `count` bytes filled it and more values come whole with
-    /// it. If there is no memory for that, it stays as it is.
-    fn widen(&self, window: &mut Vec<u8>, count: usize, before: usize)
+    /// How many bytes the next read takes at most, if there is room for so many: as many as end with a value, so that a
+    /// multiple of four ends with them. If fewer than four do, or more than are digested at once, as many as there is
+    /// room for.
+    fn even_room(&self, room: usize) -> usize
+        requires { 0 < room }
+        ensures some { 0 < result }
+        ensures within { result ≤ room }
+    {
+        let at = self.comparison.at;
+        let reach = at.saturating_add(room as u64);
+        let mut values = 0;
+        let mut even = room;
+        'places: for place in self.next..self.comparison.candidates.len() {
+            let note = self.comparison.candidates[place].note;
+            let end = note.covered_end();
+            if end > reach {
+                break;
+            }
+            if values == MOST {
+                return room;
+            }
+            if is_digested(note) {
+                values += 1;
+                if values % SIDE_BY_SIDE == 0 && end > at {
+                    even = (end - at) as usize;
+                }
+            }
+        }
+        even
+    }
+
+    /// Makes a window twice as wide, up to [`GREATEST_ROOM`], if a read brought all that it asked for, and more values
+    /// come whole with it. If there is no memory for that, it stays as it is.
+    fn widen(&self, window: &mut Vec<u8>, has_all: bool, before: usize)
         requires { 0 < length window.old.items }
         ensures { 0 < length window.new.items }
     {
-        if count < window.len() || !self.gains_by_more(before) {
+        if !has_all || !self.gains_by_more(before) {
             return;
         }
         let room = window.len().saturating_mul(2).min(GREATEST_ROOM);
@@ -160,15 +195,13 @@ impl<'a> Reading<'a> {
     }
 
     /// Whether more values come whole if more bytes come at once: fewer candidates were passed from the one at the place
-    /// `before` on than values are digested at once, and the next has begun and isn't too long.
+    /// `before` on than values are digested at once, and the next isn't too long.
     fn gains_by_more(&self, before: usize) -> bool {
         if self.next >= before.saturating_add(MOST) {
             return false;
         }
         match self.comparison.candidates.get(self.next) {
-            Some(next) => {
-                next.note.offset() < self.comparison.at && next.note.length() <= GREATEST_VALUE
-            }
+            Some(next) => next.note.length() <= GREATEST_VALUE,
             None => false,
         }
     }

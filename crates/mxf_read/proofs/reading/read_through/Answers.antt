@@ -10,7 +10,7 @@ returns-in-Ok-eq0 g c =
     let both = length-append done step.bytes in (
       done ++ step.bytes,
       record {
-        within = omega (arith, counted, both, step.counted, step.within, c.min.ensures);
+        within = omega (arith, counted, both, step.counted, step.within, c.min-asked.ensures);
         consumed = Consumes-trans _ _ _ done step.bytes consumed step.consumed;
       },
       Feeds-trans c.args.piece.now c.steps.piece c.feed_step.new.piece done step.bytes fed step.fed,
@@ -23,7 +23,7 @@ steps-preserved-then-gains_by_more g c =
     let step = c.in-Ok.ensures in
     let both = length-append done step.bytes in (
       done ++ step.bytes,
-      omega (arith, counted, both, step.counted, step.within, c.min.ensures),
+      omega (arith, counted, both, step.counted, step.within, c.min-asked.ensures),
       Consumes-trans _ _ _ done step.bytes consumed step.consumed,
       Feeds-trans c.args.piece.now c.steps.piece c.feed_step.new.piece done step.bytes fed step.fed,
       repeats,
@@ -31,8 +31,8 @@ steps-preserved-then-gains_by_more g c =
       c.more_room-room.ensures.within,
     )
 
-pub steps-preserved-else-count-room : goal.steps-preserved-else-count-room
-steps-preserved-else-count-room g c =
+pub steps-preserved-else-count-asked : goal.steps-preserved-else-count-asked
+steps-preserved-else-count-asked g c =
     let (done, counted, consumed, fed, repeats, some, wide) = c.steps.invariant in
     let step = c.in-Ok.ensures in
     let both = length-append done step.bytes in
@@ -40,7 +40,7 @@ steps-preserved-else-count-room g c =
     let now = c.feed_step.new.buffer in
     let back = drop (length now) items in (
       done ++ step.bytes,
-      omega (arith, counted, both, step.counted, step.within, c.min.ensures),
+      omega (arith, counted, both, step.counted, step.within, c.min-asked.ensures),
       Consumes-trans _ _ _ done step.bytes consumed step.consumed,
       Feeds-trans c.args.piece.now c.steps.piece c.feed_step.new.piece done step.bytes fed step.fed,
       repeats,
@@ -63,7 +63,7 @@ returns-in-Err-OutOfMemory g c =
     let within = takes.within in (
       done ++ more,
       record {
-        within = omega (arith, counted, both, within, c.min.ensures);
+        within = omega (arith, counted, both, within, c.min-asked.ensures);
         consumed = Consumes-trans _ _ _ done more consumed takes.consumed;
       },
     )
