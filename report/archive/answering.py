@@ -1,8 +1,7 @@
-"""What is asked of the database: lists, what has a name or a timecode, all of one recording, and orders."""
+"""What is asked of the database: lists, all of one recording, and orders."""
 from __future__ import annotations
 
 import datetime
-import re
 import sqlite3
 from collections import namedtuple
 from collections.abc import Sequence
@@ -10,7 +9,6 @@ from collections.abc import Sequence
 from archive import moments
 from archive.faults import USAGE, OwnFault
 from archive.printing import number_or_none
-from archive.texts import words_of
 
 LIST = """
 SELECT r.name AS recording, r.title AS name, r.length, r.timecode, s."end", s.missing, s.orders, s.findings, s.disputes,
@@ -36,33 +34,6 @@ SELECT r.name AS recording, r.title AS name, r.length, r.timecode, s."end", s.mi
     WHERE v.recording = r.id ORDER BY v.number DESC LIMIT 1), 0) AS differs
 FROM recordings r JOIN states s ON s.recording = r.id AND s.number = r.state ORDER BY r.name
 """
-
-BY_UMID = """
-SELECT r.name AS recording, 'package' AS what, p.uid AS text
-FROM packages p JOIN recordings r ON r.id = p.recording WHERE substr(p.uid, -16) = ?
-UNION
-SELECT r.name, 'clip', c.of_uid
-FROM clips c JOIN recordings r ON r.id = c.recording WHERE substr(c.of_uid, -16) = ?
-"""
-
-BY_TIMECODE = """
-SELECT r.name AS recording, h.clock, h.first, h.last, h.base, h.is_drop, c.index_sid, c.first AS clock_first,
-  c.last AS clock_last, t.track, t.at, p.kind, p.uid
-FROM hours h JOIN recordings r ON r.id = h.recording
-  LEFT JOIN clocks c ON c.recording = h.recording AND c.number = h.clock
-  LEFT JOIN timecodes t ON t.recording = h.recording AND t.number = h.timecode
-  LEFT JOIN packages p ON p.recording = h.recording AND p.number = t.package
-WHERE h.hour = ? AND h.first < ?
-ORDER BY r.name, h.number
-"""
-
-# Texts with a word that begins so: from it up to what comes after all of these.
-BY_WORD = "SELECT text FROM words WHERE word >= ? AND word < ?"
-OF_TEXT = """
-SELECT r.name AS recording, 'name of ' || t.what AS what, t.text
-FROM texts t JOIN recordings r ON r.id = t.recording WHERE t.id = ?
-"""
-AFTER_ALL = "\U0010ffff"
 
 # What `show` prints of a recording, table by table.
 SHOWN = {
@@ -104,10 +75,6 @@ SELECT r.name AS recording, o.start, o."end", o.reason, o.is_inside
 FROM recordings r JOIN orders o ON o.recording = r.id WHERE r.is_missing = 1 ORDER BY r.name
 """
 
-# The digits of an identifier, and what may stand between and before them.
-UMID = re.compile(r"[0-9a-f]{16,64}")
-UMID_PREFIX = re.compile(r"^(urn:smpte:umid:|0x)|[-.\s{}]")
-
 Answer = tuple[list[str], list[tuple]]
 
 
@@ -129,64 +96,6 @@ def listed(connection: sqlite3.Connection, what: str, days: int | None) -> Answe
         since = ""
     # A recording that was never verified goes before all times.
     return answer_of(connection, LISTS[what], (max(since, "0"),))
-
-
-Found = set[tuple[str, str, str]]
-
-
-def found(connection: sqlite3.Connection, words: Sequence[str]) -> Answer:
-    """What is found by all of these words: the recording, what has the word, and that text."""
-    each = [found_by(connection, word) for word in words]
-    recordings = set.intersection(*({row[0] for row in rows} for rows in each))
-    rows = sorted({row for one in each for row in one if row[0] in recordings})
-    return ["recording", "what", "text"], rows
-
-
-def found_by(connection: sqlite3.Connection, word: str) -> Found:
-    """What is found by one word: a timecode, the end of an identifier, or words of a name."""
-    if moments.is_timecode(word):
-        return found_by_timecode(connection, word)
-    digits = UMID_PREFIX.sub("", word.lower())
-    rows = found_by_words(connection, words_of(word))
-    return rows | found_by_umid(connection, digits) if UMID.fullmatch(digits) else rows
-
-
-def found_by_umid(connection: sqlite3.Connection, digits: str) -> Found:
-    """Packages with an identifier that ends so, and clips that show one."""
-    rows = connection.execute(BY_UMID, (digits[-16:], digits[-16:]))
-    return {tuple(row) for row in rows if row["text"].endswith(digits)}
-
-
-def found_by_words(connection: sqlite3.Connection, words: Sequence[str]) -> Found:
-    """Texts that have, for each of the words, one that begins with it."""
-    each = [{row["text"] for row in connection.execute(BY_WORD, (word, word + AFTER_ALL))} for word in words]
-    texts = set.intersection(*each) if each else set()
-    return {tuple(row) for text in texts for row in connection.execute(OF_TEXT, (text,))}
-
-
-def found_by_timecode(connection: sqlite3.Connection, timecode: str) -> Found:
-    """The clocks that have a timecode; of recordings of which none has, the timecode components of packages that have it."""
-    if int(timecode[:2]) >= moments.HOURS:
-        return set()
-    after = f"{timecode[:8]}:{AFTER_ALL}"
-    rows = [row for row in connection.execute(BY_TIMECODE, (int(timecode[:2]), after)) if has_timecode(row, timecode)]
-    clocked = {row["recording"] for row in rows if row["clock"] is not None}
-    return {(row["recording"], *told_by(row)) for row in rows if row["clock"] is not None or row["recording"] not in clocked}
-
-
-def has_timecode(row: sqlite3.Row, timecode: str) -> bool:
-    """Whether the timecodes of an hour have this one."""
-    counting = moments.Counting(row["base"], bool(row["is_drop"]))
-    if not counting.has(timecode):
-        return False
-    return counting.number(row["first"]) <= counting.number(timecode) <= counting.number(row["last"])
-
-
-def told_by(row: sqlite3.Row) -> tuple[str, str]:
-    """Which clock has a timecode, and from which to which it goes; or which track of a package, and from which on."""
-    if row["clock"] is not None:
-        return "clock", f"index {row['index_sid']}, {row['clock_first']} to {row['clock_last'] or '-'}"
-    return "timecode", f"{row['kind']} package {row['uid'][-16:]}, track {row['track']}, from {row['at']}"
 
 
 def shown(connection: sqlite3.Connection, identity: int) -> list[tuple[str, list[str], list[tuple]]]:

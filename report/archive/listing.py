@@ -12,14 +12,6 @@ def list(words: Words) -> int:
     return 0
 
 
-def find(words: Words) -> int:
-    """Prints what has all of the words; status 1 if nothing has."""
-    with database.reading(words.database) as connection:
-        heads, rows = answering.found(connection, words.word)
-        printing.print_answer(words.form, heads, rows)
-    return 0 if rows else 1
-
-
 def show(words: Words) -> int:
     """Prints all of a recording."""
     with database.reading(words.database) as connection:

@@ -1,12 +1,14 @@
 """Answers as a table for people, as CSV or as JSON. What a form alone needs is loaded for it."""
 from __future__ import annotations
 
-import re
 import sys
-from collections.abc import Iterable, Sequence
+from collections.abc import Collection, Iterable, Sequence
+from itertools import islice, repeat
 
-# Characters of control, line ends of Unicode, and marks of direction: a terminal may obey them.
-CONTROL = "[\x00-\x1f\x7f-\x9f\u2028\u2029\u202a-\u202e\u2066-\u2069]"
+# Characters of control, line ends of Unicode, and marks of direction: a terminal may obey them. Each is shown as ?.
+CONTROL = dict.fromkeys((*range(0x20), *range(0x7F, 0xA0), *range(0x2028, 0x202F), *range(0x2066, 0x206A)), "?")
+
+BLOCK = 500  # lines that are printed at once. Memory that is used again takes less time than new memory.
 
 Cells = Sequence  # the values of a row or a column
 
@@ -18,30 +20,37 @@ def cell(value: object) -> str:
 
 def shown(text: str) -> str:
     """A text without what a terminal may obey. None of that can be printed."""
-    return text if text.isprintable() else re.sub(CONTROL, "?", text)
+    return text if text.isprintable() else text.translate(CONTROL)
 
 
-def texts_of(column: Cells, kinds: set[type]) -> Cells:
-    """The values of a column that has values of these kinds alone, as texts."""
-    texts = column if kinds == {str} else ["-" if value is None else str(value) for value in column]
+def texts_of(values: Collection, kinds: set[type]) -> Cells:
+    """Values that are of these kinds alone, as texts."""
+    texts = values if kinds == {str} else ["-" if value is None else str(value) for value in values]
     return texts if "".join(texts).isprintable() else list(map(shown, texts))
 
 
-def laid_out(head: str, column: Cells) -> tuple[Cells, str]:
-    """A column below its head, and the form of each of its cells: as wide as the widest, with numbers on the right."""
+def laid_out(head: str, column: Cells) -> tuple[str, Iterable[str]]:
+    """A head and the cells below it as texts, each as wide as the widest, with numbers on the right."""
     kinds = set(map(type, column))
-    if kinds == {int}:
-        # Numbers are laid out as they are. The widest is the least or the greatest.
-        return [head, *column], f"%{max(len(str(value)) for value in (head, min(column), max(column)))}s"
-    cells = [head, *texts_of(column, kinds)]
-    return cells, f"%{'' if int in kinds else '-'}{max(map(len, cells))}s"
+    # Few numbers stand in most columns of numbers. Each is laid out once.
+    values = set(column) if kinds <= {int, type(None)} else column
+    if len(values) > len(column) // 2:
+        values = column
+    texts = texts_of(values, kinds)
+    widths = set(map(len, texts))
+    width = max([len(head), *widths])
+    side = str.rjust if int in kinds else str.ljust
+    cells = texts if widths == {width} else map(side, texts, repeat(width))
+    return side(head, width), cells if values is column else map(dict(zip(values, cells)).get, column)
 
 
 def print_table(heads: Sequence[str], rows: Iterable[Cells]) -> None:
     """Prints columns side by side. Nothing stands after the last one."""
-    columns, forms = zip(*map(laid_out, heads, list(zip(*rows)) or [()] * len(heads)))
-    form = "  ".join(forms)
-    sys.stdout.write("".join([(form % line).rstrip() + "\n" for line in zip(*columns)]))
+    heads, columns = zip(*map(laid_out, heads, list(zip(*rows)) or [()] * len(heads)))
+    sys.stdout.write("  ".join(heads).rstrip() + "\n")
+    lines = map(str.rstrip, map("  ".join, zip(*columns)))
+    while block := list(islice(lines, BLOCK)):
+        sys.stdout.write("\n".join(block) + "\n")
 
 
 def print_csv(heads: Sequence[str], rows: Iterable[Cells]) -> None:

@@ -2,6 +2,7 @@
 from __future__ import annotations
 
 import collections
+import re
 from collections.abc import Iterable, Iterator
 
 from archive import moments, spans
@@ -12,6 +13,9 @@ from archive.gathering import FORMAT
 Row = dict  # the values of a row, by the names of its columns
 
 GREATEST = 2**63 - 1  # of an INTEGER of SQLite
+
+# A time in UTC by ISO 8601, to the second.
+TIME = r"[0-9]{4}-[0-9]{2}-[0-9]{2}T[0-9]{2}:[0-9]{2}:[0-9]{2}Z"
 
 # The commands whose lines are taken, and what is kept of a source.
 COMMANDS = ("show", "describe", "check", "plan", "map", "units")
@@ -33,7 +37,7 @@ class Recording:
     """A recording as its lines tell it: its name, its state, what stands in the table of recordings, and rows of others."""
 
     def __init__(self, line: Line) -> None:
-        if line.get("line") != "recording" or line["format"] != FORMAT or not moments.is_time(line["gathered"]):
+        if line.get("line") != "recording" or line["format"] != FORMAT or not re.fullmatch(TIME, line["gathered"]):
             raise ValueError("no first line of a recording")
         self.name: str = line["name"]
         self.state: Row = {"gathered": line["gathered"], "program": line["program"], "is_skim": int(line["skim"])}

@@ -4,7 +4,7 @@ from __future__ import annotations
 from collections import namedtuple
 from collections.abc import Iterator
 
-from archive.moments import HOURS, Counting
+from archive.timecodes import HOURS, Counting
 
 
 class Span(namedtuple("Span", "first count counting is_open")):

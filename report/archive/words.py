@@ -90,7 +90,7 @@ COMMANDS = {
     "add": Command("adding", "put a recording into the database, or in its own place", (DATABASE, NAME, SOURCE), ADDED,
                    {"skim": False}),
     "list": Command("listing", "print recordings", (DATABASE,), LISTS + FORMS, {"what": "all", **TABLE}),
-    "find": Command("listing", "print which recordings have words, an identifier or a timecode", (DATABASE, FIND),
+    "find": Command("finding", "print which recordings have words, an identifier or a timecode", (DATABASE, FIND),
                     FORMS, TABLE),
     "show": Command("listing", "print all of a recording", (DATABASE, NAME), FORMS, TABLE),
     "orders": Command("listing", "print what is to be restored", (DATABASE,), ORDERED + FORMS,

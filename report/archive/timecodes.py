@@ -1,0 +1,53 @@
+"""Timecodes, which number the frames of a day."""
+from __future__ import annotations
+
+import re
+from collections import namedtuple
+
+# A timecode: two digits each, and two to five of the frames.
+TIMECODE = r"([0-9]{2}):([0-9]{2}):([0-9]{2})([:;])([0-9]{2,5})"
+
+HOURS = 24
+
+
+def is_timecode(text: str) -> bool:
+    """Whether a text has the form of a timecode."""
+    return re.fullmatch(TIMECODE, text) is not None
+
+
+class Counting(namedtuple("Counting", "base is_drop")):
+    """How the frames of a day are numbered: so many a second, and whether drop frame leaves labels out."""
+
+    __slots__ = ()
+
+    def left_out(self) -> int:
+        """How many labels drop frame leaves out of a minute, but for each tenth (ST 12-1)."""
+        return self.base // 15 if self.is_drop and self.base in (30, 60) else 0
+
+    def day(self) -> int:
+        """How many labels a day has."""
+        return 60 * 24 * 60 * self.base - self.left_out() * 9 * 6 * 24
+
+    def number(self, timecode: str) -> int:
+        """How many labels of a day come before this one."""
+        minutes = 60 * int(timecode[:2]) + int(timecode[3:5])
+        skipped = self.left_out() * (minutes - minutes // 10)
+        return (60 * minutes + int(timecode[6:8])) * self.base + int(timecode[9:]) - skipped
+
+    def label(self, number: int) -> str:
+        """The label of a number below that of a day, with a colon before the frames."""
+        left_out = self.left_out()
+        if left_out:
+            tens, rest = divmod(number, 600 * self.base - 9 * left_out)
+            number += 9 * left_out * tens + left_out * max(0, (rest - left_out) // (60 * self.base - left_out))
+        seconds, frames = divmod(number, self.base)
+        return f"{seconds // 3600:02}:{seconds // 60 % 60:02}:{seconds % 60:02}:{frames:02}"
+
+    def has(self, timecode: str) -> bool:
+        """Whether a day has this label. One with a semicolon is of drop frame alone."""
+        hours, minutes, seconds, mark, frames = re.fullmatch(TIMECODE, timecode).groups()
+        if int(hours) >= HOURS or int(minutes) > 59 or int(seconds) > 59 or int(frames) >= self.base:
+            return False
+        if mark == ";" and not self.is_drop:
+            return False
+        return not (int(minutes) % 10 and int(seconds) == 0 and int(frames) < self.left_out())
