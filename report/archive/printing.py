@@ -62,9 +62,20 @@ def print_csv(heads: Sequence[str], rows: Iterable[Cells]) -> None:
     writer.writerows(rows)
 
 
+def members_of(head: str, column: Cells) -> Iterable[str]:
+    """The member of each object that has a value of a column. Each value is encoded once: a database has no numbers
+    but integers, so equal values are the same."""
+    import json
+
+    encode = json.JSONEncoder(ensure_ascii=False).encode
+    members = {value: f"{encode(head)}:{encode(value)}" for value in set(column)}
+    return map(members.get, column)
+
+
 def print_json(heads: Sequence[str], rows: Iterable[Cells]) -> None:
     """Prints a JSON object a line, with a member for each column."""
-    print_lines(dict(zip(heads, row)) for row in rows)
+    columns = map(members_of, heads, list(zip(*rows)))
+    sys.stdout.writelines("{" + ",".join(members) + "}\n" for members in zip(*columns))
 
 
 def print_lines(lines: Iterable[object]) -> None:

@@ -42,7 +42,7 @@ const HELP: &str = source_help!("Example: mxf_tool check at:0:clip.mxf");
 pub fn command<'a>(alloc: Global) -> Result<Command<'a>, AllocError> {
     let tool = Command::new(alloc, "mxf_tool")
         .about("Prints and keeps the structure of MXF files, or of parts of them")
-        .version("1.2.0")
+        .version("1.3.0-dev")
         .after_help(HELP)
         .subcommand_required(true)
         .arg_required_else_help(true);

@@ -8,6 +8,7 @@ pub mod InStreamLaws
 pub mod GreatestLaws
 pub mod StreamLaws
 pub mod PlaceLaws
+pub mod QuestionLaws
 pub mod NearLaws
 pub mod StreamOne
 pub mod NearPlaces

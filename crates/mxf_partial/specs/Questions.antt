@@ -1,14 +1,18 @@
 -- What wanted units ask for, by how they stand, as lists (this project's profile). Lemmas tie them to the relations of
 -- Asks.
-use Rattle.std.specs.Prelude.{ℕ, Option, None, Some}
+use Rattle.std.specs.Prelude.{ℕ, Option, None, Some, List, ◌++◌}
+use Rattle.std.specs.List.{filter_map}
 use Rattle.std.specs.Option.{option_and_then}
 use Rattle.std.specs.Result.{result_ok}
+use Rattle.mxf_catalogue.specs.declared.run.Run.{Run}
+use Rattle.mxf_restore.specs.declared.named.NamedPlace.{NamedPlace}
 use Rattle.mxf_views.specs.declared.index.place.StreamPlace.{StreamPlace}
 use Rattle.mxf_units.specs.Streams.{place_of, segments_for}
 use Rattle.mxf_units.specs.Units.{UnitsParts, location_of}
 use Rattle.mxf_units.specs.declared.standing.UnitStanding.{UnitStanding}
 use Rattle.mxf_units.specs.declared.standing.UnitStanding.TheVariants as standings
 use Rattle.mxf_units.specs.declared.unit.EditUnit.{EditUnit}
+use Rattle.mxf_partial.specs.Wanted.{WantedParts, wanted_run, wanted_units}
 
 -- The place of a unit in its stream, if the segments that give one agree.
 abbrev pub place_of_unit : UnitsParts → EditUnit → Option StreamPlace
@@ -52,3 +56,34 @@ number_unindexed_as _ unit = None
 -- The number of a unit to which no segment gives a place.
 abbrev pub number_unindexed : EditUnit → Option ℕ
 number_unindexed unit = number_unindexed_as unit.standing unit
+
+-- What units ask for: the places of partitions, those from which a way to the essence goes on, the limits of essence
+-- zones, the numbers of units to which no segment gives a place, and the runs of the bytes that are wanted of units.
+pub record QuestionParts : Type 0 where
+  pub partitions : List StreamPlace
+  pub ways : List StreamPlace
+  pub limits : List ℕ
+  pub unindexed : List ℕ
+  pub runs : List Run
+
+abbrev pub asked_by : List NamedPlace → UnitsParts → List EditUnit → QuestionParts
+asked_by named u units = record {
+  partitions = filter_map (partition_asked u) units;
+  ways = filter_map (way_asked u) units;
+  limits = filter_map (limit_asked u) units;
+  unindexed = filter_map number_unindexed units;
+  runs = filter_map (wanted_run named u) units;
+}
+
+abbrev pub questions_of : List NamedPlace → WantedParts → QuestionParts
+questions_of named w = asked_by named w.units (wanted_units w)
+
+-- These, and then others.
+abbrev pub both : QuestionParts → QuestionParts → QuestionParts
+both p q = record {
+  partitions = p.partitions ++ q.partitions;
+  ways = p.ways ++ q.ways;
+  limits = p.limits ++ q.limits;
+  unindexed = p.unindexed ++ q.unindexed;
+  runs = p.runs ++ q.runs;
+}

@@ -1,104 +1,167 @@
 //! What wanted units ask for, by how they stand.
-ghost use Rattle.std.specs.Prelude.{◌≡◌, IfOk, List};
-ghost use Rattle.std.specs.List.{filter_map};
-ghost use Rattle.mxf_partial.specs.Questions.{limit_asked, partition_asked, number_unindexed, way_asked};
-ghost use Rattle.mxf_partial.specs.Wanted.{wanted_units};
+ghost use Rattle.std.specs.Prelude.{◌≡◌, ◌∷◌, [], IfOk, OnOk};
+ghost use Rattle.std.specs.Ordering.{nat_cmp};
+ghost use Rattle.mxf_klv.specs.Rising.{IsRising};
+ghost use Rattle.mxf_views.specs.Rises.{RiseBy};
+ghost use Rattle.mxf_units.specs.declared.standing.UnitStanding.TheVariants as standings;
+ghost use Rattle.mxf_partial.specs.Questions.{QuestionParts, asked_by, both, questions_of};
+ghost use Rattle.mxf_partial.specs.Wanted.{IsOwn};
 
+use crate::wanted::{run_of_extent, wanted_at, wanted_run};
 use crate::wanted_units::WantedUnits;
+use mxf_catalogue::Run;
 use mxf_klv::OutOfMemory;
-use mxf_units::{EditUnit, Location, UnitStanding, Units};
+use mxf_restore::NamedPlace;
+use mxf_units::{EditUnit, UnitStanding, Units};
 use mxf_views::StreamPlace;
 use std::alloc::Global;
+use std::marker::Model;
 
-/// The places of the units whose partition isn't held, or not known to be. They take memory.
-pub(crate) fn partitions_asked(
-    alloc: Global,
-    wanted: &WantedUnits<'_>,
-) -> Result<Vec<StreamPlace>, OutOfMemory>
-    ensures { IfOk result (λ v. v.items ≡ filter_map (partition_asked wanted.now.units)
-        (wanted_units wanted.now)) }
-{
-    let units = wanted.units();
-    let asked = wanted
-        .wanted()
-        .iter()
-        .filter_map(|unit| partition_asked(units, unit));
-    Ok(asked.collect(alloc)?)
+/// What wanted units ask for, by how they stand. Each unit is looked at once.
+#[derive(Drop)]
+pub(crate) struct Questions {
+    partitions: Vec<StreamPlace>,
+    ways: Vec<StreamPlace>,
+    limits: Vec<u64>,
+    unindexed: Vec<u64>,
+    runs: Vec<Run>,
 }
 
-/// The place of a unit whose partition isn't held, or not known to be.
-fn partition_asked(units: &Units<'_>, unit: &EditUnit) -> Option<StreamPlace>
-    ensures { result ≡ partition_asked units.now unit.now }
-{
-    match unit.standing {
-        UnitStanding::NoPartition | UnitStanding::Elsewhere => units.place(unit.number).ok(),
-        _ => None,
+impl Model for Questions {
+    ghost use Rattle.mxf_partial.specs.Questions.{QuestionParts};
+
+    ghost Value = { QuestionParts };
+
+    ghost view = { λ q. record {
+      partitions = q.partitions.items;
+      ways = q.ways.items;
+      limits = q.limits.items;
+      unindexed = q.unindexed.items;
+      runs = q.runs.items;
+    } };
+}
+
+impl Questions {
+    /// What the wanted units ask for. It takes memory.
+    pub(crate) fn of(
+        alloc: Global,
+        wanted: &WantedUnits<'_>,
+        named: &[NamedPlace],
+    ) -> Result<Questions, OutOfMemory>
+        requires { RiseBy (λ n. n.place) named.now }
+        ensures are { IfOk result (λ q. q ≡ questions_of named.now wanted.now) }
+        ensures rising { IfOk result (λ q. IsRising nat_cmp q.unindexed) }
+    {
+        let units = wanted.units();
+        let mut asked = Questions::none(alloc);
+        for unit in wanted.wanted() {
+            asked.add(units, named, unit)?;
+        }
+        Ok(asked)
     }
-}
 
-/// The places of the units whose partition has no first packet of essence, as far as is known. They take memory.
-pub(crate) fn ways_asked(
-    alloc: Global,
-    wanted: &WantedUnits<'_>,
-) -> Result<Vec<StreamPlace>, OutOfMemory>
-    ensures { IfOk result (λ v. v.items ≡ filter_map (way_asked wanted.now.units)
-        (wanted_units wanted.now)) }
-{
-    let units = wanted.units();
-    let asked = wanted
-        .wanted()
-        .iter()
-        .filter_map(|unit| way_asked(units, unit));
-    Ok(asked.collect(alloc)?)
-}
-
-/// The place of a unit whose partition has no first packet of essence, as far as is known.
-fn way_asked(units: &Units<'_>, unit: &EditUnit) -> Option<StreamPlace>
-    ensures { result ≡ way_asked units.now unit.now }
-{
-    match unit.standing {
-        UnitStanding::Several | UnitStanding::Unknown => units.place(unit.number).ok(),
-        _ => None,
+    /// No unit asks for anything.
+    fn none(alloc: Global) -> Questions
+        ensures { (q : QuestionParts) → both result q ≡ q }
+    {
+        Questions {
+            partitions: Vec::new(alloc),
+            ways: Vec::new(alloc),
+            limits: Vec::new(alloc),
+            unindexed: Vec::new(alloc),
+            runs: Vec::new(alloc),
+        }
     }
-}
 
-/// The limits of the essence zones, in bytes, below which an unknown partition may lie. They take memory.
-pub(crate) fn limits_asked(alloc: Global, wanted: &WantedUnits<'_>) -> Result<Vec<u64>, OutOfMemory>
-    ensures { IfOk result (λ v. v.items ≡ filter_map (limit_asked wanted.now.units)
-        (wanted_units wanted.now)) }
-{
-    let units = wanted.units();
-    let asked = wanted
-        .wanted()
-        .iter()
-        .filter_map(|unit| limit_asked(units, unit));
-    Ok(asked.collect(alloc)?)
-}
-
-/// The limit of the essence zone of a unit, in bytes, if an unknown partition may lie below it.
-fn limit_asked(units: &Units<'_>, unit: &EditUnit) -> Option<u64>
-    ensures { result ≡ limit_asked units.now unit.now }
-{
-    match unit.standing {
-        UnitStanding::Unsure => units.location(unit.number).ok()?.zone.limit,
-        _ => None,
+    /// Adds what a unit asks for.
+    fn add(
+        &mut self,
+        units: &Units<'_>,
+        named: &[NamedPlace],
+        unit: &EditUnit,
+    ) -> Result<(), OutOfMemory>
+        requires named { RiseBy (λ n. n.place) named.now }
+        requires own { IsOwn units.now unit.now }
+        ensures { OnOk result (self.new ≡ both self.old (asked_by named.now units.now (unit.now ∷ []))) }
+    {
+        match unit.standing {
+            UnitStanding::NoPartition | UnitStanding::Elsewhere => {
+                if let Ok(place) = units.place(unit.number) {
+                    self.partitions.push(place)?;
+                }
+            }
+            UnitStanding::Several | UnitStanding::Unknown => {
+                if let Ok(place) = units.place(unit.number) {
+                    self.ways.push(place)?;
+                }
+            }
+            UnitStanding::Unsure => self.add_unsure(units, named, unit)?,
+            UnitStanding::NotIndexed => self.unindexed.push(unit.number)?,
+            UnitStanding::Missing | UnitStanding::Part => {
+                if let Some(run) = wanted_run(named, units, unit) {
+                    self.runs.push(run)?;
+                }
+            }
+            _ => {}
+        }
+        Ok(())
     }
-}
 
-/// The numbers of those of the units to which no segment gives a place. They take memory.
-pub(crate) fn numbers_unindexed(alloc: Global, units: &[EditUnit]) -> Result<Vec<u64>, OutOfMemory>
-    ensures { IfOk result (λ v. v.items ≡ filter_map number_unindexed units.now) }
-{
-    let asked = units.iter().filter_map(number_unindexed);
-    Ok(asked.collect(alloc)?)
-}
+    /// Adds what a unit asks for before which an unknown partition may lie.
+    fn add_unsure(
+        &mut self,
+        units: &Units<'_>,
+        named: &[NamedPlace],
+        unit: &EditUnit,
+    ) -> Result<(), OutOfMemory>
+        requires named { RiseBy (λ n. n.place) named.now }
+        requires standing { unit.now.standing ≡ standings.Unsure }
+        ensures { OnOk result (self.new ≡ both self.old (asked_by named.now units.now (unit.now ∷ []))) }
+    {
+        let Ok(location) = units.location(unit.number) else {
+            return Ok(());
+        };
+        if let Some(limit) = location.zone.limit {
+            self.limits.push(limit)?;
+        }
+        if let Some(extent) = wanted_at(named, UnitStanding::Unsure, location) {
+            self.runs.push(run_of_extent(extent))?;
+        }
+        Ok(())
+    }
 
-/// The number of a unit to which no segment gives a place.
-fn number_unindexed(unit: &EditUnit) -> Option<u64>
-    ensures { result ≡ number_unindexed unit.now }
-{
-    match unit.standing {
-        UnitStanding::NotIndexed => Some(unit.number),
-        _ => None,
+    /// The places of the units whose partition isn't held, or not known to be.
+    pub(crate) fn partitions(&self) -> &[StreamPlace]
+        ensures { result.now ≡ self.now.partitions }
+    {
+        &self.partitions
+    }
+
+    /// The places of the units whose partition has no first packet of essence, as far as is known.
+    pub(crate) fn ways(&self) -> &[StreamPlace]
+        ensures { result.now ≡ self.now.ways }
+    {
+        &self.ways
+    }
+
+    /// The limits of the essence zones, in bytes, below which an unknown partition may lie.
+    pub(crate) fn limits(&self) -> &[u64]
+        ensures { result.now ≡ self.now.limits }
+    {
+        &self.limits
+    }
+
+    /// The numbers of the units to which no segment gives a place.
+    pub(crate) fn unindexed(&self) -> &[u64]
+        ensures { result.now ≡ self.now.unindexed }
+    {
+        &self.unindexed
+    }
+
+    /// The runs of the bytes that are wanted of each unit, as far as files reach.
+    pub(crate) fn into_runs(self) -> Vec<Run>
+        ensures { result.items ≡ self.runs }
+    {
+        self.runs
     }
 }

@@ -1,11 +1,13 @@
 //! The bytes that are wanted of edit units.
-ghost use Rattle.std.specs.Prelude.{◌≡◌, ◌↔◌, ◌∷◌, [], ℕ, IfOk};
-ghost use Rattle.std.specs.List.{filter_map};
+ghost use Rattle.std.specs.Prelude.{◌≡◌, ◌↔◌, ◌≤◌, ◌∷◌, [], ℕ, IfOk, List};
+ghost use Rattle.std.specs.List.{AllByRecursion, filter_map};
+ghost use Rattle.mxf_klv.specs.Note.{greatest_end};
 ghost use Rattle.mxf_catalogue.specs.Runs.{LiesIn};
 ghost use Rattle.mxf_views.specs.Rises.{RiseBy};
 ghost use Rattle.mxf_partial.specs.Gathered.{run_of_extent};
 ghost use Rattle.mxf_partial.specs.Wanted.{HasByteBy, IsOwn, is_limit_named, reach_of, wanted_at, wanted_of, wanted_run};
-ghost use Rattle.mxf_partial.specs.Wanted.{wanted_runs, wanted_units, whole_extent};
+ghost use Rattle.mxf_partial.specs.Wanted.{wanted_units, whole_extent};
+ghost use Rattle.mxf_restore.specs.declared.named.NamedPlace.{NamedPlace};
 
 use crate::named::is_named;
 use crate::wanted_units::WantedUnits;
@@ -15,30 +17,20 @@ use mxf_restore::NamedPlace;
 use mxf_units::{EditUnit, Extent, Location, UnitStanding, Units, cover_of};
 use std::alloc::Global;
 
-/// The offsets of the bytes that are wanted, as far as files reach. They take memory.
+/// The offsets of the bytes that are wanted, as far as files reach, by the runs that are wanted of each unit. They take
+/// memory.
 pub(crate) fn wanted_bytes(
     alloc: Global,
     wanted: &WantedUnits<'_>,
-    named: &[NamedPlace],
+    runs: Vec<Run>,
 ) -> Result<Cover, OutOfMemory>
-    requires { RiseBy (λ n. n.place) named.now }
-    ensures { IfOk result (λ c. (x : ℕ) → LiesIn c x ↔ HasByteBy named.now wanted.now wanted.now.bytes x) }
-{
-    cover_of(alloc, wanted_runs(alloc, wanted, named)?)
-}
-
-/// The runs of the bytes that are wanted, as far as files reach. They take memory.
-fn wanted_runs(
-    alloc: Global,
-    wanted: &WantedUnits<'_>,
-    named: &[NamedPlace],
-) -> Result<Vec<Run>, OutOfMemory>
-    requires { RiseBy (λ n. n.place) named.now }
-    ensures { IfOk result (λ v. v.items ≡ wanted_runs named.now wanted.now wanted.now.bytes) }
+    requires { AllByRecursion (λ r. r.end ≤ greatest_end) runs.items }
+    ensures { (named : List NamedPlace) → runs.items ≡ filter_map (wanted_run named wanted.now.units) (wanted_units wanted.now)
+        → IfOk result (λ c. (x : ℕ) → LiesIn c x ↔ HasByteBy named wanted.now wanted.now.bytes x) }
 {
     match wanted.bytes() {
-        Some(extent) => one_run(alloc, extent),
-        None => runs_of_units(alloc, wanted, named),
+        Some(extent) => cover_of(alloc, one_run(alloc, extent)?),
+        None => cover_of(alloc, runs),
     }
 }
 
@@ -51,27 +43,8 @@ fn one_run(alloc: Global, extent: Extent) -> Result<Vec<Run>, OutOfMemory>
     Ok(runs)
 }
 
-/// The runs that are wanted of each unit, as far as files reach. They take memory.
-fn runs_of_units(
-    alloc: Global,
-    wanted: &WantedUnits<'_>,
-    named: &[NamedPlace],
-) -> Result<Vec<Run>, OutOfMemory>
-    requires { RiseBy (λ n. n.place) named.now }
-    ensures { IfOk result (λ v. v.items ≡ filter_map (wanted_run named.now wanted.now.units) (wanted_units wanted.now)) }
-{
-    let units = wanted.units();
-    let mut runs = Vec::new(alloc);
-    for unit in wanted.wanted() {
-        if let Some(run) = wanted_run(named, units, unit) {
-            runs.push(run)?;
-        }
-    }
-    Ok(runs)
-}
-
 /// The run that is wanted of a unit, if one is.
-fn wanted_run(named: &[NamedPlace], units: &Units<'_>, unit: &EditUnit) -> Option<Run>
+pub(crate) fn wanted_run(named: &[NamedPlace], units: &Units<'_>, unit: &EditUnit) -> Option<Run>
     requires named { RiseBy (λ n. n.place) named.now }
     requires own { IsOwn units.now unit.now }
     ensures { result ≡ wanted_run named.now units.now unit.now }
@@ -125,7 +98,11 @@ fn whole_extent(unit: &EditUnit) -> Option<Extent>
 }
 
 /// The bytes that are wanted of a unit by where it is looked for.
-fn wanted_at(named: &[NamedPlace], standing: UnitStanding, location: Location) -> Option<Extent>
+pub(crate) fn wanted_at(
+    named: &[NamedPlace],
+    standing: UnitStanding,
+    location: Location,
+) -> Option<Extent>
     requires { RiseBy (λ n. n.place) named.now }
     ensures { result ≡ wanted_at named.now standing location }
 {

@@ -1,24 +1,23 @@
-use Rattle.std.proofs.Common.{◌≡◌, ◌↔◌, ◌⊎◌, ◌∙◌, Bool, List, ap, filter_map, inl, inr, nat_cmp, subst, sym, true, false}
+use Rattle.std.proofs.Common.{◌≡◌, ◌↔◌, ◌⊎◌, ◌∙◌, Bool, List, ap, inl, inr, nat_cmp, subst, sym, true, false}
 use Rattle.mxf_klv.specs.Rising.{In, IsRising}
 use Rattle.mxf_restore.specs.declared.named.NamedPlace.{NamedPlace}
 use Rattle.mxf_partial.specs.Asks.{IsAskedByIndex, IsAskedByUnit}
 use Rattle.mxf_partial.specs.Between.{IsOneOf16, MayIndexOneOf}
 use Rattle.mxf_units.specs.Units.{UnitsParts}
 use Rattle.mxf_partial.specs.Named.{AreNamed}
-use Rattle.mxf_partial.specs.Questions.{number_unindexed}
+use Rattle.mxf_partial.specs.Questions.{QuestionParts}
 use Rattle.mxf_partial.specs.Wanted.{WantedParts}
-use Rattle.mxf_partial.proofs.AskLaws.{both_are, numbers_are_rising}
+use Rattle.mxf_partial.proofs.AskLaws.{both_are}
 use Rattle.mxf_partial.proofs.asks.asked_places.Goals as goal
-use Rattle.mxf_partial.proofs.asks.asked_places.Goals.{then-is_index_sought+in_ok-numbers+in_ok-add_chosen}
+use Rattle.mxf_partial.proofs.asks.asked_places.Goals.{then-is_index_sought+in_ok-add_chosen}
 use Rattle.mxf_partial.proofs.asks.asked_places.Goals.{else-is_index_sought}
 
 pub add_chosen-requires-clause-rising : goal.add_chosen-requires-clause-rising
-add_chosen-requires-clause-rising c = subst (IsRising nat_cmp)
-    (sym (c.deref.ensures.value ∙ c.in_ok-numbers.ensures)) (numbers_are_rising c.wanted.result.now c.wanted.ensures.rising)
+add_chosen-requires-clause-rising c = subst (IsRising nat_cmp) (sym c.unindexed.ensures) c.requires.rising
 
 pub add_chosen-requires-clause-named : goal.add_chosen-requires-clause-named
 add_chosen-requires-clause-named c =
-    subst (λ (u : UnitsParts). AreNamed u.known.notes c.args.named.now) (sym c.units.ensures) c.requires
+    subst (λ (u : UnitsParts). AreNamed u.known.notes c.args.named.now) (sym c.units.ensures) c.requires.named
 
 -- The same places in another list.
 moved : (w : WantedParts) (sought : Bool) (before after : List NamedPlace) (n : NamedPlace) → In n after ↔ In n before
@@ -48,16 +47,16 @@ returns-clause-members c = λ n.
     moved w c.args.is_index_sought c.if-is_index_sought.asked.items c.in_order.result.items n
     (c.in_order.ensures.members n)
     (elim c.if-is_index_sought.branch [
-      | then-is_index_sought+in_ok-numbers+in_ok-add_chosen b ↦
+      | then-is_index_sought+in_ok-add_chosen b ↦
           where_sought w c.args.is_index_sought c.if-is_index_sought.asked.items n b.if-is_index_sought.true
-          (both_are w c.args.named.now c.in_ok-asked.asked.items c.if-is_index_sought.asked.items b.deref.result.now n
-          c.requires (b.deref.ensures.value ∙ b.in_ok-numbers.ensures
-          ∙ ap (filter_map number_unindexed) b.wanted.ensures.is) (c.in_ok-asked.ensures n)
+          (both_are w c.args.named.now c.in_ok-asked.asked.items c.if-is_index_sought.asked.items b.unindexed.result.now n
+          c.requires.named (b.unindexed.ensures ∙ ap (λ (q : QuestionParts). q.unindexed) c.requires.questions)
+          (c.in_ok-asked.ensures n)
           (subst (λ (l : List NamedPlace). In n l ↔ (In n c.in_ok-asked.asked.items ⊎ (In n c.args.named.now
-          × IsOneOf16 (MayIndexOneOf c.args.wanted.now.units b.deref.result.now) n.place)))
+          × IsOneOf16 (MayIndexOneOf c.args.wanted.now.units b.unindexed.result.now) n.place)))
           (ap (λ v. v.items) (sym b.asked-is)) (subst (λ (u : UnitsParts). In n b.add_chosen.new.asked.items
           ↔ (In n c.in_ok-asked.asked.items ⊎ (In n c.args.named.now
-          × IsOneOf16 (MayIndexOneOf u b.deref.result.now) n.place))) b.units.ensures (b.in_ok-add_chosen.ensures n))))
+          × IsOneOf16 (MayIndexOneOf u b.unindexed.result.now) n.place))) b.units.ensures (b.in_ok-add_chosen.ensures n))))
       | else-is_index_sought b ↦
           where_not w c.args.is_index_sought c.if-is_index_sought.asked.items n b.if-is_index_sought.false
           (subst (λ (l : List NamedPlace). In n l ↔ IsAskedByUnit w n.place n.source)
