@@ -179,12 +179,12 @@ def is_linear(name, ratio):
 
 
 def try_doubled(run, shape, many, seed):
-    """Compares a file of a shape with one of twice as many. If the machine is busy, a run takes more processor time
-    too, so what takes too much is run again, and the least times count."""
+    """Compares a file of a shape with one of twice as many. If the machine is busy, or slow for a while, a run takes more
+    processor time too, so what takes too much is run again, and the least times count."""
     files = [shape(random.Random(seed), times * many) for times in (1, 2)]
     laid = [(run.lay(f"times{times}.", pieces), sum(len(data) for _, data in pieces)) for times, pieces in enumerate(files)]
     least = [{}, {}]
-    for wait in (0, 1, 2, 4, 8):
+    for wait in (0, 1, 2, 4, 8, 16, 32, 32):
         time.sleep(wait)
         for times, (sources, size) in zip(least, laid):
             for name, seconds in seconds_of(run, shape, sources, size).items():
