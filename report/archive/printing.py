@@ -63,8 +63,8 @@ def print_csv(heads: Sequence[str], rows: Iterable[Cells]) -> None:
 
 
 def members_of(head: str, column: Cells) -> Iterable[str]:
-    """The member of each object that has a value of a column. Each value is encoded once: a database has no numbers
-    but integers, so equal values are the same."""
+    """The member of each object that has a value of a column. Each value is encoded once: no answer has numbers but
+    integers, so equal values are the same."""
     import json
 
     encode = json.JSONEncoder(ensure_ascii=False).encode
