@@ -1,4 +1,5 @@
 pub mod FewerSteps
 pub mod LaneLemmas
+pub mod NestedRotations
 pub mod PaddingLemmas
 pub mod QueueLemmas

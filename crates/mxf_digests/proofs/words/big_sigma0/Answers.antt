@@ -1,0 +1,17 @@
+use Rattle.std.proofs.Common.{arith, bit_xor, slice_index}
+use Rattle.mxf_digests.proofs.LaneLemmas.{at_lane, lane_fits}
+use Rattle.mxf_digests.proofs.NestedRotations.{nested_three}
+use Rattle.mxf_digests.proofs.words.big_sigma0.Goals as goal
+
+pub returns : goal.returns
+returns c j h =
+    let x = c.args.x in
+    let fits = lane_fits x j c.fits-x.0 c.fits-x.1 h in
+    rw (
+      c.rotate_right-3.ensures j h,
+      at_lane bit_xor x c.rotate_right-2.result j c.fits-x.0 (omega arith) h,
+      c.rotate_right-2.ensures j h,
+      at_lane bit_xor x c.rotate_right.result j c.fits-x.0 (omega arith) h,
+      c.rotate_right.ensures j h,
+    )
+    (nested_three (slice_index x j) 2 11 9 fits (omega arith) (omega arith) (omega arith) (omega arith))
