@@ -1,25 +1,24 @@
 -- The runs of what is wanted, and of what is there.
-use Rattle.mxf_views.proofs.Common.{◌≡◌, ◌↔◌, ◌⊎◌, ◌<◌, ◌≤◌, ◌+◌, ◌++◌, ℕ, List, Option, None, Some, arith, filter_map}
-use Rattle.mxf_views.proofs.Common.{inl, inr, map, min, option_map, refl, same_Some, subst, sym, unwrap_or}
+use Rattle.mxf_views.proofs.Common.{◌≡◌, ◌↔◌, ◌⊎◌, ◌<◌, ◌≤◌, ◌++◌, ◌∷◌, [], ℕ, List, Option, None, Some, arith, filter_map}
+use Rattle.mxf_views.proofs.Common.{inl, inr, map, option_map, refl, same_Some, subst, sym, ◌∙◌, ap, Bool, true, false}
 use Rattle.mxf_views.proofs.Common.{AllByRecursion, all_append, all_from_In, greatest_end, In, In-append}
-use Rattle.mxf_views.proofs.Common.{In-filter_map, In-map, IsCover, IsWithin, LiesIn, SameOffsets, ◌∙◌, ap, Bool}
-use Rattle.mxf_views.proofs.Common.{true, false, if◌then◌else◌, is_some, option_and_then, option_or, Result, Ok, Err}
+use Rattle.mxf_views.proofs.Common.{In-filter_map, In-map, IsCover, IsWithin, LiesIn, SameOffsets, if◌then◌else◌}
+use Rattle.mxf_views.proofs.Common.{Result, Ok, Err, result_ok}
 use Rattle.mxf_catalogue.specs.declared.run.Run.{Run}
 use Rattle.mxf_places.specs.AtHand.{KnownParts, LiesBetween}
 use Rattle.mxf_restore.specs.declared.named.NamedPlace.{NamedPlace}
 use Rattle.mxf_restore.specs.declared.plan.Order.{Order}
-use Rattle.mxf_units.specs.Units.{AreKnown, IsKnown, UnitsParts, extent_by, is_told, location_of, standing_by}
-use Rattle.mxf_units.specs.Units.{standing_in, unit_of}
+use Rattle.mxf_units.specs.Units.{AreKnown, IsKnown, UnitsParts, location_of}
 use Rattle.mxf_units.specs.declared.location.Location.{Location}
 use Rattle.mxf_units.specs.declared.standing.UnitStanding.{UnitStanding}
+use Rattle.mxf_units.specs.declared.standing.UnitStanding.TheVariants as standings
 use Rattle.mxf_units.specs.declared.unit.EditUnit.{EditUnit}
 use Rattle.mxf_units.specs.declared.unit.Extent.{Extent}
 use Rattle.mxf_partial.specs.Gathered.{run_of_extent, run_of_order}
 use Rattle.mxf_partial.specs.Orders.{IsOrdered}
-use Rattle.mxf_partial.specs.Wanted.{HasByte, HasByteBy, HasByteOf, WantedParts, wanted_of, wanted_run, wanted_runs}
-use Rattle.mxf_partial.specs.Wanted.{IsOwn, reach_of, wanted_at, wanted_by, wanted_units, whole_extent}
-use Rattle.mxf_partial.specs.Wanted.{whole_extent_as}
-use Rattle.mxf_units.specs.declared.standing.UnitStanding.TheVariants as standings
+use Rattle.mxf_partial.specs.Questions.{run_asked, run_asked_as, unnamed_run, unsure_asked, unsure_asked_as, unsure_run}
+use Rattle.mxf_partial.specs.Wanted.{HasByte, HasByteOf, is_limit_named, reach_of, wanted_by, wanted_of, wanted_run}
+use Rattle.mxf_partial.specs.declared.questions.UnsureRun.{UnsureRun}
 
 -- ---- the runs of extents
 
@@ -72,22 +71,125 @@ units-say named u units x = (
       (r.0, (In-filter_map (wanted_run named u) units r.0).1 (unit, h.0.1, r.1), k),
 )
 
-pub runs-say : (named : List NamedPlace) (w : WantedParts) (bytes : Option Extent) (x : ℕ)
-    → LiesIn (wanted_runs named w bytes) x ↔ HasByteBy named w bytes x
-runs-say named w None x = units-say named w.units (wanted_units w) x
-runs-say named w (Some e) x =
+pub one-says : (e : Extent) (x : ℕ)
+    → LiesIn (run_of_extent e ∷ []) x ↔ (LiesBetween e.start e.end x × (x < greatest_end))
+one-says e x =
     let says = within_extent e x in (
       λ h. elim h.1 [ inl f ↦ says.0 (subst (λ (r : Run). IsWithin r x) f h.2) | inr k ↦ absurd k ],
       λ h. (run_of_extent e, inl refl, says.1 h),
     )
 
-pub runs-end : (named : List NamedPlace) (w : WantedParts) (bytes : Option Extent)
-    → AllByRecursion (λ (r : Run). r.end ≤ greatest_end) (wanted_runs named w bytes)
-runs-end named w None =
-    all_from_In (λ (r : Run). r.end ≤ greatest_end) (filter_map (wanted_run named w.units) (wanted_units w)) (λ r h.
-    let s = (In-filter_map (wanted_run named w.units) (wanted_units w) r).0 h in
-    run_ends (wanted_of named w.units s.0) r s.2)
-runs-end named w (Some e) = (ends_in_files e, tt)
+-- A run of an extent that isn't held back.
+kept_run : (b : Bool) (e : Extent)
+    → option_map run_of_extent (if b then None else Some e) ≡ (if b then None else Some (run_of_extent e))
+kept_run true e = refl
+kept_run false e = refl
+
+module _ (named : List NamedPlace) where
+  -- What is wanted of a unit is asked for, as its own run or as that of an unsure unit whose limit no pack names.
+  abbrev IsAsked : UnitStanding → Result Location UnitStanding → Run → Type 0
+  IsAsked s r run = (run_asked_as s (result_ok r) ≡ Some run)
+      ⊎ ((x : UnsureRun) × (unsure_asked_as s (result_ok r) ≡ Some x) × (unnamed_run named x ≡ Some run))
+
+  is_asked : (s : UnitStanding) (r : Result Location UnitStanding) (run : Run)
+      → option_map run_of_extent (wanted_by named s r) ≡ Some run → IsAsked s r run
+  is_asked s (Err t) run e = absurd cc
+  is_asked standings.Missing (Ok l) run e = inl e
+  is_asked standings.Part (Ok l) run e = inl e
+  is_asked standings.Unsure (Ok l) run e = inr (
+    unsure_run l,
+    refl,
+    sym (kept_run (is_limit_named named l) (record { start = l.zone.origin; end = reach_of l })) ∙ e,
+  )
+  is_asked standings.NotIndexed (Ok l) run e = absurd cc
+  is_asked standings.Ambiguous (Ok l) run e = absurd cc
+  is_asked standings.NoPartition (Ok l) run e = absurd cc
+  is_asked standings.Several (Ok l) run e = absurd cc
+  is_asked standings.Unknown (Ok l) run e = absurd cc
+  is_asked standings.Elsewhere (Ok l) run e = absurd cc
+  is_asked standings.Disputed (Ok l) run e = absurd cc
+  is_asked standings.Held (Ok l) run e = absurd cc
+  is_asked standings.Hand (Ok l) run e = absurd cc
+
+  run_wanted : (s : UnitStanding) (r : Result Location UnitStanding) (run : Run)
+      → run_asked_as s (result_ok r) ≡ Some run → option_map run_of_extent (wanted_by named s r) ≡ Some run
+  run_wanted standings.Missing (Ok l) run e = e
+  run_wanted standings.Part (Ok l) run e = e
+  run_wanted standings.Missing (Err t) run e = absurd cc
+  run_wanted standings.Part (Err t) run e = absurd cc
+  run_wanted standings.Unsure r run e = absurd cc
+  run_wanted standings.NotIndexed r run e = absurd cc
+  run_wanted standings.Ambiguous r run e = absurd cc
+  run_wanted standings.NoPartition r run e = absurd cc
+  run_wanted standings.Several r run e = absurd cc
+  run_wanted standings.Unknown r run e = absurd cc
+  run_wanted standings.Elsewhere r run e = absurd cc
+  run_wanted standings.Disputed r run e = absurd cc
+  run_wanted standings.Held r run e = absurd cc
+  run_wanted standings.Hand r run e = absurd cc
+
+  unsure_wanted : (s : UnitStanding) (r : Result Location UnitStanding) (x : UnsureRun) (run : Run)
+      → unsure_asked_as s (result_ok r) ≡ Some x → unnamed_run named x ≡ Some run
+      → option_map run_of_extent (wanted_by named s r) ≡ Some run
+  unsure_wanted standings.Unsure (Ok l) x run e n =
+      kept_run (is_limit_named named l) (record { start = l.zone.origin; end = reach_of l })
+      ∙ ap (unnamed_run named) (same_Some (unsure_run l) x e) ∙ n
+  unsure_wanted standings.Unsure (Err t) x run e n = absurd cc
+  unsure_wanted standings.Missing r x run e n = absurd cc
+  unsure_wanted standings.Part r x run e n = absurd cc
+  unsure_wanted standings.NotIndexed r x run e n = absurd cc
+  unsure_wanted standings.Ambiguous r x run e n = absurd cc
+  unsure_wanted standings.NoPartition r x run e n = absurd cc
+  unsure_wanted standings.Several r x run e n = absurd cc
+  unsure_wanted standings.Unknown r x run e n = absurd cc
+  unsure_wanted standings.Elsewhere r x run e n = absurd cc
+  unsure_wanted standings.Disputed r x run e n = absurd cc
+  unsure_wanted standings.Held r x run e n = absurd cc
+  unsure_wanted standings.Hand r x run e n = absurd cc
+
+  module _ (u : UnitsParts) (units : List EditUnit) where
+    abbrev asked_runs : List Run
+    asked_runs = filter_map (run_asked u) units ++ filter_map (unnamed_run named) (filter_map (unsure_asked u) units)
+
+    abbrev location : EditUnit → Result Location UnitStanding
+    location unit = location_of u.known.notes u.index_sid unit.number
+
+    same_runs : (r : Run) → In r asked_runs ↔ In r (filter_map (wanted_run named u) units)
+    same_runs r =
+        let own = In-filter_map (run_asked u) units r in
+        let unsure = λ (x : UnsureRun). In-filter_map (unsure_asked u) units x in
+        let unnamed = In-filter_map (unnamed_run named) (filter_map (unsure_asked u) units) r in
+        let wanted = In-filter_map (wanted_run named u) units r in
+        let parts = In-append r (filter_map (run_asked u) units)
+        (filter_map (unnamed_run named) (filter_map (unsure_asked u) units)) in (
+          λ i. elim (parts.0 i) [
+            | inl k ↦
+                let s = own.0 k in wanted.1 (s.0, s.1, run_wanted s.0.standing (location s.0) r s.2)
+            | inr k ↦
+                let n = unnamed.0 k in
+                let s = (unsure n.0).0 n.1 in
+                wanted.1 (s.0, s.1, unsure_wanted s.0.standing (location s.0) n.0 r s.2 n.2)
+          ],
+          λ i.
+              let s = wanted.0 i in
+              parts.1 (elim (is_asked s.0.standing (location s.0) r s.2) [
+                | inl k ↦ inl (own.1 (s.0, s.1, k))
+                | inr k ↦ inr (unnamed.1 (k.0, (unsure k.0).1 (s.0, s.1, k.1), k.2))
+              ]),
+        )
+
+    pub asked-say : (x : ℕ) → LiesIn asked_runs x ↔ HasByteOf named u units x
+    asked-say x =
+        let says = units-say named u units x in (
+          λ h. says.0 (h.0, (same_runs h.0).0 h.1, h.2),
+          λ h. let k = says.1 h in (k.0, (same_runs k.0).1 k.1, k.2),
+        )
+
+    pub asked-end : AllByRecursion (λ (r : Run). r.end ≤ greatest_end) asked_runs
+    asked-end =
+        all_from_In (λ (r : Run). r.end ≤ greatest_end) asked_runs (λ r i.
+        let s = (In-filter_map (wanted_run named u) units r).0 ((same_runs r).0 i) in
+        run_ends (wanted_of named u s.0) r s.2)
 
 -- ---- what is there
 
@@ -131,73 +233,3 @@ there-ends orders held runs cover is =
     (all_from_In P (map run_of_order orders) (λ r h.
     let s = (In-map run_of_order orders r).0 h in
     subst P (sym s.2) (ends_in_files (record { start = s.0.start; end = s.0.end })))))
-
--- ---- the bytes of a unit whose end is known
-
-module _ (u : UnitsParts) (unit : EditUnit) where
-  abbrev location : Result Location UnitStanding
-  location = location_of u.known.notes u.index_sid unit.number
-
-  -- Where an extent is told, the unit is looked for there.
-  told_extent : (e : Extent) → IsOwn u unit → unit.extent ≡ Some e
-      → (l : Location) × (location ≡ Ok l) × (l.extent ≡ e)
-  unfolding unit_of
-  told_extent e own is = by location refl (sym (ap (λ (v : EditUnit). v.extent) own) ∙ is)
-    where
-      guarded : (b : Bool) (x y : Extent) → (if b then Some x else None) ≡ Some y → x ≡ y
-      guarded true x y f = same_Some x y f
-      guarded false x y f = absurd cc
-
-      by : (r : Result Location UnitStanding) → location ≡ r → extent_by (standing_by u.known r) r ≡ Some e
-          → (l : Location) × (location ≡ Ok l) × (l.extent ≡ e)
-      by (Err s) at f = absurd cc
-      by (Ok l) at f = (l, at, guarded (is_told (standing_in u.known l)) l.extent e f)
-
-  pub wanted_whole : (named : List NamedPlace) (e : Extent) → IsOwn u unit → whole_extent unit ≡ Some e
-      → wanted_of named u unit ≡ Some e
-  wanted_whole named e own is = by unit.standing refl is
-    where
-      ended : (o : Option Extent) → option_and_then (λ x. if is_some x.end then Some x else None) o ≡ Some e
-          → (o ≡ Some e) × (is_some e.end ≡ true)
-      ended None f = absurd cc
-      ended (Some x) f = by_end (is_some x.end) refl f
-        where
-          by_end : (b : Bool) → is_some x.end ≡ b → (if b then Some x else None) ≡ Some e
-              → (Some x ≡ Some e) × (is_some e.end ≡ true)
-          by_end true t g = (g, ap (λ (y : Extent). is_some y.end) (sym (same_Some x e g)) ∙ t)
-          by_end false t g = absurd cc
-
-      reached : (l : Location) → l.extent ≡ e → is_some e.end ≡ true
-          → Some (record { start = l.extent.start; end = reach_of l }) ≡ Some e
-      reached l same some =
-          ap (λ (x : Extent). Some (record { start = x.start; end = option_or x.end l.zone.limit })) same
-          ∙ ap (λ (o : Option ℕ). Some (record { start = e.start; end = o })) (to_end e.end some)
-        where
-          to_end : (o : Option ℕ) → is_some o ≡ true → option_or o l.zone.limit ≡ o
-          to_end None f = absurd cc
-          to_end (Some n) f = refl
-
-      located : (standing : UnitStanding) → unit.standing ≡ standing
-          → ((l : Location) → wanted_at named standing l ≡ Some (record { start = l.extent.start; end = reach_of l }))
-          → option_and_then (λ x. if is_some x.end then Some x else None) unit.extent ≡ Some e
-          → wanted_of named u unit ≡ Some e
-      located standing s at f =
-          let k = ended unit.extent f in
-          let t = told_extent e own k.0 in
-          ap (λ r. wanted_by named unit.standing r) t.1 ∙ ap (λ w. wanted_at named w t.0) s ∙ at t.0
-          ∙ reached t.0 t.2 k.1
-
-      by : (standing : UnitStanding) → unit.standing ≡ standing → whole_extent_as standing unit.extent ≡ Some e
-          → wanted_of named u unit ≡ Some e
-      by standings.Missing s f = located standings.Missing s (λ l. refl) f
-      by standings.Part s f = located standings.Part s (λ l. refl) f
-      by standings.NotIndexed s f = absurd cc
-      by standings.Ambiguous s f = absurd cc
-      by standings.NoPartition s f = absurd cc
-      by standings.Several s f = absurd cc
-      by standings.Unknown s f = absurd cc
-      by standings.Elsewhere s f = absurd cc
-      by standings.Unsure s f = absurd cc
-      by standings.Disputed s f = absurd cc
-      by standings.Held s f = absurd cc
-      by standings.Hand s f = absurd cc

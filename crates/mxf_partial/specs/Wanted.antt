@@ -1,8 +1,8 @@
 -- The edit units that are wanted of an index, and the bytes that are wanted of them (this project's profile; key frames
 -- are those that entries name, ST 377-1, Index Table Segment).
-use Rattle.std.specs.Prelude.{◌≡◌, ℕ, ◌<◌, Bool, true, false, if◌then◌else◌, is_some, Option, None, Some, List, [], ◌∷◌, Result, Ok, Err}
+use Rattle.std.specs.Prelude.{◌≡◌, ℕ, ◌<◌, Bool, true, false, if◌then◌else◌, Option, None, Some, List, Result, Ok, Err}
 use Rattle.std.specs.List.{filter_map, list_all}
-use Rattle.std.specs.Option.{option_and_then, option_map, option_map_or, option_or}
+use Rattle.std.specs.Option.{option_map, option_map_or, option_or}
 use Rattle.mxf_klv.specs.Parts.{NoteParts}
 use Rattle.mxf_klv.specs.Note.{greatest_end}
 use Rattle.mxf_klv.specs.Rising.{In}
@@ -113,15 +113,6 @@ abbrev pub wanted_by : List NamedPlace → UnitStanding → Result Location Unit
 wanted_by named standing (Err other) = None
 wanted_by named standing (Ok l) = wanted_at named standing l
 
--- The extent of a unit that is missing or there in part, if its end is known.
-abbrev pub whole_extent_as : UnitStanding → Option Extent → Option Extent
-whole_extent_as standings.Missing extent = option_and_then (λ e. if is_some e.end then Some e else None) extent
-whole_extent_as standings.Part extent = option_and_then (λ e. if is_some e.end then Some e else None) extent
-whole_extent_as _ extent = None
-
-abbrev pub whole_extent : EditUnit → Option Extent
-whole_extent unit = whole_extent_as unit.standing unit.extent
-
 -- The bytes that are wanted of a unit, if some are.
 abbrev pub wanted_of : List NamedPlace → UnitsParts → EditUnit → Option Extent
 wanted_of named u unit = wanted_by named unit.standing (location_of u.known.notes u.index_sid unit.number)
@@ -139,8 +130,3 @@ HasByteOf named u units x =
 abbrev pub HasByteBy : List NamedPlace → WantedParts → Option Extent → ℕ → Type 0
 HasByteBy named w None x = HasByteOf named w.units (wanted_units w) x
 HasByteBy named w (Some e) x = LiesBetween e.start e.end x × (x < greatest_end)
-
--- The runs of the bytes that are wanted, in the order of the units.
-abbrev pub wanted_runs : List NamedPlace → WantedParts → Option Extent → List Run
-wanted_runs named w None = filter_map (wanted_run named w.units) (wanted_units w)
-wanted_runs named w (Some e) = run_of_extent e ∷ []

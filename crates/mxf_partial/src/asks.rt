@@ -1,20 +1,17 @@
 //! The places that wanted units ask for, each with the pack by which it is known.
 ghost use Rattle.std.specs.Prelude.{◌≡◌, ◌↔◌, ◌⊎◌, ◌++◌, true, IfOk, OnOk};
-ghost use Rattle.std.specs.Ordering.{nat_cmp};
 ghost use Rattle.std.specs.List.{filter_map};
 ghost use Rattle.std.specs.List.Sorted.{IsNonDecreasingBy};
-ghost use Rattle.mxf_klv.specs.Rising.{In, IsRising};
+ghost use Rattle.mxf_klv.specs.Rising.{In};
 ghost use Rattle.mxf_restore.specs.declared.named.NamedPlace.{NamedPlace};
 ghost use Rattle.mxf_views.specs.Rises.{RiseBy};
 ghost use Rattle.mxf_partial.specs.Asks.{IsAskedByIndex, IsAskedByUnit};
 ghost use Rattle.mxf_partial.specs.Named.{AreNamed, named_at};
-ghost use Rattle.mxf_partial.specs.Questions.{questions_of};
 ghost use Rattle.mxf_partial.specs.Wanted.{notes_of};
 
 use crate::between::add_chosen;
 use crate::named::named_at;
 use crate::near::add_partitions;
-use crate::questions::Questions;
 use crate::wanted_units::WantedUnits;
 use crate::ways::add_ways;
 use mxf_klv::OutOfMemory;
@@ -26,27 +23,24 @@ use std::alloc::Global;
 pub(crate) fn asked_places(
     alloc: Global,
     wanted: &WantedUnits<'_>,
-    questions: &Questions,
     named: &[NamedPlace],
     is_index_sought: bool,
 ) -> Result<Vec<NamedPlace>, OutOfMemory>
-    requires questions { questions.now ≡ questions_of named.now wanted.now }
-    requires rising { IsRising nat_cmp questions.now.unindexed }
-    requires named { AreNamed (notes_of wanted.now) named.now }
+    requires { AreNamed (notes_of wanted.now) named.now }
     ensures members { IfOk result (λ v. (n : NamedPlace) → In n v.items
         ↔ (IsAskedByUnit wanted.now n.place n.source
         ⊎ ((is_index_sought ≡ true)
         × IsAskedByIndex wanted.now n.place n.source))) }
     ensures rising { IfOk result (λ v. IsNonDecreasingBy (λ n. n.place) v.items) }
 {
-    let mut asked = asked_by_units(alloc, wanted, questions, named)?;
+    let mut asked = asked_by_units(alloc, wanted, named)?;
     if is_index_sought {
         add_chosen(
             alloc,
             &mut asked,
             wanted.units(),
             named,
-            questions.unindexed(),
+            wanted.questions().unindexed(),
         )?;
     }
     Ok(in_order(asked))
@@ -56,15 +50,14 @@ pub(crate) fn asked_places(
 fn asked_by_units(
     alloc: Global,
     wanted: &WantedUnits<'_>,
-    questions: &Questions,
     named: &[NamedPlace],
 ) -> Result<Vec<NamedPlace>, OutOfMemory>
-    requires questions { questions.now ≡ questions_of named.now wanted.now }
-    requires named { AreNamed (notes_of wanted.now) named.now }
+    requires { AreNamed (notes_of wanted.now) named.now }
     ensures { IfOk result (λ v. (n : NamedPlace) → In n v.items
         ↔ IsAskedByUnit wanted.now n.place n.source) }
 {
     let units = wanted.units();
+    let questions = wanted.questions();
     let mut asked = Vec::new(alloc);
     add_partitions(alloc, &mut asked, units, named, questions.partitions())?;
     add_ways(alloc, &mut asked, units, questions.ways())?;

@@ -1,8 +1,6 @@
 //! What to restore so that edit units can be cut out of the file.
 ghost use Rattle.std.specs.Prelude.{◌≡◌, ◌↔◌, ◌⊎◌, ◌++◌, ◌<◌, ℕ, [], Some, false, true, flat_map, map, IfOk, OnOk};
-ghost use Rattle.std.specs.List.{filter_map};
 ghost use Rattle.std.specs.Option.{option_map_or};
-ghost use Rattle.std.specs.Ordering.{nat_cmp};
 ghost use Rattle.mxf_klv.specs.Rising.{In, IsRising, union};
 ghost use Rattle.mxf_klv.specs.Note.{greatest_end};
 ghost use Rattle.mxf_catalogue.specs.Covers.{IsCover};
@@ -18,14 +16,12 @@ ghost use Rattle.mxf_partial.specs.Named.{AreNamed};
 ghost use Rattle.mxf_places.specs.declared.reason.Reason.{Reason};
 ghost use Rattle.mxf_partial.specs.Orders.{IsFindingOrder, IsOrdered, IsUnitPlan, UnitPlanParts, is_described};
 ghost use Rattle.mxf_partial.specs.Orders.{known_end, unit_order};
-ghost use Rattle.mxf_partial.specs.Questions.{number_unindexed, questions_of};
-ghost use Rattle.mxf_partial.specs.Wanted.{IsWantedByte, WantedParts, notes_of, wanted_units};
+ghost use Rattle.mxf_partial.specs.Wanted.{IsWantedByte, WantedParts, notes_of};
 
 mod metadata;
 
 use crate::asks::asked_places;
 use crate::leads::{add_fronts, helping_orders};
-use crate::questions::Questions;
 use crate::wanted::{run_of_extent, wanted_bytes};
 use crate::wanted_units::WantedUnits;
 pub use metadata::metadata_plan_by_definition;
@@ -66,10 +62,9 @@ impl UnitPlan {
         let units = wanted.units();
         let claims = claims(alloc, units.holdings())?;
         let named = named_places(alloc, units.holdings(), &claims)?;
-        let questions = Questions::of(alloc, wanted, &named)?;
-        let mut orders = finding_orders(alloc, wanted, &questions, &claims, &named)?;
+        let mut orders = finding_orders(alloc, wanted, &claims, &named)?;
         let there = there(alloc, units, &orders)?;
-        let bytes = wanted_bytes(alloc, wanted, questions.into_runs())?;
+        let bytes = wanted_bytes(alloc, wanted, &named)?;
         add_unit_orders(alloc, &mut orders, units.at_hand(), &bytes, &there)?;
         Ok(UnitPlan {
             orders: in_order(orders),
@@ -104,34 +99,31 @@ fn has_finished_copy(views: &Views) -> bool
 }
 
 /// Whether the header metadata need not be restored: the preferred copy is finished, and each wanted unit is indexed.
-fn is_described(wanted: &WantedUnits<'_>, questions: &Questions) -> bool
-    requires { questions.now.unindexed ≡ filter_map number_unindexed (wanted_units wanted.now) }
+fn is_described(wanted: &WantedUnits<'_>) -> bool
     ensures { result ≡ is_described wanted.now }
 {
-    has_finished_copy(wanted.units().holdings().views()) && questions.unindexed().is_empty()
+    has_finished_copy(wanted.units().holdings().views())
+        && wanted.questions().unindexed().is_empty()
 }
 
 /// What is restored to find partitions and index table segments. It takes memory.
 fn finding_orders(
     alloc: Global,
     wanted: &WantedUnits<'_>,
-    questions: &Questions,
     claims: &[Claim],
     named: &[NamedPlace],
 ) -> Result<Vec<Order>, OutOfMemory>
-    requires questions { questions.now ≡ questions_of named.now wanted.now }
-    requires rising { IsRising nat_cmp questions.now.unindexed }
     requires claims { claims.now ≡ claims_of (notes_of wanted.now) }
     requires named { AreNamed (notes_of wanted.now) named.now }
     ensures { IfOk result (λ v. (o : Order) → In o v.items ↔ IsFindingOrder wanted.now o) }
 {
     let units = wanted.units();
-    let is_described = is_described(wanted, questions);
+    let is_described = is_described(wanted);
     let sections = sections(alloc, units.holdings(), claims)?;
     let section_orders = SectionOrders::of(alloc, units.holdings(), units.at_hand(), claims)?;
     let mut orders = helping_orders(alloc, &section_orders, &sections, is_described)?;
     let is_index_sought = is_none(&orders);
-    let asked = asked_places(alloc, wanted, questions, named, is_index_sought)?;
+    let asked = asked_places(alloc, wanted, named, is_index_sought)?;
     add_fronts(
         alloc,
         &mut orders,

@@ -1,12 +1,18 @@
 //! The edit units that are wanted of an index.
-ghost use Rattle.std.specs.Prelude.{◌≡◌, ◌<◌, ◌^◌, ◌∷◌, [], IfOk};
+ghost use Rattle.std.specs.Prelude.{◌≡◌, ◌+◌, ◌<◌, ◌≤◌, ◌^◌, ◌∷◌, [], IfOk};
 ghost use Rattle.std.specs.List.{AllByRecursion};
+ghost use Rattle.std.specs.Ordering.{nat_cmp};
+ghost use Rattle.mxf_klv.specs.Rising.{IsRising};
 ghost use Rattle.mxf_views.specs.Rises.{RiseBy};
+ghost use Rattle.mxf_units.specs.Ranges.{units_with_keys};
+ghost use Rattle.mxf_units.specs.Units.{unit_of};
 ghost use Rattle.mxf_partial.specs.Many.{ends_wanted};
+ghost use Rattle.mxf_partial.specs.Questions.{asked_by, questions_of};
 ghost use Rattle.mxf_partial.specs.Wanted.{IsOwn, wanted_in};
 
+use crate::questions::Questions;
 use mxf_klv::OutOfMemory;
-use mxf_units::{EditUnit, Extent, UnitRange, Units, units_with_keys};
+use mxf_units::{EditUnit, Extent, UnitRange, Units, needed_from};
 use std::alloc::Global;
 use std::marker::Model;
 
@@ -17,14 +23,17 @@ pub struct WantedUnits<'a> {
     /// Those that are asked for: so many from a first one on.
     first: u64,
     count: u64,
-    wanted: Vec<EditUnit>,
+    /// Those that are wanted, and what they ask for.
+    questions: Questions,
     /// The bytes that are wanted in place of those of each unit, if there are some.
     bytes: Option<Extent>,
 }
 
 impl<'a> Model for WantedUnits<'a> {
+    ghost use Rattle.std.specs.Prelude.{◌≡◌};
     ghost use Rattle.std.specs.List.{AllByRecursion};
     ghost use Rattle.mxf_views.specs.Rises.{RiseBy};
+    ghost use Rattle.mxf_partial.specs.Questions.{asked_by};
     ghost use Rattle.mxf_partial.specs.Wanted.{IsOwn, WantedParts};
 
     ghost Value = { WantedParts };
@@ -33,11 +42,13 @@ impl<'a> Model for WantedUnits<'a> {
       units = w.units.now;
       first = w.first;
       count = w.count;
-      wanted = w.wanted.items;
+      wanted = w.questions.units;
       bytes = w.bytes;
     } };
 
-    ghost invariant = { λ w. RiseBy (λ u. u.number) w.wanted.items × AllByRecursion (IsOwn w.units.now) w.wanted.items };
+    ghost invariant = { λ w. RiseBy (λ u. u.number) w.questions.units
+        × AllByRecursion (IsOwn w.units.now) w.questions.units
+        × (w.questions ≡ asked_by w.units.now w.questions.units) };
 }
 
 impl<'a> WantedUnits<'a> {
@@ -49,12 +60,14 @@ impl<'a> WantedUnits<'a> {
     ) -> Result<WantedUnits<'a>, OutOfMemory>
         ensures { IfOk result (λ w. w ≡ wanted_in units.now range.first range.count) }
     {
-        let wanted = units_with_keys(alloc, units, range)?;
+        let first = range.first();
+        let count = range.count();
+        let questions = with_keys(alloc, units, first, count)?;
         Ok(WantedUnits {
             units,
-            first: range.first(),
-            count: range.count(),
-            wanted,
+            first,
+            count,
+            questions,
             bytes: None,
         })
     }
@@ -72,12 +85,12 @@ impl<'a> WantedUnits<'a> {
         requires number { last < 2 ^ 63 }
         ensures { IfOk result (λ w. w ≡ ends_wanted units.now first last bytes) }
     {
-        let wanted = two(alloc, units.unit(first), units.unit(last))?;
+        let questions = of_two(alloc, units, first, last)?;
         Ok(WantedUnits {
             units,
             first,
             count: last - first + 1,
-            wanted,
+            questions,
             bytes,
         })
     }
@@ -109,7 +122,15 @@ impl<'a> WantedUnits<'a> {
         ensures rising { RiseBy (λ u. u.number) result.now }
         ensures own { AllByRecursion (IsOwn self.now.units) result.now }
     {
-        &self.wanted
+        self.questions.units()
+    }
+
+    /// The wanted units, and what they ask for.
+    pub(crate) fn questions(&self) -> &Questions
+        ensures are { result.now ≡ questions_of self.now }
+        ensures rising { IsRising nat_cmp result.now.unindexed }
+    {
+        &self.questions
     }
 
     /// The bytes that are wanted in place of those of each unit, if there are some.
@@ -120,12 +141,34 @@ impl<'a> WantedUnits<'a> {
     }
 }
 
-/// Two units. They take memory.
-fn two(alloc: Global, first: EditUnit, last: EditUnit) -> Result<Vec<EditUnit>, OutOfMemory>
-    ensures { IfOk result (λ v. v.items ≡ first ∷ last ∷ []) }
+/// So many units from one on, those before them from the least key frame on that they name, and what they ask for. They
+/// take memory.
+fn with_keys(
+    alloc: Global,
+    units: &Units<'_>,
+    first: u64,
+    count: u64,
+) -> Result<Questions, OutOfMemory>
+    requires { first + count ≤ 9223372036854775808 }
+    ensures { IfOk result (λ q. q ≡ asked_by units.now (units_with_keys units.now first count)) }
 {
-    let mut units = Vec::new(alloc);
-    units.push(first)?;
-    units.push(last)?;
-    Ok(units)
+    let own = Questions::of(alloc, units, first, count)?;
+    let from = needed_from(first, own.units());
+    if from == first {
+        return Ok(own);
+    }
+    let mut all = Questions::of(alloc, units, from, first - from)?;
+    all.append(&own)?;
+    Ok(all)
+}
+
+/// Two units, and what they ask for. They take memory.
+fn of_two(alloc: Global, units: &Units<'_>, first: u64, last: u64) -> Result<Questions, OutOfMemory>
+    ensures { IfOk result (λ q. q ≡ asked_by units.now (unit_of units.now.known units.now.index_sid first
+        ∷ unit_of units.now.known units.now.index_sid last ∷ [])) }
+{
+    let mut asked = Questions::with_room(alloc, 2)?;
+    asked.add(units, first)?;
+    asked.add(units, last)?;
+    Ok(asked)
 }

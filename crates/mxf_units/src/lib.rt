@@ -11,12 +11,13 @@
 //! | Which indexes are there? | [`index_sids`], [`named_index_sids`] | the IndexSIDs of the segments, rising; those
 //! that partitions name and no segment has |
 //! | Up to which unit does one reach? | [`last_unit`] | the last unit to which a segment gives a place, if there is one |
-//! | Which units are asked for, and which key frames before them? | [`UnitRange`], [`UnitsLeft`], [`units_with_keys`] | the units, one after
-//! another |
+//! | Which units are asked for, and which key frames before them? | [`UnitRange`], [`UnitsLeft`], [`needed_from`] | the
+//! units, one after another; the first that they need |
 //! | Where does a unit lie, and is it held? | [`Units::of`], then [`Units::unit`] | [`EditUnit`]: its [`UnitStanding`],
 //! its [`Extent`], and what its index entry says |
 //! | Where is it looked for? | [`Units::place`], [`Units::location`], [`Units::parts`] | its place in its stream; the
 //! [`EssenceZone`] in which that is to be found; the partitions as parts of their streams |
+//! | All of that at once? | [`Units::placed`] | [`PlacedUnit`] |
 //!
 //! A unit's bytes reach up to the next place in its stream that a segment of its index gives; those of the last one
 //! reach up to the end of its partition. So do those of a unit whose next place lies behind that end, unless it is the
@@ -63,6 +64,7 @@ mod last;
 pub mod laws;
 mod location;
 mod next_places;
+mod placed;
 mod range;
 mod repeated;
 mod segments;
@@ -79,7 +81,8 @@ pub use first_packet::behind_index;
 pub use indexes::{index_sids, named_index_sids};
 pub use last::last_unit;
 pub use location::Location;
-pub use range::{UnitRange, UnitsLeft, units_with_keys};
+pub use placed::PlacedUnit;
+pub use range::{UnitRange, UnitsLeft, needed_from};
 pub use standing::UnitStanding;
 pub use unit::{EditUnit, Extent};
 pub use units::Units;

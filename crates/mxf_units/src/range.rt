@@ -1,13 +1,11 @@
 //! Edit units one after another.
-ghost use Rattle.std.specs.Prelude.{◌≡◌, ◌+◌, ◌-◌, ◌<◌, ◌≤◌, ◌⊎◌, IfNone, IfOk, IfSome};
+ghost use Rattle.std.specs.Prelude.{◌≡◌, ◌+◌, ◌-◌, ◌<◌, ◌≤◌, ◌⊎◌, IfNone, IfSome};
 ghost use Rattle.std.specs.Iterator.{YieldsFirst, item_count};
 ghost use Rattle.std.specs.Option.{option_to_list};
-ghost use Rattle.mxf_units.specs.Ranges.{least_of, needed_from, units_from, units_with_keys};
+ghost use Rattle.mxf_units.specs.Ranges.{least_of, needed_from, units_from};
 
 use crate::unit::EditUnit;
 use crate::units::Units;
-use mxf_klv::OutOfMemory;
-use std::alloc::Global;
 use std::marker::Model;
 
 /// The greatest edit unit: segments state theirs as signed numbers of eight bytes.
@@ -98,40 +96,8 @@ impl<'a> UnitsLeft<'a> {
     }
 }
 
-/// The units of a range, and those before them from the least key frame on that they name. They take memory. Each is
-/// asked once.
-pub fn units_with_keys(
-    alloc: Global,
-    units: &Units<'_>,
-    range: UnitRange,
-) -> Result<Vec<EditUnit>, OutOfMemory>
-    ensures { IfOk result (λ v. v.items ≡ units_with_keys units.now range.first range.count) }
-{
-    let own = listed(alloc, units, range.first, range.count)?;
-    let next = needed_from(range.first, &own);
-    if next == range.first {
-        return Ok(own);
-    }
-    let mut all = listed(alloc, units, next, range.first - next)?;
-    all.extend_from_slice(&own)?;
-    Ok(all)
-}
-
-/// So many units from one on. They take memory.
-fn listed(
-    alloc: Global,
-    units: &Units<'_>,
-    next: u64,
-    left: u64,
-) -> Result<Vec<EditUnit>, OutOfMemory>
-    requires { next + left ≤ 9223372036854775808 }
-    ensures { IfOk result (λ v. v.items ≡ units_from units.now next left) }
-{
-    Ok(UnitsLeft { units, next, left }.collect(alloc)?)
-}
-
 /// The first unit that some need: a first one, or the least of the key frames that they name.
-fn needed_from(first: u64, units: &[EditUnit]) -> u64
+pub fn needed_from(first: u64, units: &[EditUnit]) -> u64
     ensures first { result ≡ needed_from first units.now }
     ensures bound { result ≤ first }
 {

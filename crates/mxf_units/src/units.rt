@@ -26,6 +26,7 @@ use crate::essence_zone::part::{StreamPart, parts_of, zone_at};
 use crate::intervals::Intervals;
 use crate::location::{Location, extent_by, extent_in, is_behind, standing_by};
 use crate::next_places::NextPlaces;
+use crate::placed::PlacedUnit;
 use crate::repeated::without_repeated;
 use crate::segments::{entry_of, is_given, place_of, segments_for};
 use crate::standing::UnitStanding;
@@ -243,15 +244,30 @@ impl<'a> Units<'a> {
 
     /// The unit with a number. Units are counted from 0 as they are stored. It takes no memory, and some binary
     /// searches, with a look at each segment of the index that overlaps there.
-    #[tactic(auto, unfolding(crate::specs::Units::unit_of, crate::specs::Units::location_of))]
     pub fn unit(&self, unit: u64) -> EditUnit
         ensures { result ≡ unit_of self.now.known self.now.index_sid unit }
     {
+        self.placed(unit).unit
+    }
+
+    /// The unit with a number, its place in its stream, and where it is looked for, which is looked up once. It takes no
+    /// memory.
+    #[tactic(auto, unfolding(crate::specs::Units::unit_of, crate::specs::Units::location_of))]
+    pub fn placed(&self, unit: u64) -> PlacedUnit
+        ensures unit { result.unit ≡ unit_of self.now.known self.now.index_sid unit }
+        ensures place { result.place ≡ place_of (segments_for self.now.known.notes self.now.index_sid) unit }
+        ensures location { result.location ≡ location_of self.now.known.notes self.now.index_sid unit }
+    {
         let segments = self.segments_near(unit);
-        let location = self.location_of(unit, place_of(segments, unit));
+        let place = place_of(segments, unit);
+        let location = self.location_of(unit, place);
         let standing = standing_by(&self.holdings, &self.known, &self.beside, location);
         let entry = entry_of(segments, unit);
-        unit_by(unit, standing, extent_by(standing, location), entry)
+        PlacedUnit {
+            unit: unit_by(unit, standing, extent_by(standing, location), entry),
+            place,
+            location,
+        }
     }
 }
 

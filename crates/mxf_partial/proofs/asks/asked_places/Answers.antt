@@ -13,11 +13,11 @@ use Rattle.mxf_partial.proofs.asks.asked_places.Goals.{then-is_index_sought+in_o
 use Rattle.mxf_partial.proofs.asks.asked_places.Goals.{else-is_index_sought}
 
 pub add_chosen-requires-clause-rising : goal.add_chosen-requires-clause-rising
-add_chosen-requires-clause-rising c = subst (IsRising nat_cmp) (sym c.unindexed.ensures) c.requires.rising
+add_chosen-requires-clause-rising c = subst (IsRising nat_cmp) (sym c.unindexed.ensures) c.questions.ensures.rising
 
 pub add_chosen-requires-clause-named : goal.add_chosen-requires-clause-named
 add_chosen-requires-clause-named c =
-    subst (λ (u : UnitsParts). AreNamed u.known.notes c.args.named.now) (sym c.units.ensures) c.requires.named
+    subst (λ (u : UnitsParts). AreNamed u.known.notes c.args.named.now) (sym c.units.ensures) c.requires
 
 -- The same places in another list.
 moved : (w : WantedParts) (sought : Bool) (before after : List NamedPlace) (n : NamedPlace) → In n after ↔ In n before
@@ -50,7 +50,7 @@ returns-clause-members c = λ n.
       | then-is_index_sought+in_ok-add_chosen b ↦
           where_sought w c.args.is_index_sought c.if-is_index_sought.asked.items n b.if-is_index_sought.true
           (both_are w c.args.named.now c.in_ok-asked.asked.items c.if-is_index_sought.asked.items b.unindexed.result.now n
-          c.requires.named (b.unindexed.ensures ∙ ap (λ (q : QuestionParts). q.unindexed) c.requires.questions)
+          c.requires (b.unindexed.ensures ∙ ap (λ (q : QuestionParts). q.unindexed) b.questions.ensures.are)
           (c.in_ok-asked.ensures n)
           (subst (λ (l : List NamedPlace). In n l ↔ (In n c.in_ok-asked.asked.items ⊎ (In n c.args.named.now
           × IsOneOf16 (MayIndexOneOf c.args.wanted.now.units b.unindexed.result.now) n.place)))

@@ -1,4 +1,4 @@
-use Rattle.mxf_views.proofs.Common.{◌∙◌, ◌++◌, ◌↔◌, ◌⊎◌, ◌≤◌, AllByRecursion, None, greatest_end, [], List, subst, sym, ap, In, union, LiesIn, RiseBy, IsCover}
+use Rattle.mxf_views.proofs.Common.{◌∙◌, ◌++◌, ◌↔◌, ◌⊎◌, [], List, subst, sym, ap, In, union, LiesIn, RiseBy, IsCover}
 use Rattle.mxf_units.specs.Units.{IsKnown, UnitsParts}
 use Rattle.mxf_restore.specs.NamedPlaces.{IsNamedPlace}
 use Rattle.mxf_restore.specs.Plan.{order_cmp}
@@ -8,15 +8,12 @@ use Rattle.mxf_places.specs.Held.{end_of_file}
 use Rattle.mxf_restore.specs.declared.named.NamedPlace.{NamedPlace}
 use Rattle.mxf_partial.specs.Named.{AreNamed}
 use Rattle.mxf_partial.specs.Orders.{IsOrdered}
-use Rattle.mxf_partial.specs.Questions.{QuestionParts}
 use Rattle.mxf_partial.specs.Wanted.{WantedParts}
-use Rattle.mxf_catalogue.specs.declared.run.Run.{Run}
-use Rattle.mxf_partial.proofs.GatheredLaws.{runs-end}
 use Rattle.mxf_partial.proofs.ChosenLaws.{keys_rise}
 use Rattle.mxf_partial.proofs.UnitPlanLaws.{plan_is, there_is, units_in, wanted_is}
 use Rattle.mxf_partial.proofs.plan.UnitPlan.of.Goals as goal
 
-named : (c : goal.After-deref-4) → AreNamed c.args.wanted.now.units.known.notes c.in_ok-named.named.items
+named : (c : goal.After-deref-3) → AreNamed c.args.wanted.now.units.known.notes c.in_ok-named.named.items
 named c = record {
   rising = c.in_ok-named.ensures.rising;
   members = λ n. subst (λ notes. In n c.in_ok-named.named.items ↔ IsNamedPlace notes n)
@@ -26,16 +23,12 @@ named c = record {
 
 pub finding_orders-requires-clause-named : goal.finding_orders-requires-clause-named
 finding_orders-requires-clause-named c =
-    subst (AreNamed c.args.wanted.now.units.known.notes) (sym c.deref-4.ensures.value) (named c)
-
-pub of-requires : goal.of-requires
-of-requires c = subst (RiseBy (λ (n : NamedPlace). n.place)) (sym c.deref-2.ensures.value)
-    ((rise_by (λ (n : NamedPlace). n.place) c.in_ok-named.named.items).1 (keys_rise c.in_ok-named.named.items
-    c.in_ok-named.ensures.rising))
+    subst (AreNamed c.args.wanted.now.units.known.notes) (sym c.deref-3.ensures.value) (named c)
 
 pub wanted_bytes-requires : goal.wanted_bytes-requires
-wanted_bytes-requires c = subst (AllByRecursion (λ (r : Run). r.end ≤ greatest_end)) (sym (c.into_runs.ensures
-    ∙ ap (λ (q : QuestionParts). q.runs) c.in_ok-questions.ensures.are)) (runs-end c.deref-2.result.now c.args.wanted.now None)
+wanted_bytes-requires c = subst (RiseBy (λ (n : NamedPlace). n.place)) (sym c.deref-5.ensures.value)
+    ((rise_by (λ (n : NamedPlace). n.place) c.in_ok-named.named.items).1 (keys_rise c.in_ok-named.named.items
+    c.in_ok-named.ensures.rising))
 
 pub returns : goal.returns
 returns c =
@@ -45,17 +38,16 @@ returns c =
     let there = there_is w c.in_ok-orders.orders.items c.in_ok-there.there finding
     (subst IsCover c.there-2.view_is c.there-2.invariant)
     (λ x. subst (λ (l : List Order). LiesIn c.in_ok-there.there x ↔ (IsKnown w.units.known x ⊎ IsOrdered l x))
-    c.deref-5.ensures.value (subst (λ (u : UnitsParts). LiesIn c.in_ok-there.there x
-    ↔ (IsKnown u.known x ⊎ IsOrdered c.deref-5.result.now x)) units (c.in_ok-there.ensures x))) in
-    let are : AreNamed w.units.known.notes c.deref-2.result.now =
-    subst (AreNamed w.units.known.notes) (sym c.deref-2.ensures.value) (record {
+    c.deref-4.ensures.value (subst (λ (u : UnitsParts). LiesIn c.in_ok-there.there x
+    ↔ (IsKnown u.known x ⊎ IsOrdered c.deref-4.result.now x)) units (c.in_ok-there.ensures x))) in
+    let are : AreNamed w.units.known.notes c.deref-5.result.now =
+    subst (AreNamed w.units.known.notes) (sym c.deref-5.ensures.value) (record {
       rising = c.in_ok-named.ensures.rising;
       members = λ n. subst (λ notes. In n c.in_ok-named.named.items ↔ IsNamedPlace notes n)
           (c.holdings-2.ensures ∙ ap (λ (u : UnitsParts). u.known.notes) units) (c.in_ok-named.ensures.members n);
     }) in
-    let runs = c.into_runs.ensures ∙ ap (λ (q : QuestionParts). q.runs) c.in_ok-questions.ensures.are in
-    let wanted = wanted_is w c.deref-2.result.now c.in_ok-bytes.bytes are
-    (subst IsCover c.bytes.view_is c.bytes.invariant) (c.in_ok-bytes.ensures c.deref-2.result.now runs) in
+    let wanted = wanted_is w c.deref-5.result.now c.in_ok-bytes.bytes are
+    (subst IsCover c.bytes.view_is c.bytes.invariant) c.in_ok-bytes.ensures in
     let added = c.in_ok-add_unit_orders.ensures
     ∙ (λ i. c.in_ok-orders.orders.items ++ units_in (c.at_hand.ensures i) c.in_ok-there.there c.in_ok-bytes.bytes)
     ∙ ap (λ (u : UnitsParts). c.in_ok-orders.orders.items
