@@ -10,23 +10,32 @@ from archive import moments
 from archive.faults import USAGE, OwnFault
 from archive.printing import number_or_none
 
-LIST = """
-SELECT r.name AS recording, r.title AS name, r.length, r.timecode, s."end", s.missing, s.orders, s.findings, s.disputes,
-  nullif(r.verified, '') AS verified
-FROM recordings r JOIN states s ON s.recording = r.id AND s.number = r.state
-"""
+# What a list has of each recording, by its heads.
+LISTED = {
+    "recording": "r.name", "name": "r.title", "length": "r.length", "timecode": "r.timecode", "end": 's."end"',
+    "missing": "s.missing", "orders": "s.orders", "findings": "s.findings", "disputes": "s.disputes",
+    "verified": "nullif(r.verified, '')",
+}  # fmt: skip
+
+# A row of a list by the form that it is printed in: its values, or a JSON text that SQLite makes of them. That takes less
+# time than to make Python's values of each.
+ROWS = {
+    "table": ", ".join(f'{value} AS "{head}"' for head, value in LISTED.items()),
+    "csv": "json_array(" + ", ".join(f"ifnull({value}, '')" for value in LISTED.values()) + ") AS recording",
+    "json": "json_object(" + ", ".join(f"'{head}', {value}" for head, value in LISTED.items()) + ") AS recording",
+}
 
 # What is listed, by the option.
 LISTS = {
-    "all": LIST + "ORDER BY r.name",
-    "missing": LIST + "WHERE r.is_missing = 1 ORDER BY r.name",
-    "damaged": LIST + "WHERE r.is_damaged = 1 ORDER BY r.name",
-    "disputed": LIST + "WHERE r.is_disputed = 1 ORDER BY r.name",
-    "changed": LIST + "WHERE r.is_changed = 1 ORDER BY r.name",
-    "unverified": LIST + "WHERE r.verified < ? ORDER BY r.verified, r.name",
+    "all": "ORDER BY r.name",
+    "missing": "WHERE r.is_missing = 1 ORDER BY r.name",
+    "damaged": "WHERE r.is_damaged = 1 ORDER BY r.name",
+    "disputed": "WHERE r.is_disputed = 1 ORDER BY r.name",
+    "changed": "WHERE r.is_changed = 1 ORDER BY r.name",
+    "unverified": "WHERE r.verified < ? ORDER BY r.verified, r.name",
 }
 
-# What a page of all recordings shows: those of LIST, whether each is damaged, and how many packets differed when it was
+# What a page of all recordings shows: those of LISTED, whether each is damaged, and how many packets differed when it was
 # last verified.
 OVERVIEW = """
 SELECT r.name AS recording, r.title AS name, r.length, r.timecode, s."end", s.missing, s.orders, s.findings, s.disputes,
@@ -86,16 +95,21 @@ def answer_of(connection: sqlite3.Connection, question: str, values: Sequence[ob
     return [column[0] for column in cursor.description], rows
 
 
-def listed(connection: sqlite3.Connection, what: str, days: int | None) -> Answer:
-    """The recordings of a list. Those that weren't verified for so many days go by the time of their last verification."""
-    if days is None:
-        return answer_of(connection, LISTS[what])
+def listed(connection: sqlite3.Connection, what: str, days: int | None, form: str) -> Answer:
+    """The recordings of a list, each as a row of ROWS. Those that weren't verified for so many days go by the time of their
+    last verification."""
+    question = f"SELECT {ROWS[form]} FROM recordings r JOIN states s ON s.recording = r.id AND s.number = r.state {LISTS[what]}"
+    values = () if days is None else (before(days),)
+    return list(LISTED), answer_of(connection, question, values)[1]
+
+
+def before(days: int) -> str:
+    """The time so many days ago. A recording that was never verified goes before all times."""
     try:
         since = moments.text_of(moments.now() - datetime.timedelta(days=days))
     except OverflowError:
         since = ""
-    # A recording that was never verified goes before all times.
-    return answer_of(connection, LISTS[what], (max(since, "0"),))
+    return max(since, "0")
 
 
 def shown(connection: sqlite3.Connection, identity: int) -> list[tuple[str, list[str], list[tuple]]]:

@@ -8,7 +8,7 @@ def list(words: Words) -> int:
     """Prints recordings, all of them or those of which something holds."""
     with database.reading(words.database) as connection:
         what = "unverified" if words.days is not None else words.what
-        printing.print_answer(words.form, *answering.listed(connection, what, words.days))
+        printing.print_made(words.form, *answering.listed(connection, what, words.days, words.form))
     return 0
 
 

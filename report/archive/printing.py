@@ -3,7 +3,7 @@ from __future__ import annotations
 
 import sys
 from collections.abc import Collection, Iterable, Sequence
-from itertools import islice, repeat
+from itertools import chain, groupby, islice, repeat
 
 # Characters of control, line ends of Unicode, and marks of direction: a terminal may obey them. Each is shown as ?.
 CONTROL = dict.fromkeys((*range(0x20), *range(0x7F, 0xA0), *range(0x2028, 0x202F), *range(0x2066, 0x206A)), "?")
@@ -92,6 +92,37 @@ FORMS = {"table": print_table, "csv": print_csv, "json": print_json}
 def print_answer(form: str, heads: Sequence[str], rows: Iterable[Cells]) -> None:
     """Prints rows in a form of FORMS."""
     FORMS[form](heads, rows)
+
+
+def print_arrays(heads: Sequence[str], arrays: Iterable[str]) -> None:
+    """Prints CSV of rows that are arrays of JSON. What stands in one between the quotes is the line of CSV, unless a text
+    has a comma or is escaped."""
+    sys.stdout.write(",".join(heads) + "\r\n")
+    commas = len(heads) - 1
+    for is_plain, group in groupby(arrays, lambda array: array.count(",") == commas and "\\" not in array):
+        if is_plain:
+            sys.stdout.write("\n".join(group)[1:-1].replace("]\n[", "\r\n").replace('"', "") + "\r\n")
+        else:
+            import csv
+            import json
+
+            csv.writer(sys.stdout).writerows(json.loads(f"[{','.join(group)}]"))
+
+
+def print_objects(_: Sequence[str], objects: Iterable[str]) -> None:
+    """Prints JSON objects, each on a line of its own."""
+    sys.stdout.write("".join(f"{text}\n" for text in objects))
+
+
+def print_made(form: str, heads: Sequence[str], rows: Iterable[Cells]) -> None:
+    """Prints rows in a form of FORMS: values in a table, and else a JSON text each."""
+    if form == "table":
+        print_table(heads, rows)
+    else:
+        MADE[form](heads, chain.from_iterable(rows))
+
+
+MADE = {"csv": print_arrays, "json": print_objects}
 
 
 def print_parts(form: str, parts: list[object]) -> None:
