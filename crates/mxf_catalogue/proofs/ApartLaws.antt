@@ -1,11 +1,11 @@
 -- Notes each of which begins at or above the end of the one before.
-use Rattle.mxf_klv.proofs.Common.{◌∙◌, arith, ap, sym, subst, inl, inr, refl, ◌<◌, NoteParts, end_of, In}
+use Rattle.mxf_klv.proofs.Common.{◌∙◌, arith, ap, sym, subst, inl, inr, refl, NoteParts, end_of, In}
 use Rattle.std.specs.Prelude.{◌≡◌, ℕ, ◌≤◌, List, [], ◌∷◌, map, ◌↔◌, ◌≢◌}
 use Rattle.mxf_catalogue.specs.declared.run.Run.{Run}
 use Rattle.mxf_catalogue.specs.Content.{AreReduced, IsCatalogue}
 use Rattle.mxf_catalogue.specs.Covers.{union_of_runs, union_of_runs-IsUnion}
 use Rattle.mxf_catalogue.specs.Disputes.{AreApart, SharesByte}
-use Rattle.mxf_catalogue.specs.NoteLists.{AreNoteLists, Covers, AreCatalogueFields, StandApart, covered_run}
+use Rattle.mxf_catalogue.specs.NoteLists.{Covers, AreCatalogueFields, StandApart, covered_run}
 use Rattle.mxf_catalogue.specs.Runs.{IsWithin}
 use Rattle.mxf_catalogue.proofs.DisputeLaws.{SharesByte-symmetric}
 use Rattle.mxf_catalogue.proofs.KeptLaws.{above_far, whole_none}

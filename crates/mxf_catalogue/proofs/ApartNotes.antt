@@ -1,7 +1,6 @@
 -- Notes that stand apart: the first of them, those that lie in a range, and those behind one.
-use Rattle.mxf_klv.proofs.Common.{List, [], ap, arith, cond, false, filter, inl, inr, length, nat_le, refl, subst, suc}
-use Rattle.mxf_klv.proofs.Common.{sym, true, ℕ, ◌++◌, ◌+◌, ◌↔◌, ◌∷◌, ◌≡◌, ◌≤◌, ◌⊎◌, and_from, and_parts, end_of}
-use Rattle.mxf_klv.proofs.Common.{NoteParts, In}
+use Rattle.mxf_klv.proofs.Common.{List, [], ap, arith, filter, inl, inr, length, nat_le, refl, subst, suc, sym, true, ℕ}
+use Rattle.mxf_klv.proofs.Common.{◌++◌, ◌+◌, ◌↔◌, ◌∷◌, ◌≡◌, ◌≤◌, ◌⊎◌, and_from, and_parts, end_of, NoteParts, In}
 use Rattle.std.proofs.Common.{le-leb, leb-true}
 use Rattle.mxf_catalogue.proofs.ApartLaws.{begins_above}
 use Rattle.mxf_catalogue.proofs.SpanLaws.{AreApart-filter}

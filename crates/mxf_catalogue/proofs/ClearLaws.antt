@@ -1,5 +1,5 @@
 -- Which notes are clear: once a note is added, in two contents, and of packets that are laid one after another.
-use Rattle.std.proofs.Common.{Bool, Less, List, [], ap, arith, cond, count_by, false, filter, inl, inr, length, lt-ltb}
+use Rattle.std.proofs.Common.{Bool, Less, List, [], ap, arith, count_by, false, filter, inl, inr, length, lt-ltb}
 use Rattle.std.proofs.Common.{not, refl, subst, sym, true, ℕ, ◌++◌, ◌+◌, ◌<◌, ◌↔◌, ◌∙◌, ◌∷◌, ◌≡◌, ◌≢◌, ◌≤◌, ◌⊎◌}
 use Rattle.std.proofs.lemmas.Bool.{and_from, cases_lt}
 use Rattle.mxf_catalogue.proofs.ContentLaws.{In-union_of, IsContent-union_of}

@@ -1,7 +1,7 @@
 -- Which notes agree, by what a catalogue has.
-use Rattle.std.proofs.Common.{◌≡◌, ◌↔◌, ◌≤◌, ◌<◌, ◌-◌, ◌&&◌, ◌||◌, ◌==◌, ◌∙◌, ℕ, Bool, true, false, List, IsTrue}
+use Rattle.std.proofs.Common.{◌≡◌, ◌↔◌, ◌≤◌, ◌<◌, ◌-◌, ◌&&◌, ◌||◌, ◌==◌, ℕ, Bool, true, false, List, IsTrue}
 use Rattle.std.proofs.Common.{Result, Ok, Err, not, refl, sym, ap, subst, arith, inl, inr, eq-eqb, eqb-true}
-use Rattle.std.specs.List.{AllByRecursion, list_any}
+use Rattle.std.specs.List.{AllByRecursion}
 use Rattle.std.specs.Result.{IfOk}
 use Rattle.std.proofs.lemmas.Bool.{cases_Bool, false_from_ne_true, le-leb, lt-leb, true≢false}
 use Rattle.mxf_klv.specs.Note.{CanHead, IsNote, greatest_end, head_note}

@@ -1,10 +1,9 @@
 -- Which notes tell, by their fields.
-use Rattle.mxf_klv.proofs.Common.{◌≡◌, ◌↔◌, ◌==◌, ◌∙◌, true, List, IsTrue, length, not, ap, arith, eq-eqb, refl, sym}
+use Rattle.mxf_klv.proofs.Common.{◌≡◌, ◌↔◌, ◌==◌, ◌∙◌, true, List, IsTrue, length, ap, arith, eq-eqb, refl, sym}
 use Rattle.mxf_klv.proofs.Common.{kind_of, NoteParts, head_parts, In, and_from, and_parts}
 use Rattle.mxf_klv.specs.declared.kinds.Kind.{Kind}
 use Rattle.mxf_klv.proofs.Tests.{not-true-false, not_true}
 use Rattle.mxf_catalogue.specs.Content.{IsCatalogue, IsContent}
-use Rattle.mxf_catalogue.specs.Disputes.{is_disputed}
 use Rattle.mxf_catalogue.proofs.DisputeLaws.{is_disputed-IsDisputed}
 use Rattle.mxf_find.specs.Packets.{front_of, packet_of}
 use Rattle.mxf_find.specs.Telling.{IsSound, IsTellingByLength, IsTellingByValue, is_fill, is_sound, tells_by_length}

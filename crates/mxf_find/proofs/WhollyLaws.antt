@@ -2,7 +2,7 @@
 use Rattle.mxf_klv.proofs.Common.{◌≡◌, ◌≢◌, ◌∙◌, ◌-◌, ◌≤◌, ◌&&◌, ◌||◌, ℕ, Bool, true, false, List, [], ◌∷◌, IsTrue}
 use Rattle.mxf_klv.proofs.Common.{Option, None, Some, ap, arith, count_by, eq-eqb, filter, inl, inr, length, map, not}
 use Rattle.mxf_klv.proofs.Common.{refl, subst, sym, cases_Bool, true≢false, kind_of, IsNote, greatest_end, head_note}
-use Rattle.mxf_klv.proofs.Common.{NoteParts, head_parts, In, and_from, and_parts}
+use Rattle.mxf_klv.proofs.Common.{NoteParts, In, and_from, and_parts}
 use Rattle.mxf_klv.proofs.Counts.{count_by-cons, tally}
 use Rattle.mxf_klv.proofs.Lists.{all-In, In-at, In-filter, In-flat_map, In-map, list_any-In}
 use Rattle.mxf_catalogue.specs.Content.{AreReduced, IsCatalogue}

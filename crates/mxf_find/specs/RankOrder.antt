@@ -1,12 +1,10 @@
 -- The order of a ranking is a total order, and what compares alike in it is one (this project's profile).
 use Rattle.std.specs.Prelude.{◌≡◌}
-use Rattle.std.specs.Ordering.{eq_by_cmp, ordering_then}
+use Rattle.std.specs.Ordering.{eq_by_cmp}
 use Rattle.std.specs.Cmp.{IsTotalOrder, IsEquivalence, int_cmp_total}
 use Rattle.std.specs.FinSet.{IsAntisymmetric, nat_cmp-IsAntisymmetric}
 use Rattle.std.specs.FinMap.{int_cmp-IsAntisymmetric}
-use Rattle.std.specs.declared.cmp.Ordering.{Ordering}
-use Rattle.std.specs.declared.cmp.Ordering.TheVariants.{Less, Equal, Greater}
-use Rattle.std.proofs.Common.{refl, sym}
+use Rattle.std.proofs.Common.{sym}
 use Rattle.std.proofs.lemmas.Cmp.{back_total, on_total, then_total, nat_cmp_total, eq_by_cmp_equiv}
 use Rattle.mxf_find.specs.Rankings.{rank_cmp}
 use Rattle.mxf_find.specs.declared.ranking.Ranked.{Ranked}

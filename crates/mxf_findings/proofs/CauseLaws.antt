@@ -1,8 +1,8 @@
 -- The cause of each code is met at the offsets that are found of it, and at no others.
 use Rattle.mxf_findings.proofs.Common.{◌≡◌, ℕ, ◌+◌, ◌-◌, ◌<◌, ◌≤◌, ◌⊎◌, Bool, true, false, List, refl, sym, ap, ◌∙◌}
-use Rattle.mxf_findings.proofs.Common.{inl, inr, arith, eqb-true, eq-eqb, ◌↔◌, ◌&&◌, ◌||◌, ◌==◌, nat_lt, not, is_some}
+use Rattle.mxf_findings.proofs.Common.{inl, inr, arith, eqb-true, eq-eqb, ◌↔◌, ◌||◌, nat_lt, not, is_some}
 use Rattle.mxf_findings.proofs.Common.{filter, map, ltb-false, ltb-true, or_cases, and_from, and_parts, Status}
-use Rattle.mxf_findings.proofs.Common.{NoteParts, end_of, kind_of, In, PartitionPackParts, pack_at, part_and_status}
+use Rattle.mxf_findings.proofs.Common.{NoteParts, end_of, kind_of, In, pack_at, part_and_status}
 use Rattle.mxf_findings.proofs.Common.{Footer, Run, IsContent, IsClear, clear_notes, In-clear_notes, PartitionParts}
 use Rattle.mxf_findings.proofs.Common.{is_footer, is_no_unreadable_pack, link_of, pack_of, partition_at, partitions_of}
 use Rattle.mxf_findings.proofs.Common.{gaps_of, IsReadable, AtClear, In-map, list_any-In, either, not-true-false}
@@ -19,7 +19,6 @@ use Rattle.mxf_views.proofs.PartitionLaws.{link_iff}
 use Rattle.mxf_views.proofs.ReadingLaws.{is_some_readable}
 use Rattle.mxf_klv.proofs.Tests.{is_some-map}
 use Rattle.mxf_catalogue.proofs.RunBounds.{between}
-use Rattle.mxf_klv.specs.declared.kinds.Status.TheVariants as statuses
 use Rattle.mxf_views.specs.declared.chain.Link.TheVariants as links
 
 -- ---- disputes

@@ -1,13 +1,12 @@
 -- Further small files that are well-formed.
-use Rattle.mxf_findings.proofs.Common.{◌≡◌, ℕ, ◌-◌, ◌==◌, List, [], ◌∷◌, Some, None, cond, refl, if◌then◌else◌, drop}
-use Rattle.mxf_findings.proofs.Common.{take, option_map, AllByRecursion, list_any, Bool, true, false, sym, ◌∙◌, subst}
+use Rattle.mxf_findings.proofs.Common.{◌≡◌, ℕ, ◌-◌, List, [], ◌∷◌, Some, refl, drop}
+use Rattle.mxf_findings.proofs.Common.{take, option_map, AllByRecursion, list_any, true, false}
 use Rattle.mxf_findings.proofs.Common.{arith, OpenIncomplete, ClosedComplete, PacketParts, item_at, items_of, left_of}
 use Rattle.mxf_findings.proofs.Common.{entries_of, Header, Footer, stream_offset, SegmentParts, SegmentAtParts}
 use Rattle.mxf_findings.proofs.Common.{place_by_segment, segments_read, partitions_read, read_pack, read_rip}
 use Rattle.mxf_findings.proofs.Common.{read_segment, Agree, EndsWithFooter, IsWellFormed, numbers, pack, Place, At}
 use Rattle.mxf_findings.proofs.Common.{all-In, none_some, same_Some, kind_of, are_packets, is_pack_kind}
-use Rattle.std.specs.Prelude.{◌*◌, unsigned_abs}
-use Rattle.mxf_sets.specs.Offset.{covers_constant, covers_entry, entry_offset}
+use Rattle.std.specs.Prelude.{◌*◌}
 use Rattle.mxf_sets.specs.Segment.{is_constant}
 use Rattle.mxf_findings.specs.WorkedFiles.{agreeing_file, bare_file, constant, fill, filled_file, m_file, open_file}
 use Rattle.mxf_findings.specs.WorkedFiles.{segment, twice_filled_file, two_entries}

@@ -1,6 +1,6 @@
 -- Small files that miss one condition of well-formed files.
 use Rattle.mxf_findings.proofs.Common.{◌≡◌, ◌≢◌, ◌↔◌, ℕ, ◌+◌, ◌^◌, ◌<◌, ◌≤◌, false, true, List, [], ◌∷◌, ◌++◌, length}
-use Rattle.mxf_findings.proofs.Common.{refl, drop, AllByRecursion, sym, ◌∙◌, ap, subst, inl, inr, arith, ClosedComplete}
+use Rattle.mxf_findings.proofs.Common.{refl, AllByRecursion, sym, ◌∙◌, ap, subst, inl, inr, arith, ClosedComplete}
 use Rattle.mxf_findings.proofs.Common.{kind_of, greatest_end, IsPacket, size_of, PacketParts, item_at, items_of}
 use Rattle.mxf_findings.proofs.Common.{left_of, entries_of, Header, Body, Footer, RipEntry, is_fill, is_primer}
 use Rattle.mxf_findings.proofs.Common.{read_pack, read_rip, read_segment, HasMetadata, IsFill, IsFooterPack}

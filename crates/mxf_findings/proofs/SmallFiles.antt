@@ -1,6 +1,6 @@
 -- Which of the small files are well-formed.
-use Rattle.mxf_findings.proofs.Common.{◌≡◌, ◌<◌, length, Bool, false, List, [], ◌∷◌, ◌++◌, Some, refl, ◌||◌, drop, take}
-use Rattle.mxf_findings.proofs.Common.{map, IfSome, AllByRecursion, list_any, sym, ◌∙◌, ap, subst, inl, inr, arith}
+use Rattle.mxf_findings.proofs.Common.{◌≡◌, ◌<◌, length, Bool, false, List, [], ◌∷◌, ◌++◌, refl, ◌||◌, drop, take}
+use Rattle.mxf_findings.proofs.Common.{map, IfSome, AllByRecursion, list_any, sym, ◌∙◌, ap, inl, inr, arith}
 use Rattle.mxf_findings.proofs.Common.{Status, OpenIncomplete, ClosedComplete, kind_of, PacketParts, item_at, items_of}
 use Rattle.mxf_findings.proofs.Common.{left_of, entries_of, Footer, SegmentAtParts, is_rip, place_by_segment}
 use Rattle.mxf_findings.proofs.Common.{segments_read, partitions_read, read_pack, read_rip, read_segment, Agree}

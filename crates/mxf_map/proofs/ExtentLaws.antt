@@ -1,5 +1,5 @@
 -- Maximal ranges of offsets that stand alike.
-use Rattle.mxf_views.proofs.Common.{◌≡◌, ◌≢◌, ◌↔◌, ◌⊎◌, ◌<◌, ◌≤◌, ◌+◌, ◌-◌, ℕ, Bool, true, false, IsTrue, List, [], ◌∷◌}
+use Rattle.mxf_views.proofs.Common.{◌≡◌, ◌≢◌, ◌↔◌, ◌⊎◌, ◌<◌, ◌≤◌, ◌+◌, ◌-◌, ℕ, Bool, true, false, List, [], ◌∷◌}
 use Rattle.mxf_views.proofs.Common.{Some, arith, ap, filter, if◌then◌else◌, inl, inr, nat_lt, refl, subst, sym, ◌∙◌}
 use Rattle.mxf_views.proofs.Common.{cases_lt, and_from, and_parts, In-filter, same_bool, In, is_between, Covers}
 use Rattle.mxf_views.proofs.Common.{AreMaximal, LiesIn, starts_above, AreMaximal-lower}

@@ -1,6 +1,6 @@
 -- For each cell a mark fits: of each it is known whether what it says is true.
 use Rattle.mxf_views.proofs.Common.{◌≡◌, ◌⊎◌, ◌<◌, ◌≤◌, ◌+◌, ◌-◌, ℕ, zero, suc, Bool, true, false, List, [], ◌∷◌, refl}
-use Rattle.mxf_views.proofs.Common.{sym, subst, inl, inr, arith, ap, ◌∙◌, cases_lt, NoteParts, IsInSpan, end_of}
+use Rattle.mxf_views.proofs.Common.{sym, subst, inl, inr, arith, ap, ◌∙◌, cases_lt, NoteParts, IsInSpan}
 use Rattle.mxf_views.proofs.Common.{kind_of, In, clear_notes, In-clear_notes, PartitionParts, partitions_of, LiesIn}
 use Rattle.mxf_sets.specs.declared.pack.part.PackPart.{PackPart}
 use Rattle.mxf_places.specs.AtHand.{KnownParts, has_offset}

@@ -1,7 +1,7 @@
 -- What may lie in a cell of a map, as lists and as relations.
-use Rattle.mxf_views.proofs.Common.{◌≡◌, ◌↔◌, ◌∙◌, ◌<◌, ◌≤◌, ◌+◌, ◌||◌, ℕ, Bool, true, false, not, List, [], ◌∷◌, refl}
-use Rattle.mxf_views.proofs.Common.{sym, ap, subst, inl, inr, arith, map, filter, filter_map, cond, Option, Some, None}
-use Rattle.mxf_views.proofs.Common.{Result, Ok, Err, IfOk, if◌then◌else◌, AllByRecursion, cons_option, and_parts}
+use Rattle.mxf_views.proofs.Common.{◌≡◌, ◌↔◌, ◌∙◌, ◌<◌, ◌≤◌, ◌+◌, ◌||◌, ℕ, Bool, true, not, List, [], ◌∷◌, refl}
+use Rattle.mxf_views.proofs.Common.{sym, ap, subst, inl, inr, arith, map, filter, filter_map, Option, Some, None}
+use Rattle.mxf_views.proofs.Common.{Result, Ok, Err, IfOk, if◌then◌else◌, AllByRecursion, and_parts}
 use Rattle.mxf_views.proofs.Common.{Contains-permutation, IsPermutation-sym, IsPermutation, option_map_or}
 use Rattle.mxf_views.proofs.Common.{Contains-from_In, In-from_Contains, three_parts, NoteParts, IsNote, greatest_end}
 use Rattle.mxf_views.proofs.Common.{kind_of, In, SameMembers, In-filter, In-map, all-In, all_from_In, IsCatalogue}

@@ -1,5 +1,5 @@
 -- The end of a map, its cells, and the bytes that are held.
-use Rattle.mxf_views.proofs.Common.{◌≡◌, ◌↔◌, ◌∙◌, ◌<◌, ◌≤◌, ◌+◌, ◌-◌, ◌*◌, ◌/◌, ◌%◌, ℕ, Bool, true, false, List, []}
+use Rattle.mxf_views.proofs.Common.{◌≡◌, ◌↔◌, ◌<◌, ◌≤◌, ◌+◌, ◌-◌, ◌/◌, ℕ, Bool, true, false, List, []}
 use Rattle.mxf_views.proofs.Common.{◌∷◌, refl, sym, ap, subst, inl, inr, arith, map, max, Option, Some, None, count_by}
 use Rattle.mxf_views.proofs.Common.{if◌then◌else◌, nat_lt, not, ◌&&◌, unwrap_or, cases_lt, false_from_ne_true}
 use Rattle.mxf_views.proofs.Common.{range_with_len, covered_end, range-all, range-none, range-same, range-split}

@@ -1,14 +1,13 @@
 -- What the marks of cells say, by sets of offsets.
 use Rattle.mxf_views.proofs.Common.{◌≡◌, ◌↔◌, ◌⊎◌, ◌<◌, ◌≤◌, ◌+◌, ◌-◌, ℕ, zero, suc, Bool, true, false, not, IsTrue}
-use Rattle.mxf_views.proofs.Common.{List, [], ◌∷◌, refl, sym, ap, subst, inl, inr, arith, get_or, length, min, ◌∙◌}
+use Rattle.mxf_views.proofs.Common.{List, [], ◌∷◌, refl, sym, subst, inl, inr, arith, get_or, length, min}
 use Rattle.mxf_views.proofs.Common.{cases_lt, not-true-false, not_true, NoteParts, In, LiesIn}
 use Rattle.mxf_sets.specs.declared.pack.part.PackPart.{PackPart}
 use Rattle.mxf_catalogue.specs.declared.run.Run.{Run}
 use Rattle.mxf_places.specs.AtHand.{KnownParts}
 use Rattle.mxf_places.specs.Held.{IsHeld, is_held}
 use Rattle.mxf_map.specs.Layers.{AreOffsets, BeginsPartition, BeginsRandomIndex, IsOfZone, LiesInZone, marks_in_order}
-use Rattle.mxf_map.specs.Map.{AreMarks, HasByteOf, HasPartition, IsMark, Says, rank, IsMap, MapParts, cell_size}
-use Rattle.mxf_map.specs.Map.{gaps_below, hand_below, held_below}
+use Rattle.mxf_map.specs.Map.{AreMarks, HasByteOf, HasPartition, IsMark, Says, rank, IsMap, MapParts}
 use Rattle.mxf_restore.specs.Missing.{missing_places}
 use Rattle.mxf_map.specs.declared.map.Mark.{Mark}
 use Rattle.mxf_places.specs.declared.stretch.Zone.{Zone}

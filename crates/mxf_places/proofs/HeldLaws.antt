@@ -1,5 +1,5 @@
 -- What is held, by tests and by relations.
-use Rattle.mxf_views.proofs.Common.{◌≡◌, ◌↔◌, ◌∙◌, ◌<◌, ◌≤◌, ◌+◌, ◌-◌, ℕ, true, false, IsTrue, List, [], ◌∷◌, arith}
+use Rattle.mxf_views.proofs.Common.{◌≡◌, ◌↔◌, ◌<◌, ◌≤◌, ◌+◌, ◌-◌, ℕ, true, false, IsTrue, List, [], ◌∷◌, arith}
 use Rattle.mxf_views.proofs.Common.{refl, sym, ap, subst, inl, inr, nat_le, nat_lt, map, ltb-true, lt-ltb, Some, None}
 use Rattle.mxf_views.proofs.Common.{option_and_then, cond, ltb-false, and_parts, and_from, NoteParts, IsCovered}
 use Rattle.mxf_views.proofs.Common.{covered_end, end_of, In, In-filter, In-map, list_any-In, same_bool, IsDisputed}

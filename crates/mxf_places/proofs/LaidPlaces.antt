@@ -1,5 +1,5 @@
 -- Which offsets the packets of a file hold.
-use Rattle.mxf_views.proofs.Common.{◌≡◌, ◌≤◌, ◌<◌, ◌+◌, ℕ, List, [], ◌∷◌, ap, arith, inl, inr, refl, cases_lt}
+use Rattle.mxf_views.proofs.Common.{◌≤◌, ◌<◌, ◌+◌, ℕ, List, [], ◌∷◌, arith, inl, inr, refl, cases_lt}
 use Rattle.mxf_views.proofs.Common.{NoteParts, PacketParts, end_of, note_of, size_of, end_after, notes_from, In, end_up}
 use Rattle.mxf_places.specs.Held.{IsHeld}
 

@@ -8,7 +8,6 @@ use Rattle.std.proofs.Common.{le-ltb}
 use Rattle.mxf_places.specs.Claims.{behind_metadata, index_of, begins, is_unknown, over_among, stretch_at, stretch_from}
 use Rattle.mxf_places.specs.Held.{end_of_file, is_disputed_at, is_held}
 use Rattle.mxf_places.specs.declared.stretch.Zone.{Zone}
-use Rattle.mxf_places.specs.declared.stretch.Zone.TheVariants as zones
 
 pub over_none : (notes : List NoteParts) (x : ℕ) → ((n : NoteParts) → In n notes → n.offset ≢ x)
     → over_among notes x ≡ x

@@ -1,6 +1,6 @@
 -- The note of a packet, the value of which has come whole.
-use Rattle.std.proofs.Common.{◌≡◌, ℕ, ◌+◌, ◌≤◌, List, length, Bool, false, Vec, Global, vec_len, Option, None, Some, IsSome}
-use Rattle.std.proofs.Common.{SomeIff, if◌then◌else◌, refl, sym, ap, subst, ◌∙◌, arith}
+use Rattle.std.proofs.Common.{◌≡◌, ℕ, List, length, Bool, false, Vec, Global, vec_len, Option, None, Some, IsSome}
+use Rattle.std.proofs.Common.{SomeIff, if◌then◌else◌, refl, sym, ap, subst, arith}
 use Rattle.sha2.specs.Sha256.{sha256}
 use Rattle.sha2.specs.declared.Sha256.{Sha256}
 use Rattle.sha2.specs.Hashers.{Holds256}

@@ -1,7 +1,7 @@
 -- The rest of a piece from one of its packets on.
-use Rattle.mxf_views.proofs.Common.{◌≡◌, ℕ, zero, suc, ◌+◌, ◌-◌, ◌≤◌, List, [], ◌∷◌, ◌++◌, length, take, drop}
+use Rattle.mxf_views.proofs.Common.{◌≡◌, ℕ, zero, suc, ◌+◌, ◌-◌, ◌≤◌, List, ◌∷◌, ◌++◌, length, take, drop}
 use Rattle.mxf_views.proofs.Common.{length-append, Option, None, Some, Result, Ok, Err, refl, sym, ap, subst, ◌∙◌}
-use Rattle.mxf_views.proofs.Common.{arith, append_assoc, inl, inr, slice_get, IsSomeAnd, drop-drop, length-drop}
+use Rattle.mxf_views.proofs.Common.{arith, append_assoc, slice_get, IsSomeAnd, drop-drop, length-drop}
 use Rattle.mxf_views.proofs.Common.{take-append-le, NoteParts, PacketParts, note_of, size_of, end_after, notes_from}
 use Rattle.mxf_views.proofs.Common.{heads_at, notes_in, packet_at, packets_in, rest_in, stop_in, stop_of, head-size}
 use Rattle.mxf_views.proofs.Common.{ends_at, goes_on, packets_in-none, packets_in-some, seam, notes_from-append}

@@ -1,11 +1,10 @@
 -- How the notes of a piece stand: those of its packets, and the head of the packet that its end cuts.
-use Rattle.mxf_views.proofs.Common.{◌≡◌, ◌≢◌, ◌⊎◌, ℕ, zero, suc, ◌+◌, ◌<◌, ◌≤◌, List, [], ◌∷◌, ◌++◌, length, take, None}
-use Rattle.mxf_views.proofs.Common.{Some, true, false, refl, sym, ap, subst, ◌∙◌, arith, inl, inr, append-nil}
-use Rattle.mxf_views.proofs.Common.{slice_get, IsSomeAnd, AllByRecursion, take_all, Less, NoteParts, PacketParts}
-use Rattle.mxf_views.proofs.Common.{head_parts, size_of, note_cmp, BeginsWithCut, end_after, notes_from, IsOpen}
-use Rattle.mxf_views.proofs.Common.{head_at, heads_at, notes_in, packets_in, rest_in, stop_in, stop_of, In, AreReduced}
-use Rattle.mxf_views.proofs.Common.{IsContent, reduced_union, AreApart, reduced_union-none, AreApart-lower}
-use Rattle.mxf_views.proofs.Common.{less_by_offset}
+use Rattle.mxf_views.proofs.Common.{◌≡◌, ◌≢◌, ◌⊎◌, ℕ, zero, suc, ◌+◌, ◌<◌, ◌≤◌, List, [], ◌∷◌, ◌++◌, length, take, refl}
+use Rattle.mxf_views.proofs.Common.{sym, ap, subst, ◌∙◌, arith, inl, inr, append-nil, slice_get, IsSomeAnd}
+use Rattle.mxf_views.proofs.Common.{AllByRecursion, take_all, Less, NoteParts, PacketParts, head_parts, size_of}
+use Rattle.mxf_views.proofs.Common.{note_cmp, BeginsWithCut, end_after, notes_from, IsOpen, head_at, heads_at, notes_in}
+use Rattle.mxf_views.proofs.Common.{packets_in, rest_in, stop_in, stop_of, In, AreReduced, IsContent, reduced_union}
+use Rattle.mxf_views.proofs.Common.{AreApart, reduced_union-none, AreApart-lower, less_by_offset}
 use Rattle.mxf_klv.specs.PieceReading.{is_cut_at}
 use Rattle.mxf_klv.proofs.CutHeads.{cut_stops, heads_at-stands}
 use Rattle.mxf_catalogue.proofs.ApartLaws.{begins_above}

@@ -1,6 +1,6 @@
 -- Notes as a scan makes them.
-use Rattle.mxf_views.proofs.Common.{◌≡◌, ℕ, suc, ◌⊎◌, ◌≤◌, Bool, true, false, ◌&&◌, if◌then◌else◌, List, [], ◌∷◌, ◌++◌, length, map, refl}
-use Rattle.mxf_views.proofs.Common.{NoteParts, AreApart, reduced_with, end_of, sym, ap, ◌∙◌, subst}
+use Rattle.mxf_views.proofs.Common.{◌≡◌, ℕ, suc, ◌≤◌, Bool, true, false, ◌&&◌, if◌then◌else◌, List, [], ◌∷◌, ◌++◌}
+use Rattle.mxf_views.proofs.Common.{length, map, refl, NoteParts, AreApart, reduced_with, end_of, sym, ap, ◌∙◌, subst}
 use Rattle.mxf_skim.specs.PassedOver.{is_in_container, is_of_container, noted_by, passed_note, skimmed}
 use Rattle.mxf_skim.specs.declared.scan.Scan.{Scan}
 use Rattle.mxf_skim.specs.declared.scan.Scan.TheVariants.{Full, Skim}

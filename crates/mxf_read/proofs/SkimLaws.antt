@@ -1,20 +1,19 @@
 -- The parts of a skim so far, and what contents that wait to be merged have.
-use Rattle.mxf_views.proofs.Common.{◌≡◌, ◌≢◌, ℕ, ◌+◌, ◌⊎◌, ◌↔◌, true, false, List, [], ◌∷◌, ◌++◌, length, Option, refl}
-use Rattle.mxf_views.proofs.Common.{sym, ap, subst, ◌∙◌, arith, inl, inr, append-nil, AllByRecursion, NoteParts, In}
-use Rattle.mxf_views.proofs.Common.{AreReduced, IsCatalogue, IsContent, IsLocated, has_note, head_note, reduced_union}
-use Rattle.mxf_views.proofs.Common.{all_push, In-filter, IsContent-filter, not-true-false, not_true}
+use Rattle.mxf_views.proofs.Common.{◌≡◌, ℕ, ◌+◌, ◌⊎◌, ◌↔◌, true, List, [], ◌∷◌, ◌++◌, length, Option, refl, sym, ap}
+use Rattle.mxf_views.proofs.Common.{subst, ◌∙◌, arith, inl, inr, append-nil, AllByRecursion, NoteParts, AreReduced}
+use Rattle.mxf_views.proofs.Common.{IsContent, IsLocated, has_note, head_note, all_push}
 use Rattle.mxf_klv.specs.NoteOrder.{note_cmp-IsAntisymmetric, note_total}
 use Rattle.mxf_catalogue.specs.Content.{reduced_union-IsUnion}
-use Rattle.mxf_catalogue.specs.Reduced.{IsKnown, IsUntold}
+use Rattle.mxf_catalogue.specs.Reduced.{IsKnown}
 use Rattle.mxf_catalogue.specs.ReducedLaws.{In-untold}
-use Rattle.mxf_skim.specs.PassedOver.{is_passed_over, was_read}
-use Rattle.mxf_skim.specs.Preferring.{IsReadIn, prefer_read}
+use Rattle.mxf_skim.specs.PassedOver.{was_read}
+use Rattle.mxf_skim.specs.Preferring.{prefer_read}
 use Rattle.mxf_skim.proofs.PreferringLaws.{In-prefer_read, IsContent-prefer_read, read_is_whole}
 use Rattle.mxf_read.specs.declared.gathering.part.Part.{Part}
 use Rattle.mxf_read.specs.declared.gathering.report.PieceReport.{PieceReport}
 use Rattle.mxf_read.specs.Levels.{Adds, merged_with}
-use Rattle.mxf_read.specs.Gathering.{IsGood, reports_from, reports_in, reports_of}
-use Rattle.mxf_read.specs.SkimGathering.{HandsSkim, HoldsSkim, IsPreferred, IsTheSkim, SkimHandedBy, TakesSkim}
+use Rattle.mxf_read.specs.Gathering.{IsGood, reports_in, reports_of}
+use Rattle.mxf_read.specs.SkimGathering.{HandsSkim, HoldsSkim, IsTheSkim, SkimHandedBy, TakesSkim}
 use Rattle.mxf_read.proofs.GatheringLaws.{IsPassed, passed_all, passed_none, passed_one, reports_push}
 
 -- One of the contents has the note.

@@ -1,26 +1,23 @@
 -- What a skim holds beside what a reading holds.
 use Rattle.mxf_views.proofs.Common.{◌≡◌, ◌≢◌, ◌↔◌, ◌⊎◌, ℕ, ◌+◌, Bool, true, false, ◌&&◌, not, if◌then◌else◌, List, []}
-use Rattle.mxf_views.proofs.Common.{◌∷◌, ◌++◌, length, map, refl, sym, ap, subst, ◌∙◌, arith, inl, inr, NoteParts, PacketParts}
-use Rattle.mxf_views.proofs.Common.{AreApart, AreReduced, IsContent, IsLocated, In, In-append, In-map, In-union_of, head_note, note_of}
-use Rattle.mxf_views.proofs.Common.{notes_from, notes_in, reduced_union, union_of, same_content, has_note, size_of}
-use Rattle.mxf_views.proofs.Common.{IsContent-reduced_union, bytes_eq-Decides}
+use Rattle.mxf_views.proofs.Common.{◌∷◌, ◌++◌, length, map, refl, sym, ap, subst, ◌∙◌, arith, inl, inr, NoteParts}
+use Rattle.mxf_views.proofs.Common.{PacketParts, AreApart, IsContent, IsLocated, In, In-append, In-map, In-union_of}
+use Rattle.mxf_views.proofs.Common.{head_note, note_of, notes_from, reduced_union, union_of, same_content, has_note}
+use Rattle.mxf_views.proofs.Common.{size_of, IsContent-reduced_union, bytes_eq-Decides}
 use Rattle.std.specs.Str.{bytes_eq}
 use Rattle.std.proofs.lemmas.Bool.{and_parts}
 use Rattle.mxf_klv.specs.Rising.{SameMembers}
-use Rattle.mxf_catalogue.specs.Content.{reduced}
 use Rattle.mxf_catalogue.proofs.HeadLaws.{AreReduced-reduced_union, In-reduced, has-reduced_union, one_reduced}
 use Rattle.mxf_catalogue.proofs.HeadLaws.{reduced_union-is}
-use Rattle.mxf_skim.specs.PassedOver.{is_in_container, is_of_container, is_passed_over, no_digest, noted_by, passed_note}
+use Rattle.mxf_skim.specs.PassedOver.{is_in_container, is_of_container, is_passed_over, no_digest, passed_note}
 use Rattle.mxf_skim.specs.PassedOver.{skimmed, was_read}
 use Rattle.mxf_skim.specs.Preferring.{IsReadIn, prefer_read}
 use Rattle.mxf_skim.specs.Saving.{saved_note, with_heads}
-use Rattle.mxf_skim.specs.declared.scan.Scan.TheVariants.{Skim}
-use Rattle.mxf_skim.proofs.ContainerLaws.{keeps_nothing}
 use Rattle.mxf_skim.proofs.HeadsRead.{two_notes}
-use Rattle.mxf_skim.proofs.PreferringLaws.{In-prefer_read, IsContent-prefer_read, read_is_whole}
+use Rattle.mxf_skim.proofs.PreferringLaws.{In-prefer_read, IsContent-prefer_read}
 use Rattle.mxf_read.specs.SkimGathering.{AreAlikeButPassed, IsAlikeButPassed, IsPreferred, IsTheSkim}
 use Rattle.mxf_read.proofs.Pieces.{content_apart, one_at, reduced_apart}
-use Rattle.mxf_read.proofs.Scans.{skimmed_apart, skimmed_offset}
+use Rattle.mxf_read.proofs.Scans.{skimmed_apart}
 
 -- ---- one skim of a set
 

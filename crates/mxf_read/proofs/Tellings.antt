@@ -1,11 +1,10 @@
 -- What a piece tells after its last byte was read: the notes of its packets, and the head of the one that is cut.
-use Rattle.mxf_views.proofs.Common.{◌≡◌, ◌<◌, ℕ, List, [], ◌∷◌, ◌++◌, length, Option, None, Some, true, refl, sym, ap}
+use Rattle.mxf_views.proofs.Common.{◌≡◌, ◌<◌, ℕ, List, ◌++◌, length, None, Some, true, refl, sym, ap}
 use Rattle.mxf_views.proofs.Common.{subst, ◌∙◌, arith, append-nil, length-append, nil_from_length, head_parts}
 use Rattle.mxf_views.proofs.Common.{BeginsWithKeyAndLength, end_after, notes_from, heads_at, packet_at, rest_in}
 use Rattle.mxf_views.proofs.Common.{heads_at-cut, none_more, at_cut, stops, PacketParts}
 use Rattle.mxf_skim.specs.PassedOver.{noted_by}
 use Rattle.mxf_skim.specs.declared.scan.Scan.{Scan}
-use Rattle.mxf_klv.specs.declared.piece.Stop.{Stop}
 use Rattle.mxf_klv.specs.declared.piece.Stop.TheVariants.{Truncated}
 use Rattle.std.specs.Prelude.{is_some}
 use Rattle.std.proofs.lemmas.Bool.{ltb-true}

@@ -1,7 +1,7 @@
 -- What the Preface of the preferred copy names.
 use Rattle.mxf_views.proofs.Common.{◌≡◌, ℕ, ◌+◌, ◌≤◌, Bool, true, false, cond, List, [], ◌∷◌, length, Option, Some}
 use Rattle.mxf_views.proofs.Common.{None, refl, sym, ap, subst, ◌∙◌, inl, inr, arith, ◌↔◌, filter, find, option_map}
-use Rattle.mxf_views.proofs.Common.{NoteParts, end_of, kind_of, In, read_as, IsContent, AreApart, AreApart-filter}
+use Rattle.mxf_views.proofs.Common.{NoteParts, end_of, kind_of, read_as, IsContent, AreApart, AreApart-filter}
 use Rattle.mxf_views.proofs.Common.{IsCopy, copies_of, is_preface_note, preferred_of, IsReadAs, find-only, same_Some}
 use Rattle.mxf_views.proofs.Common.{AreSoMany, CountsZone, IsBest, IsPreferred, IsPrefaceIn, preface}
 use Rattle.mxf_sets.specs.Storage.{storage_at, StorageParts}

@@ -1,6 +1,6 @@
 -- What the items of a segment say of its entries.
-use Rattle.mxf_klv.proofs.Common.{◌≡◌, ℕ, ◌+◌, ◌*◌, ◌%◌, ◌<◌, ◌≤◌, true, false, List, [], ◌∷◌, Some, length, drop, refl}
-use Rattle.mxf_klv.proofs.Common.{ap, ◌∙◌, arith, ints, is_negative, AllByRecursion}
+use Rattle.mxf_klv.proofs.Common.{◌≡◌, ℕ, ◌+◌, ◌*◌, ◌%◌, ◌<◌, ◌≤◌, true, false, List, [], ◌∷◌, Some, length, drop}
+use Rattle.mxf_klv.proofs.Common.{arith, ints, is_negative, AllByRecursion}
 use Rattle.std.proofs.Common.{length-drop, ltb-false}
 use Rattle.std.specs.Prelude.{nat_lt, Ok}
 use Rattle.std.proofs.Math.Nat.{mul-mod_left}

@@ -1,7 +1,6 @@
 -- Numbers in the values of items, and what absent items stand for (this project's profile). Numbers have their highest
 -- byte first.
-use Rattle.std.specs.Prelude.{ℕ, ℤ, pos, unsigned_abs, if◌then◌else◌, List, length, replicate, unwrap_or, Option, Some}
-use Rattle.std.specs.Prelude.{None}
+use Rattle.std.specs.Prelude.{ℕ, ℤ, pos, unsigned_abs, if◌then◌else◌, List, replicate, unwrap_or, Option, Some, None}
 use Rattle.std.specs.Option.{option_map, option_map_or}
 use Rattle.std.specs.Int.{w32, w64, cast_signed, is_negative}
 use Rattle.byteorder.specs.Endian.{big_number}

@@ -1,6 +1,6 @@
 -- Packets of a container keep no value.
-use Rattle.mxf_klv.proofs.Common.{◌≡◌, ℕ, Bool, true, false, ◌&&◌, List, refl, and_parts, rules, Option, None, Some, SomeIff}
-use Rattle.mxf_klv.specs.Kind.{is_structural, kind_of}
+use Rattle.mxf_klv.proofs.Common.{◌≡◌, ℕ, true, false, List, refl, and_parts, rules, Option, None, Some, SomeIff}
+use Rattle.mxf_klv.specs.Kind.{kind_of}
 use Rattle.mxf_klv.specs.Note.{keeps, keeps_of}
 use Rattle.mxf_klv.specs.declared.kinds.Kind.{Kind}
 use Rattle.mxf_klv.specs.declared.kinds.Kind.TheVariants.{Essence, Other}

@@ -1,11 +1,11 @@
 -- The heads of packets that were read, among disputed notes.
-use Rattle.mxf_klv.proofs.Common.{◌≡◌, ◌≢◌, ◌↔◌, ◌⊎◌, Bool, true, false, ◌&&◌, not, List, [], ◌∷◌, ◌++◌, refl, sym, ap}
-use Rattle.mxf_klv.proofs.Common.{subst, ◌∙◌, inl, inr, map, filter, NoteParts, In, and_from, and_parts, cond, head_note, IsTrue}
+use Rattle.mxf_klv.proofs.Common.{◌≡◌, ◌≢◌, ◌↔◌, ◌⊎◌, Bool, true, false, not, List, [], ◌∷◌, ◌++◌, refl, sym, ap}
+use Rattle.mxf_klv.proofs.Common.{subst, ◌∙◌, inl, inr, filter, NoteParts, In, and_from, and_parts, cond, head_note}
 use Rattle.mxf_klv.proofs.Lists.{In-append, In-filter, In-map, filter_all}
 use Rattle.mxf_klv.proofs.Tests.{not_true, not-true-false}
 use Rattle.std.specs.Str.{bytes_eq}
 use Rattle.mxf_catalogue.specs.Content.{AreReduced, IsContent, has_note, reduced_union, reduced_with}
-use Rattle.mxf_catalogue.specs.Disputes.{DisputedParts, IsDisputed, SharesByte, disputed_notes, is_disputed}
+use Rattle.mxf_catalogue.specs.Disputes.{DisputedParts, disputed_notes, is_disputed}
 use Rattle.mxf_catalogue.proofs.DisputeLaws.{In-disputed_notes, SharesByte-same_offset, is_disputed-IsDisputed}
 use Rattle.mxf_catalogue.proofs.DisputeLaws.{notes-disputed_notes}
 use Rattle.mxf_catalogue.proofs.HeadLaws.{has-reduced_with, reduced_union-none}

@@ -1,5 +1,5 @@
 -- What is left where notes that were read are preferred.
-use Rattle.mxf_klv.proofs.Common.{◌≡◌, ◌↔◌, Bool, true, false, ◌&&◌, not, List, refl, sym, ap, ◌∙◌, filter, NoteParts}
+use Rattle.mxf_klv.proofs.Common.{◌≡◌, ◌↔◌, true, ◌&&◌, not, List, NoteParts}
 use Rattle.mxf_klv.proofs.Common.{In, IsTrue, and_from, and_parts, arith, head_note}
 use Rattle.mxf_klv.proofs.Lists.{In-filter, list_any-In}
 use Rattle.mxf_klv.proofs.HeadOrder.{same_note-Decides}
@@ -7,7 +7,7 @@ use Rattle.mxf_klv.proofs.Tests.{not-true-false, not_true}
 use Rattle.mxf_catalogue.specs.Content.{IsContent}
 use Rattle.mxf_catalogue.specs.Disputes.{is_same_note}
 use Rattle.mxf_catalogue.proofs.DisputeLaws.{IsContent-filter}
-use Rattle.mxf_skim.specs.PassedOver.{is_of_container, is_passed_over, was_read}
+use Rattle.mxf_skim.specs.PassedOver.{is_passed_over, was_read}
 use Rattle.mxf_skim.specs.Preferring.{IsReadIn, is_outread, is_read_in, prefer_read}
 
 -- the test says what the relation says

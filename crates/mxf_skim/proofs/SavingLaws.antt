@@ -1,13 +1,12 @@
 -- What is saved of packets that were passed over.
-use Rattle.mxf_klv.proofs.Common.{◌≡◌, ◌↔◌, ◌⊎◌, Bool, true, false, ◌&&◌, List, [], refl, sym, ap, ◌∙◌, subst, inl, inr, map}
-use Rattle.mxf_klv.proofs.Common.{NoteParts, In, and_from, and_parts, head_note}
+use Rattle.mxf_klv.proofs.Common.{◌≡◌, ◌↔◌, true, false, List, [], refl, ap, ◌∙◌, inl, inr, map}
+use Rattle.mxf_klv.proofs.Common.{NoteParts, In, head_note}
 use Rattle.mxf_klv.proofs.Lists.{In-map}
 use Rattle.std.specs.Prelude.{if◌then◌else◌}
-use Rattle.std.specs.Str.{bytes_eq}
-use Rattle.mxf_catalogue.specs.Content.{IsContent, has_note, reduced_union, reduced_union-IsUnion}
+use Rattle.mxf_catalogue.specs.Content.{IsContent, has_note, reduced_union-IsUnion}
 use Rattle.mxf_catalogue.specs.Reduced.{IsKnown}
 use Rattle.mxf_catalogue.proofs.HeadLaws.{AreReduced-reduced_union, In-located, IsContent-reduced_union}
-use Rattle.mxf_skim.specs.PassedOver.{is_in_container, is_of_container, is_passed_over, no_digest}
+use Rattle.mxf_skim.specs.PassedOver.{is_passed_over}
 use Rattle.mxf_skim.specs.Saving.{IsSaved, saved_note, with_heads}
 
 pub IsContent-with_heads : (notes : List NoteParts) → IsContent (with_heads notes)

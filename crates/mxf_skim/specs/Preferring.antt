@@ -1,5 +1,5 @@
 -- Where some readings passed over what others read (this project's profile).
-use Rattle.std.specs.Prelude.{◌≡◌, ◌↔◌, true, false, Bool, ◌&&◌, not, List, filter}
+use Rattle.std.specs.Prelude.{◌≡◌, ◌↔◌, true, Bool, ◌&&◌, not, List, filter}
 use Rattle.std.specs.List.{list_any}
 use Rattle.mxf_klv.specs.Note.{head_note}
 use Rattle.mxf_klv.specs.Parts.{NoteParts}

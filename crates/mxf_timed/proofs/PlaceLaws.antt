@@ -1,10 +1,10 @@
 -- The unit that stores a position, by the place at which it lies.
-use Rattle.std.proofs.Common.{◌≡◌, ◌↔◌, ◌≤◌, ℕ, refl, sym, ap, arith, inl, inr}
-use Rattle.std.specs.Prelude.{ℤ, pos, negsuc, ◌+ℤ◌, nat_le, if◌then◌else◌, Bool, true, false, Option, None, Some}
+use Rattle.std.proofs.Common.{◌≡◌, ◌↔◌, ℕ, refl, sym, arith, inl, inr}
+use Rattle.std.specs.Prelude.{ℤ, pos, negsuc, ◌+ℤ◌, nat_le, if◌then◌else◌, true, false, Option, None, Some}
 use Rattle.std.proofs.lemmas.Bool.{leb-false, leb-true}
 use Rattle.std.proofs.lemmas.Int.{ints}
 use Rattle.mxf_views.specs.Places.{greatest_unit}
-use Rattle.mxf_timed.specs.Stored.{IsStoredAt, LiesAt, moved, unit_or}
+use Rattle.mxf_timed.specs.Stored.{IsStoredAt, moved, unit_or}
 
 by_sum : (p unit : ℕ) (t z : ℤ) → z ≡ pos p +ℤ t → (unit_or p z ≡ unit) ↔ IsStoredAt p (Some t) unit
 by_sum p unit t (negsuc below) is = (

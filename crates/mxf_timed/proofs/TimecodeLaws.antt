@@ -1,5 +1,5 @@
 -- The timecodes that units show.
-use Rattle.std.proofs.Common.{◌≡◌, ◌∙◌, ◌↔◌, ◌+◌, ◌<◌, ◌≤◌, ℕ, List, [], ◌∷◌, Option, None, Some, MatchOption, ap, refl, subst}
+use Rattle.std.proofs.Common.{◌≡◌, ◌∙◌, ◌↔◌, ℕ, List, [], ◌∷◌, Option, None, Some, MatchOption, ap, refl, subst}
 use Rattle.std.proofs.Common.{arith, sym, filter}
 use Rattle.std.specs.Option.{option_and_then}
 use Rattle.std.proofs.lemmas.Option.{none-some, same_Some}
@@ -8,10 +8,8 @@ use Rattle.mxf_clocks.specs.Runs.{RunParts, has_position}
 use Rattle.mxf_clocks.specs.RunTimecodes.{timecode_at}
 use Rattle.mxf_units.specs.Units.{UnitsParts}
 use Rattle.mxf_timed.specs.Coverage.{HasNoOneRun, IsOneRunAt, IsTimecodeAt, one_run_at, one_timecode_at, only}
-use Rattle.mxf_timed.specs.Shown.{AreTimed, IsGreatestShown, IsLeastShown, IsNoneShown, IsShownWithin, ShownParts}
-use Rattle.mxf_timed.specs.Shown.{ShowsTimecode, TimedParts, greatest_shown, least_shown, shown_by, timecode_shown}
-use Rattle.mxf_timed.specs.Shown.{timecodes_shown}
-use Rattle.mxf_timed.specs.declared.timecodes.ShownEnds.{ShownEnds}
+use Rattle.mxf_timed.specs.Shown.{AreTimed, IsGreatestShown, IsLeastShown, IsNoneShown, IsShownWithin, ShowsTimecode}
+use Rattle.mxf_timed.specs.Shown.{TimedParts, shown_by, timecode_shown, timecodes_shown}
 use Rattle.mxf_timed.proofs.ShownLaws.{greatest-shown, least-shown}
 
 -- ---- of a position

@@ -1,5 +1,5 @@
 -- What is kept of a content, once notes are there that begin where the others end, or above.
-use Rattle.mxf_views.proofs.Common.{◌≡◌, ◌+◌, ◌++◌, ◌<◌, ◌≤◌, ℕ, Bool, List, Option, Some, ap, arith, subst, sym, ◌∙◌}
+use Rattle.mxf_views.proofs.Common.{◌≡◌, ◌+◌, ◌++◌, ◌<◌, ◌≤◌, ℕ, Bool, List, Option, Some, arith}
 use Rattle.mxf_views.proofs.Common.{count_by, filter_map, NoteParts, clear_notes, end_of, PartitionParts, clear_from}
 use Rattle.mxf_views.proofs.Common.{IsUnionAt, kept_among, kept_partition, In, In-at, In-filter, In-filter_map}
 use Rattle.mxf_views.proofs.Common.{and_parts, get_or, leb-true, length, lies_in, nat_le}

@@ -1,6 +1,6 @@
 -- How far copies reach, and the first of them that has a packet.
 use Rattle.mxf_views.proofs.Common.{◌≡◌, ℕ, zero, suc, ◌+◌, ◌<◌, ◌≤◌, Bool, false, List, [], ◌∷◌, ◌++◌, Some, None}
-use Rattle.mxf_views.proofs.Common.{refl, ap, arith, drop, get_or, length, take, ◌==◌, filter, find, map, max}
+use Rattle.mxf_views.proofs.Common.{refl, ap, arith, drop, get_or, length, take, filter, find, map, max}
 use Rattle.mxf_views.proofs.Common.{then_some, AllWithin, IsNonDecreasing, length-map, NoteParts, end_of, copies_of}
 use Rattle.mxf_views.proofs.Common.{StartsRise, copies_followed, is_outside, reaches_from, reaches_of, renewed}
 use Rattle.mxf_views.proofs.Common.{is_in_copy, find-none, length-filter_le, all-In, IsStartBelow, EndsBy}

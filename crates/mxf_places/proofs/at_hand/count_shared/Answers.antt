@@ -1,5 +1,4 @@
-use Rattle.mxf_views.proofs.Common.{◌≡◌, ◌∙◌, ◌-◌, ◌&&◌, ℕ, List, ap, arith, count_by, max, range_with_len}
-use Rattle.mxf_catalogue.specs.declared.run.Run.{Run}
+use Rattle.mxf_views.proofs.Common.{◌-◌, arith, count_by, max, range_with_len}
 use Rattle.mxf_places.specs.AtHand.{has_offset}
 use Rattle.mxf_places.proofs.CountLaws.{passing, passing-most, passing_counted}
 use Rattle.mxf_places.proofs.at_hand.count_shared.Goals as goal

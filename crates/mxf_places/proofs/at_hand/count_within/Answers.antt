@@ -1,5 +1,4 @@
-use Rattle.mxf_views.proofs.Common.{◌∙◌, List, ap, arith}
-use Rattle.mxf_catalogue.specs.declared.run.Run.{Run}
+use Rattle.mxf_views.proofs.Common.{arith}
 use Rattle.mxf_places.proofs.CountLaws.{within, within-between, within-most, within_counted}
 use Rattle.mxf_places.proofs.at_hand.count_within.Goals as goal
 

@@ -1,5 +1,4 @@
-use Rattle.mxf_views.proofs.Common.{◌∙◌, ◌++◌, List, Some, ap, append_assoc, arith, max, sym}
-use Rattle.mxf_catalogue.specs.declared.run.Run.{Run}
+use Rattle.mxf_views.proofs.Common.{append_assoc, arith, max}
 use Rattle.mxf_places.specs.AtHand.{lacking, some_range, up_to_bound}
 use Rattle.mxf_places.proofs.AtHandLaws.{lacking-between}
 use Rattle.mxf_places.proofs.at_hand.ranges_lacking.Goals as goal

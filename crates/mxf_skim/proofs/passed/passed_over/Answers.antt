@@ -1,4 +1,4 @@
-use Rattle.std.proofs.Common.{◌∙◌, sym, rules}
+use Rattle.std.proofs.Common.{◌∙◌, sym}
 use Rattle.mxf_skim.proofs.ContainerLaws.{keeps_nothing, some_where}
 use Rattle.mxf_skim.proofs.passed.passed_over.Goals as goal
 

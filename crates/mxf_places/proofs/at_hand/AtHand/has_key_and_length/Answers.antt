@@ -1,5 +1,4 @@
-use Rattle.mxf_views.proofs.Common.{◌∙◌, ◌+◌, ◌≤◌, ap, arith, sym, false_from_ne_true, greatest_end, all-In, same_bool}
-use Rattle.mxf_catalogue.specs.declared.run.Run.{Run}
+use Rattle.mxf_views.proofs.Common.{◌∙◌, ◌+◌, ap, arith, false_from_ne_true, greatest_end, all-In, same_bool}
 use Rattle.mxf_places.specs.AtHand.{AtHandParts, has_offsets}
 use Rattle.mxf_places.proofs.AtHandLaws.{has_offsets-says}
 use Rattle.mxf_places.proofs.at_hand.AtHand.has_key_and_length.Goals as goal

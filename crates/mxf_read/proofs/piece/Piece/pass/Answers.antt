@@ -1,4 +1,4 @@
-use Rattle.std.proofs.Common.{◌∙◌, sym, arith}
+use Rattle.std.proofs.Common.{◌∙◌, sym}
 use Rattle.mxf_read.proofs.Feeding.{passed_on, passing_now}
 use Rattle.mxf_read.proofs.piece.Piece.pass.Goals as goal
 

@@ -1,4 +1,4 @@
-use Rattle.mxf_views.proofs.Common.{◌≡◌, ◌+◌, ◌≤◌, Bool, true, false, List, [], ◌∷◌, ◌∙◌, ap, refl, arith, leb-true}
+use Rattle.mxf_views.proofs.Common.{◌≡◌, Bool, true, false, List, [], ◌∷◌, ◌∙◌, ap, refl, arith, leb-true}
 use Rattle.mxf_views.proofs.Common.{◌&&◌, nat_le, filter, NoteParts, end_of, clear_notes, is_set_note, zone_of, lies_in}
 use Rattle.mxf_views.proofs.copy.sets.no_sets.Goals as goal
 

@@ -1,7 +1,6 @@
-use Rattle.mxf_views.proofs.Common.{◌∙◌, ℕ, Global, List, Vec, ap, arith, length, sym, take, vec_capacity, copies_of}
+use Rattle.mxf_views.proofs.Common.{◌∙◌, ap, arith, length, take, vec_capacity, copies_of}
 use Rattle.mxf_views.proofs.Common.{KeptParts, kept_partition, kept_random_index_pack, kept_segment}
 use Rattle.mxf_views.proofs.Common.{kept_unreadable_pack, reaches_of, states_metadata}
-use Rattle.mxf_views.specs.declared.copy.CopyInfo.{CopyInfo}
 use Rattle.mxf_views.proofs.AboveKept.{count_at, kept_above}
 use Rattle.mxf_views.proofs.KeptLaws.{kept_by}
 use Rattle.mxf_views.proofs.KeptRoom.{length-kept_copies}

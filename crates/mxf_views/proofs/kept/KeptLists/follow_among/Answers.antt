@@ -1,4 +1,4 @@
-use Rattle.mxf_views.proofs.Common.{◌≡◌, ◌∙◌, ℕ, Global, Vec, ap, arith, length, subst, sym, CopiesRise, copies_of}
+use Rattle.mxf_views.proofs.Common.{◌∙◌, Global, Vec, ap, arith, length, copies_of}
 use Rattle.mxf_views.proofs.Common.{KeptParts, kept_partition, kept_random_index_pack, kept_segment}
 use Rattle.mxf_views.proofs.Common.{kept_unreadable_pack, reaches_of, vec_capacity, with_found, partition_in}
 use Rattle.mxf_views.proofs.Common.{random_index_pack_in, segment_in, unreadable_pack_in}

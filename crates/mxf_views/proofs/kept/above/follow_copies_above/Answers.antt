@@ -1,5 +1,5 @@
 use Rattle.mxf_views.proofs.Common.{◌≡◌, ◌<◌, ◌^◌, ◌∙◌, ◌++◌, ◌-◌, List, ap, arith, drop, get_or, length, map, subst}
-use Rattle.mxf_views.proofs.Common.{sym, take, AllWithin, length-map, NoteParts, In, clear_notes, CopiesRise}
+use Rattle.mxf_views.proofs.Common.{sym, take, AllWithin, length-map, NoteParts, In, clear_notes}
 use Rattle.mxf_views.proofs.Common.{clear_from, counted_above, IsOfNone, IsStarting, length-drop, ◌≤◌, PartitionParts}
 use Rattle.mxf_views.proofs.Common.{copies_among, count_by, has_metadata}
 use Rattle.mxf_views.specs.declared.copy.CopyInfo.{CopyInfo}

@@ -1,4 +1,4 @@
-use Rattle.mxf_views.proofs.Common.{◌∙◌, ◌<◌, ◌-◌, ap, arith, length, nat_lt, sym, ltb-true}
+use Rattle.mxf_views.proofs.Common.{◌-◌, arith, length, nat_lt, ltb-true}
 use Rattle.mxf_views.proofs.KeyedLists.{last_tells}
 use Rattle.mxf_views.proofs.kept.keyed.any_above.Goals as goal
 

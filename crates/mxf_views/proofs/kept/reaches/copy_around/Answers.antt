@@ -1,4 +1,4 @@
-use Rattle.mxf_views.proofs.Common.{◌≡◌, ◌∙◌, ◌<◌, ◌≤◌, ℕ, List, ap, arith, get_or, length, subst, sym, then_some}
+use Rattle.mxf_views.proofs.Common.{◌≡◌, ◌∙◌, ◌<◌, ◌≤◌, ℕ, List, arith, get_or, length, subst, sym, then_some}
 use Rattle.mxf_views.proofs.Common.{AllWithin, IsNonDecreasing, ltb-false, end_of, reaches_of, is_in_copy}
 use Rattle.mxf_views.proofs.ReachLaws.{first_reaches, length-reaches_from, none_reaches, reaches_never_fall}
 use Rattle.mxf_views.proofs.kept.reaches.copy_around.Goals as goal

@@ -1,4 +1,4 @@
-use Rattle.mxf_views.proofs.Common.{◌≤◌, length, arith, filter, is_set_note, length-filter_le}
+use Rattle.mxf_views.proofs.Common.{length, arith, filter, is_set_note, length-filter_le}
 use Rattle.mxf_views.proofs.copy.sets.Sets.of.Goals as goal
 
 pub returns-clause-bound : goal.returns-clause-bound

@@ -1,4 +1,4 @@
-use Rattle.mxf_views.proofs.Common.{◌∙◌, ap, arith, sym, clear_notes, PartitionParts}
+use Rattle.mxf_views.proofs.Common.{arith, clear_notes}
 use Rattle.mxf_views.proofs.SumLaws.{start_after}
 use Rattle.mxf_views.proofs.kept.sums.Sums.copy_of.Goals as goal
 

@@ -1,4 +1,4 @@
-use Rattle.mxf_views.proofs.Common.{◌≡◌, ◌+◌, ◌-◌, ◌<◌, ◌^◌, ◌≤◌, ◌∙◌, ap, arith, subst, sym, clear_notes, covered_of}
+use Rattle.mxf_views.proofs.Common.{◌≡◌, ◌+◌, ◌-◌, ◌<◌, ◌^◌, ◌≤◌, arith, subst, sym, clear_notes, covered_of}
 use Rattle.mxf_views.proofs.Common.{prefaces_of, clear_from, AreInRange, SumsParts}
 use Rattle.mxf_views.proofs.MarkLaws.{covered_by, covered_fits, covered_order, prefaces_by, prefaces_fit}
 use Rattle.mxf_views.proofs.MarkLaws.{prefaces_order}
