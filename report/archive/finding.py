@@ -1,6 +1,7 @@
 """The command that finds recordings by words of a name, the end of an identifier, or a timecode."""
 from __future__ import annotations
 
+import functools
 import re
 import sqlite3
 from collections.abc import Sequence
@@ -84,20 +85,12 @@ def found_by_words(connection: sqlite3.Connection, words: Sequence[str]) -> Foun
 
 def found_by_timecode(connection: sqlite3.Connection, timecode: str) -> Found:
     """The clocks that have a timecode; of recordings of which none has, the timecode components of packages that have it."""
-    if int(timecode[:2]) >= timecodes.HOURS:
-        return set()
     after = f"{timecode[:8]}:{AFTER_ALL}"
-    rows = [row for row in connection.execute(BY_TIMECODE, (int(timecode[:2]), after)) if has_timecode(row, timecode)]
+    has_label = functools.cache(lambda base, is_drop: timecodes.Counting(base, bool(is_drop)).has(timecode))
+    rows = [row for row in connection.execute(BY_TIMECODE, (int(timecode[:2]), after))
+            if timecodes.is_within(timecode, row["first"], row["last"]) and has_label(row["base"], row["is_drop"])]  # fmt: skip
     clocked = {row["recording"] for row in rows if row["clock"] is not None}
     return {(row["recording"], *told_by(row)) for row in rows if row["clock"] is not None or row["recording"] not in clocked}
-
-
-def has_timecode(row: sqlite3.Row, timecode: str) -> bool:
-    """Whether the timecodes of an hour have this one."""
-    counting = timecodes.Counting(row["base"], bool(row["is_drop"]))
-    if not counting.has(timecode):
-        return False
-    return counting.number(row["first"]) <= counting.number(timecode) <= counting.number(row["last"])
 
 
 def told_by(row: sqlite3.Row) -> tuple[str, str]:

@@ -15,6 +15,12 @@ def is_timecode(text: str) -> bool:
     return re.fullmatch(TIMECODE, text) is not None
 
 
+def is_within(timecode: str, first: str, last: str) -> bool:
+    """Whether a timecode lies between two, or is one of them. Frames may have more digits than two."""
+    second, frame = timecode[:8], int(timecode[9:])
+    return (first[:8], int(first[9:])) <= (second, frame) <= (last[:8], int(last[9:]))
+
+
 class Counting(namedtuple("Counting", "base is_drop")):
     """How the frames of a day are numbered: so many a second, and whether drop frame leaves labels out."""
 
