@@ -256,6 +256,12 @@ def check_whole(database):
     lone = connection.execute("SELECT name FROM recordings r WHERE NOT EXISTS "
                               "(SELECT 1 FROM states s WHERE s.recording = r.id AND s.number = r.state)")  # fmt: skip
     differ("recordings without a state", [], [row["name"] for row in lone])
+    if connection.execute("PRAGMA user_version").fetchone()[0] > 1:
+        columns = ", ".join(f"last_{name}" for name in ("end", "missing", "orders", "findings", "disputes"))
+        other = connection.execute(f'SELECT name, {columns} FROM recordings EXCEPT SELECT r.name, s."end", s.missing, s.orders, '
+                                   "s.findings, s.disputes FROM recordings r JOIN states s ON s.recording = r.id "
+                                   "AND s.number = r.state")  # fmt: skip
+        differ("recordings with other counts than their last state", [], [row["name"] for row in other])
 
 
 def print_rows(database, name):
@@ -348,7 +354,7 @@ def check_plans(database, document):
         print(f"{len(told)} questions of the document, {len(questions)} in all")
     for question in questions:
         details = [row["detail"] for row in connection.execute(f"EXPLAIN QUERY PLAN {question}")]
-        made_up = {detail.split()[1] for detail in details if detail.startswith(("CO-ROUTINE ", "MATERIALIZE "))}
+        made_up = {detail.split()[1] for detail in details if detail.startswith(("CO-ROUTINE ", "MATERIALIZE "))} | {"CONSTANT"}
         for detail in details:
             if detail.startswith("SCAN ") and detail.split()[1] not in made_up:
                 print(f"{detail}: {' '.join(question.split())}")

@@ -5,43 +5,44 @@ import datetime
 import sqlite3
 from collections import namedtuple
 from collections.abc import Sequence
+from itertools import chain
 
 from archive import moments
 from archive.faults import USAGE, OwnFault
 from archive.printing import number_or_none
 
-# What a list has of each recording, by its heads.
+# What a list has of each recording, by its heads. Numbers stand on the right in a table.
 LISTED = {
-    "recording": "r.name", "name": "r.title", "length": "r.length", "timecode": "r.timecode", "end": 's."end"',
-    "missing": "s.missing", "orders": "s.orders", "findings": "s.findings", "disputes": "s.disputes",
-    "verified": "nullif(r.verified, '')",
+    "recording": "name", "name": "title", "length": "length", "timecode": "timecode", "end": "last_end",
+    "missing": "last_missing", "orders": "last_orders", "findings": "last_findings", "disputes": "last_disputes",
+    "verified": "nullif(verified, '')",
 }  # fmt: skip
+NUMBERS = ("end", "missing", "orders", "findings", "disputes")
 
-# A row of a list by the form that it is printed in: its values, or a JSON text that SQLite makes of them. That takes less
-# time than to make Python's values of each.
+# A row of a list as the text that SQLite makes of it, by the form that is printed: a line of a table, or JSON. That takes
+# less time than to make Python's values of each.
 ROWS = {
-    "table": ", ".join(f'{value} AS "{head}"' for head, value in LISTED.items()),
-    "csv": "json_array(" + ", ".join(f"ifnull({value}, '')" for value in LISTED.values()) + ") AS recording",
-    "json": "json_object(" + ", ".join(f"'{head}', {value}" for head, value in LISTED.items()) + ") AS recording",
+    "table": "printf(:layout, " + ", ".join(f"ifnull({value}, '-')" for value in LISTED.values()) + ")",
+    "csv": "json_array(" + ", ".join(f"ifnull({value}, '')" for value in LISTED.values()) + ")",
+    "json": "json_object(" + ", ".join(f"'{head}', {value}" for head, value in LISTED.items()) + ")",
 }
 
 # What is listed, by the option.
 LISTS = {
-    "all": "ORDER BY r.name",
-    "missing": "WHERE r.is_missing = 1 ORDER BY r.name",
-    "damaged": "WHERE r.is_damaged = 1 ORDER BY r.name",
-    "disputed": "WHERE r.is_disputed = 1 ORDER BY r.name",
-    "changed": "WHERE r.is_changed = 1 ORDER BY r.name",
-    "unverified": "WHERE r.verified < ? ORDER BY r.verified, r.name",
+    "all": "ORDER BY name",
+    "missing": "WHERE is_missing = 1 ORDER BY name",
+    "damaged": "WHERE is_damaged = 1 ORDER BY name",
+    "disputed": "WHERE is_disputed = 1 ORDER BY name",
+    "changed": "WHERE is_changed = 1 ORDER BY name",
+    "unverified": "WHERE verified < :since ORDER BY verified, name",
 }
 
 # What a page of all recordings shows: those of LISTED, whether each is damaged, and how many packets differed when it was
 # last verified.
-OVERVIEW = """
-SELECT r.name AS recording, r.title AS name, r.length, r.timecode, s."end", s.missing, s.orders, s.findings, s.disputes,
-  nullif(r.verified, '') AS verified, r.is_damaged, coalesce((SELECT v.differs FROM verifications v
-    WHERE v.recording = r.id ORDER BY v.number DESC LIMIT 1), 0) AS differs
-FROM recordings r JOIN states s ON s.recording = r.id AND s.number = r.state ORDER BY r.name
+OVERVIEW = f"""
+SELECT {", ".join(f'{value} AS "{head}"' for head, value in LISTED.items())}, is_damaged,
+  coalesce((SELECT v.differs FROM verifications v WHERE v.recording = id ORDER BY v.number DESC LIMIT 1), 0) AS differs
+FROM recordings ORDER BY recording
 """
 
 # What `show` prints of a recording, table by table.
@@ -87,7 +88,7 @@ FROM recordings r JOIN orders o ON o.recording = r.id WHERE r.is_missing = 1 ORD
 Answer = tuple[list[str], list[tuple]]
 
 
-def answer_of(connection: sqlite3.Connection, question: str, values: Sequence[object] = ()) -> Answer:
+def answer_of(connection: sqlite3.Connection, question: str, values: Sequence[object] | dict[str, str] = ()) -> Answer:
     """The heads and the rows that a question answers."""
     cursor = connection.cursor()
     cursor.row_factory = None
@@ -95,12 +96,27 @@ def answer_of(connection: sqlite3.Connection, question: str, values: Sequence[ob
     return [column[0] for column in cursor.description], rows
 
 
-def listed(connection: sqlite3.Connection, what: str, days: int | None, form: str) -> Answer:
-    """The recordings of a list, each as a row of ROWS. Those that weren't verified for so many days go by the time of their
-    last verification."""
-    question = f"SELECT {ROWS[form]} FROM recordings r JOIN states s ON s.recording = r.id AND s.number = r.state {LISTS[what]}"
-    values = () if days is None else (before(days),)
-    return list(LISTED), answer_of(connection, question, values)[1]
+def listed(connection: sqlite3.Connection, what: str, days: int | None, form: str) -> list[str]:
+    """The recordings of a list, each as a text of ROWS, and in a table the heads before them. Those that weren't verified
+    for so many days go by the time of their last verification."""
+    values = {} if days is None else {"since": before(days)}
+    heads = []
+    if form == "table":
+        values["layout"] = layout_of(connection)
+        # Python counts characters without being told to.
+        heads.append(values["layout"].replace("!", "") % tuple(LISTED))
+    texts = answer_of(connection, f"SELECT {ROWS[form]} FROM recordings {LISTS[what]}", values)[1]
+    return [*heads, *chain.from_iterable(texts)]
+
+
+def layout_of(connection: sqlite3.Connection) -> str:
+    """How a line of a list is laid out, for printf of SQLite: each column is as wide in characters as its widest text of
+    all recordings, and nothing stands after the last one."""
+    *columns, _ = LISTED.items()
+    widest = ", ".join(f"(SELECT max(length({value})) FROM recordings)" for _, value in columns)
+    (widths,) = answer_of(connection, f"SELECT {widest}")[1]
+    cells = [f"%{'' if head in NUMBERS else '-'}!{max(len(head), width or 0)}s" for (head, _), width in zip(columns, widths)]
+    return "  ".join([*cells, "%s"])
 
 
 def before(days: int) -> str:

@@ -54,7 +54,7 @@ def version_of(connection: sqlite3.Connection, path: str) -> int:
     if application == schema.APPLICATION and version > schema.VERSION:
         said = f"it is of version {version}, and this program knows version {schema.VERSION}"
         raise OwnFault(DATA, f"bad database: {path}: {said}")
-    if application == schema.APPLICATION and version == schema.VERSION:
+    if application == schema.APPLICATION and version > 0:
         return version
     tables = connection.execute("SELECT count(*) FROM sqlite_master").fetchone()[0]
     if application or version or tables:
@@ -65,19 +65,25 @@ def version_of(connection: sqlite3.Connection, path: str) -> int:
 @contextlib.contextmanager
 def reading(path: str) -> Iterator[sqlite3.Connection]:
     """The database, to be asked: all answers are of one state of it. It is written to only to make up for a writer that was
-    killed."""
+    killed. Of one of an earlier version a copy in memory is asked."""
     if not os.path.exists(path):
         raise OwnFault(READ, f"read fault: {path}: No such file or directory")
-    with faults_of(path, READ):
+    with faults_of(path, READ), contextlib.ExitStack() as opened:
         mode = "rw" if os.access(path, os.W_OK) else "ro"
         connection = sqlite3.connect(address_of(path, mode), uri=True, isolation_level=None, timeout=LONGEST)
-        with contextlib.closing(connection):
-            connection.row_factory = sqlite3.Row
-            if version_of(connection, path) == 0:
-                raise OwnFault(DATA, f"bad database: {path}: it isn't one of mxf_archive")
-            connection.execute("PRAGMA query_only = ON")
-            connection.execute("BEGIN")
-            yield connection
+        opened.enter_context(contextlib.closing(connection))
+        version = version_of(connection, path)
+        if version == 0:
+            raise OwnFault(DATA, f"bad database: {path}: it isn't one of mxf_archive")
+        if version < schema.VERSION:
+            former, connection = connection, sqlite3.connect(":memory:", isolation_level=None)
+            opened.enter_context(contextlib.closing(connection))
+            former.backup(connection)
+            take_steps(connection, version)
+        connection.row_factory = sqlite3.Row
+        connection.execute("PRAGMA query_only = ON")
+        connection.execute("BEGIN")
+        yield connection
 
 
 def check_place(path: str) -> None:
@@ -134,7 +140,7 @@ def writing(path: str, is_new: bool = False) -> Iterator[sqlite3.Connection]:
             connection.execute("PRAGMA foreign_keys = ON")
             waiting.until(connection, "BEGIN IMMEDIATE")
             try:
-                make_schema(connection, path)
+                take_steps(connection, version_of(connection, path))
                 yield connection
                 connection.execute("COMMIT")
             except BaseException:
@@ -143,10 +149,12 @@ def writing(path: str, is_new: bool = False) -> Iterator[sqlite3.Connection]:
                 raise
 
 
-def make_schema(connection: sqlite3.Connection, path: str) -> None:
-    """Makes the tables, if the database is new."""
-    if version_of(connection, path) == 0:
-        for statement in schema.SCHEMA.split(";\n"):
+def take_steps(connection: sqlite3.Connection, version: int) -> None:
+    """Brings the tables from a version of the schema to the last one; from 0 on they are made."""
+    if version == schema.VERSION:
+        return
+    for step in schema.STEPS[version:]:
+        for statement in step.split(";\n"):
             connection.execute(statement)
-        connection.execute(f"PRAGMA application_id = {schema.APPLICATION}")
-        connection.execute(f"PRAGMA user_version = {schema.VERSION}")
+    connection.execute(f"PRAGMA application_id = {schema.APPLICATION}")
+    connection.execute(f"PRAGMA user_version = {schema.VERSION}")

@@ -8,7 +8,8 @@ def list(words: Words) -> int:
     """Prints recordings, all of them or those of which something holds."""
     with database.reading(words.database) as connection:
         what = "unverified" if words.days is not None else words.what
-        printing.print_made(words.form, *answering.listed(connection, what, words.days, words.form))
+        texts = answering.listed(connection, what, words.days, words.form)
+    printing.print_made(words.form, answering.LISTED, texts)
     return 0
 
 

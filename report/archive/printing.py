@@ -3,7 +3,7 @@ from __future__ import annotations
 
 import sys
 from collections.abc import Collection, Iterable, Sequence
-from itertools import chain, groupby, islice, repeat
+from itertools import groupby
 
 # Characters of control, line ends of Unicode, and marks of direction: a terminal may obey them. Each is shown as ?.
 CONTROL = dict.fromkeys((*range(0x20), *range(0x7F, 0xA0), *range(0x2028, 0x202F), *range(0x2066, 0x206A)), "?")
@@ -23,34 +23,18 @@ def shown(text: str) -> str:
     return text if text.isprintable() else text.translate(CONTROL)
 
 
-def texts_of(values: Collection, kinds: set[type]) -> Cells:
-    """Values that are of these kinds alone, as texts."""
-    texts = values if kinds == {str} else ["-" if value is None else str(value) for value in values]
-    return texts if "".join(texts).isprintable() else list(map(shown, texts))
-
-
-def laid_out(head: str, column: Cells) -> tuple[str, Iterable[str]]:
+def laid_out(head: str, column: Cells) -> list[str]:
     """A head and the cells below it as texts, each as wide as the widest, with numbers on the right."""
-    kinds = set(map(type, column))
-    # Few numbers stand in most columns of numbers. Each is laid out once.
-    values = set(column) if kinds <= {int, type(None)} else column
-    if len(values) > len(column) // 2:
-        values = column
-    texts = texts_of(values, kinds)
-    widths = set(map(len, texts))
-    width = max([len(head), *widths])
-    side = str.rjust if int in kinds else str.ljust
-    cells = texts if widths == {width} else map(side, texts, repeat(width))
-    return side(head, width), cells if values is column else map(dict(zip(values, cells)).get, column)
+    texts = [head, *map(cell, column)]
+    width = max(map(len, texts))
+    side = str.rjust if int in map(type, column) else str.ljust
+    return [side(text, width) for text in texts]
 
 
 def print_table(heads: Sequence[str], rows: Iterable[Cells]) -> None:
     """Prints columns side by side. Nothing stands after the last one."""
-    heads, columns = zip(*map(laid_out, heads, list(zip(*rows)) or [()] * len(heads)))
-    sys.stdout.write("  ".join(heads).rstrip() + "\n")
-    lines = map(str.rstrip, map("  ".join, zip(*columns)))
-    while block := list(islice(lines, BLOCK)):
-        sys.stdout.write("\n".join(block) + "\n")
+    columns = map(laid_out, heads, list(zip(*rows)) or [()] * len(heads))
+    sys.stdout.writelines("  ".join(cells).rstrip() + "\n" for cells in zip(*columns))
 
 
 def print_csv(heads: Sequence[str], rows: Iterable[Cells]) -> None:
@@ -62,20 +46,9 @@ def print_csv(heads: Sequence[str], rows: Iterable[Cells]) -> None:
     writer.writerows(rows)
 
 
-def members_of(head: str, column: Cells) -> Iterable[str]:
-    """The member of each object that has a value of a column. Each value is encoded once: no answer has numbers but
-    integers, so equal values are the same."""
-    import json
-
-    encode = json.JSONEncoder(ensure_ascii=False).encode
-    members = {value: f"{encode(head)}:{encode(value)}" for value in set(column)}
-    return map(members.get, column)
-
-
 def print_json(heads: Sequence[str], rows: Iterable[Cells]) -> None:
     """Prints a JSON object a line, with a member for each column."""
-    columns = map(members_of, heads, list(zip(*rows)))
-    sys.stdout.writelines("{" + ",".join(members) + "}\n" for members in zip(*columns))
+    print_lines(dict(zip(heads, row)) for row in rows)
 
 
 def print_lines(lines: Iterable[object]) -> None:
@@ -94,7 +67,7 @@ def print_answer(form: str, heads: Sequence[str], rows: Iterable[Cells]) -> None
     FORMS[form](heads, rows)
 
 
-def print_arrays(heads: Sequence[str], arrays: Iterable[str]) -> None:
+def print_arrays(heads: Collection[str], arrays: list[str]) -> None:
     """Prints CSV of rows that are arrays of JSON. What stands in one between the quotes is the line of CSV, unless a text
     has a comma or is escaped."""
     sys.stdout.write(",".join(heads) + "\r\n")
@@ -109,20 +82,23 @@ def print_arrays(heads: Sequence[str], arrays: Iterable[str]) -> None:
             csv.writer(sys.stdout).writerows(json.loads(f"[{','.join(group)}]"))
 
 
-def print_objects(_: Sequence[str], objects: Iterable[str]) -> None:
-    """Prints JSON objects, each on a line of its own."""
-    sys.stdout.write("".join(f"{text}\n" for text in objects))
+def print_texts(_: Iterable[str], texts: list[str]) -> None:
+    """Prints texts, each on a line of its own."""
+    for start in range(0, len(texts), BLOCK):
+        sys.stdout.write("\n".join(texts[start : start + BLOCK]) + "\n")
 
 
-def print_made(form: str, heads: Sequence[str], rows: Iterable[Cells]) -> None:
-    """Prints rows in a form of FORMS: values in a table, and else a JSON text each."""
-    if form == "table":
-        print_table(heads, rows)
-    else:
-        MADE[form](heads, chain.from_iterable(rows))
+def print_laid_out(heads: Iterable[str], lines: list[str]) -> None:
+    """Prints the lines of a table, the heads among them."""
+    print_texts(heads, lines if all(map(str.isprintable, lines)) else list(map(shown, lines)))
 
 
-MADE = {"csv": print_arrays, "json": print_objects}
+MADE = {"table": print_laid_out, "csv": print_arrays, "json": print_texts}
+
+
+def print_made(form: str, heads: Collection[str], texts: list[str]) -> None:
+    """Prints rows in a form of FORMS of which each is a text already."""
+    MADE[form](heads, texts)
 
 
 def print_parts(form: str, parts: list[object]) -> None:

@@ -1,7 +1,6 @@
 """The schema of the database. docs/ARCHIVE.md says what each table and view is."""
 
 APPLICATION = 0x4D584641  # `MXFA`, the application_id of the file's header
-VERSION = 1  # the user_version
 SQLITE = (3, 37, 0)  # the least version that knows STRICT tables
 
 # What is replaced if a recording is added again.
@@ -11,7 +10,7 @@ REPLACED = (
 )  # fmt: skip
 
 # Numbers that can pass 9,223,372,036,854,775,807 have the type ANY, and stand as text then.
-SCHEMA = """
+FIRST = """
 CREATE TABLE recordings (
   id INTEGER PRIMARY KEY,
   name TEXT NOT NULL UNIQUE,
@@ -260,3 +259,34 @@ CREATE VIEW history AS
     s.findings, s.disputes, s.orders, s.ordered, s.open
   FROM recordings r JOIN states s ON s.recording = r.id;
 """
+
+# What a list has of a recording stands in one table, with indexes that have all of it in the order of the lists that may be
+# long. Other indexes tell how wide the columns are.
+SECOND = """
+ALTER TABLE recordings ADD COLUMN last_end ANY;
+ALTER TABLE recordings ADD COLUMN last_missing ANY NOT NULL DEFAULT 0;
+ALTER TABLE recordings ADD COLUMN last_orders INTEGER NOT NULL DEFAULT 0;
+ALTER TABLE recordings ADD COLUMN last_findings INTEGER NOT NULL DEFAULT 0;
+ALTER TABLE recordings ADD COLUMN last_disputes INTEGER NOT NULL DEFAULT 0;
+UPDATE recordings SET (last_end, last_missing, last_orders, last_findings, last_disputes) =
+  (SELECT s."end", s.missing, s.orders, s.findings, s.disputes FROM states s
+   WHERE s.recording = recordings.id AND s.number = recordings.state);
+CREATE INDEX recordings_listed ON recordings
+  (name, title, length, timecode, last_end, last_missing, last_orders, last_findings, last_disputes, verified);
+DROP INDEX recordings_verified;
+CREATE INDEX recordings_verified ON recordings
+  (verified, name, title, length, timecode, last_end, last_missing, last_orders, last_findings, last_disputes);
+CREATE INDEX recordings_name_length ON recordings (length(name));
+CREATE INDEX recordings_title_length ON recordings (length(title));
+CREATE INDEX recordings_length_length ON recordings (length(length));
+CREATE INDEX recordings_timecode_length ON recordings (length(timecode));
+CREATE INDEX recordings_end_length ON recordings (length(last_end));
+CREATE INDEX recordings_missing_length ON recordings (length(last_missing));
+CREATE INDEX recordings_orders_length ON recordings (length(last_orders));
+CREATE INDEX recordings_findings_length ON recordings (length(last_findings));
+CREATE INDEX recordings_disputes_length ON recordings (length(last_disputes));
+"""
+
+# What leads from each version of the schema to the next, from nothing on. How many there are is the user_version.
+STEPS = (FIRST, SECOND)
+VERSION = len(STEPS)

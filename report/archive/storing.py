@@ -11,6 +11,9 @@ from archive.texts import words_of
 # The counts of a state by which it is said to have changed.
 COUNTS = ("packets", "held", "missing", "findings", "disputes", "orders")
 
+# What the table of recordings has of the last state, for lists.
+KEPT = ("end", "missing", "orders", "findings", "disputes")
+
 
 def insert(connection: sqlite3.Connection, table: str, recording: int, rows: list[Row]) -> None:
     """Adds rows of a recording to a table."""
@@ -53,7 +56,8 @@ def store(connection: sqlite3.Connection, recording: Recording) -> bool:
     store_texts(connection, identity, recording)
     number = connection.execute("SELECT coalesce(max(number), 0) + 1 FROM states WHERE recording = ?", (identity,)).fetchone()[0]
     insert(connection, "states", identity, [{"number": number, **recording.state}])
-    facts = {**recording.facts, "state": number}
+    last = {f"last_{name}": recording.state[name] for name in KEPT}
+    facts = {**recording.facts, **last, "state": number}
     changes = ", ".join(f"{name} = :{name}" for name in facts)
     connection.execute(f"UPDATE recordings SET {changes} WHERE id = :id", {**facts, "id": identity})
     settle(connection, identity)
