@@ -79,7 +79,8 @@ def reading(path: str) -> Iterator[sqlite3.Connection]:
             former, connection = connection, sqlite3.connect(":memory:", isolation_level=None)
             opened.enter_context(contextlib.closing(connection))
             former.backup(connection)
-            take_steps(connection, version)
+            # A writer may have taken the steps meanwhile.
+            take_steps(connection, version_of(connection, path))
         connection.row_factory = sqlite3.Row
         connection.execute("PRAGMA query_only = ON")
         connection.execute("BEGIN")
