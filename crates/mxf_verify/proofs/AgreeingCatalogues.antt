@@ -1,5 +1,5 @@
 -- A saved catalogue beside a reference, and the join of both.
-use Rattle.mxf_views.proofs.Common.{◌≡◌, ◌↔◌, ◌+◌, ◌<◌, ◌≤◌, ◌∙◌, ℕ, false, IsTrue, List, [], ◌∷◌, cond, map, refl, sym}
+use Rattle.mxf_views.proofs.Common.{◌≡◌, ◌↔◌, ◌+◌, ◌<◌, ◌≤◌, ◌∙◌, ℕ, IsTrue, List, [], ◌∷◌, cond, map, refl, sym}
 use Rattle.mxf_views.proofs.Common.{ap, subst, inl, inr, arith, false≢true, IsCovered, covered_end, end_of, head_note}
 use Rattle.mxf_views.proofs.Common.{NoteParts, In, In-map, AreReduced, IsCatalogue, has_note, reduced_union}
 use Rattle.mxf_views.proofs.Common.{AreReduced-reduced_union, IsContent-reduced_union, has-reduced_union, one_reduced}

@@ -1,9 +1,9 @@
 -- Agreement of bytes with what a note says of them, where they come in parts.
-use Rattle.mxf_views.proofs.Common.{◌≡◌, ◌-◌, ℕ, Bool, true, false, not, ◌&&◌, ◌||◌, List, ◌++◌, length, drop, ap, ◌∙◌}
-use Rattle.mxf_views.proofs.Common.{refl, arith, NoteParts, length_bytes, IsNote, keeps_value, spelled_len}
+use Rattle.mxf_views.proofs.Common.{◌≡◌, ◌-◌, ℕ, Bool, true, false, ◌&&◌, ◌||◌, List, ◌++◌, length}
+use Rattle.mxf_views.proofs.Common.{refl, arith, NoteParts, length_bytes, IsNote, spelled_len}
 use Rattle.mxf_views.proofs.Common.{length_bytes-spelled}
 use Rattle.std.proofs.Math.ListN.{length-append, length-drop}
-use Rattle.mxf_verify.specs.Agreeing.{agrees, agrees_on, agrees_with}
+use Rattle.mxf_verify.specs.Agreeing.{agrees_on, agrees_with}
 use Rattle.mxf_verify.specs.Verifying.{front_bytes, front_size}
 use Rattle.mxf_verify.proofs.ByteLaws.{agrees_append, drop_of_append}
 

@@ -1,11 +1,11 @@
 -- Candidates that further bytes don't reach.
-use Rattle.mxf_views.proofs.Common.{◌≡◌, ◌+◌, ◌-◌, ◌<◌, ◌≤◌, ◌&&◌, ◌||◌, not, ℕ, zero, suc, Bool, true, false, cond}
+use Rattle.mxf_views.proofs.Common.{◌≡◌, ◌+◌, ◌-◌, ◌<◌, ◌≤◌, ◌&&◌, ℕ, zero, suc, Bool, true, false, cond}
 use Rattle.mxf_views.proofs.Common.{List, [], ◌∷◌, ◌++◌, length, take, drop, map, get_or, set, refl, sym, ap, ◌∙◌}
 use Rattle.mxf_views.proofs.Common.{arith, or_right, drop_all, get_or-map, length-map, take_all, AllWithin}
-use Rattle.mxf_views.proofs.Common.{IsNonDecreasingBy, NoteParts, covered_end, end_of, keeps_value}
+use Rattle.mxf_views.proofs.Common.{IsNonDecreasingBy, NoteParts, covered_end, end_of}
 use Rattle.std.proofs.lemmas.List.{length-set}
-use Rattle.mxf_verify.specs.Verifying.{front_bytes, front_size, held_size}
-use Rattle.mxf_verify.specs.Agreeing.{agrees, agrees_on, part_of}
+use Rattle.mxf_verify.specs.Verifying.{front_size, held_size}
+use Rattle.mxf_verify.specs.Agreeing.{agrees_on, part_of}
 use Rattle.mxf_verify.specs.Candidates.{AreSettled, also, compared, notes_of, offset_of}
 use Rattle.mxf_verify.specs.declared.candidate.Candidate.{Candidate}
 use Rattle.mxf_verify.proofs.ByteLaws.{agrees_none}

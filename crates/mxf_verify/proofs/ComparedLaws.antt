@@ -1,17 +1,17 @@
 -- What was compared with the bytes of a source.
-use Rattle.mxf_views.proofs.Common.{◌≡◌, ◌↔◌, ◌⊎◌, ◌+◌, ◌-◌, ◌<◌, ◌≤◌, ◌&&◌, ◌||◌, not, ℕ, zero, suc, true, false}
+use Rattle.mxf_views.proofs.Common.{◌≡◌, ◌↔◌, ◌⊎◌, ◌+◌, ◌-◌, ◌<◌, ◌≤◌, not, ℕ, zero, suc, true, false}
 use Rattle.mxf_views.proofs.Common.{IsTrue, List, [], ◌∷◌, ◌++◌, Option, None, Some, IfSome, length, take, drop, get_or}
 use Rattle.mxf_views.proofs.Common.{map, refl, sym, ap, ◌∙◌, subst, arith, inl, inr, append-nil, or_right, drop_all}
 use Rattle.mxf_views.proofs.Common.{drop-map, get_or-drop, get_or-take, length-drop, length-map, length-take, take-map}
 use Rattle.mxf_views.proofs.Common.{take_all, take-append_seam, AllWithin, IsNonDecreasingBy, Consumes, IsAtEnd}
-use Rattle.mxf_views.proofs.Common.{NoteParts, IsNote, covered_end, keeps_value}
+use Rattle.mxf_views.proofs.Common.{NoteParts, IsNote, covered_end}
 use denote.Bor.{Bor}
-use Rattle.mxf_verify.specs.Agreeing.{agrees, agrees_with}
+use Rattle.mxf_verify.specs.Agreeing.{agrees_with}
 use Rattle.mxf_verify.specs.Candidates.{notes_of, offset_of}
 use Rattle.mxf_verify.specs.Compared.{AreSame, ComparesBytes}
 use Rattle.mxf_verify.specs.Taking.{HasTaken, agreeing, has_digest, told}
 use Rattle.mxf_verify.specs.SourceReads.{AreApart, HasDigested, HasRead, ReadsSource}
-use Rattle.mxf_verify.specs.Verifying.{IsAmong, IsSaidBy, front_bytes, front_size, held_in, held_size, is_digested}
+use Rattle.mxf_verify.specs.Verifying.{IsAmong, IsSaidBy, held_in, is_digested}
 use Rattle.mxf_verify.specs.declared.candidate.Candidate.{Candidate}
 use Rattle.mxf_verify.specs.declared.compared.Compared.{Compared}
 use Rattle.mxf_verify.specs.declared.comparison.Comparison.{Comparison}

@@ -1,7 +1,7 @@
 -- The tests of two notes say what the relations say.
-use Rattle.mxf_views.proofs.Common.{arith, and_from, and_parts, NoteParts, covered_end, end_of, head_note, is_same_note}
+use Rattle.mxf_views.proofs.Common.{arith, and_from, and_parts, NoteParts, covered_end, head_note, is_same_note}
 use Rattle.mxf_views.proofs.Common.{same_note-Decides, not_true, not-true-false}
-use Rattle.std.specs.Prelude.{◌↔◌, ◌+◌, ◌<◌, ◌≤◌, true, false, not, ◌&&◌, nat_lt, cond, max, IsTrue}
+use Rattle.std.specs.Prelude.{◌↔◌, ◌+◌, ◌<◌, ◌≤◌, not, ◌&&◌, nat_lt, max, IsTrue}
 use Rattle.std.proofs.lemmas.Bool.{ltb-true, lt-ltb}
 use Rattle.mxf_verify.specs.Comparing.{Contradicts, IsHeadOf, SharesHeldByte, contradicts, is_head_of}
 use Rattle.mxf_verify.specs.Comparing.{is_held_byte_shared}

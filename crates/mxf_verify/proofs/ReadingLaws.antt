@@ -1,7 +1,7 @@
 -- Reads of a source, one after another.
 use Rattle.mxf_views.proofs.Common.{◌≡◌, ℕ, zero, suc, List, [], ◌∷◌, ◌++◌, Option, None, Some, true, false, IsTrue}
 use Rattle.mxf_views.proofs.Common.{inl, inr, length-append, get_or-take, take}
-use Rattle.mxf_views.proofs.Common.{◌+◌, ◌-◌, ◌<◌, ◌≤◌, get_or, length, drop, filter, map, refl, ap, arith, ◌∙◌, subst}
+use Rattle.mxf_views.proofs.Common.{◌+◌, ◌-◌, ◌<◌, ◌≤◌, get_or, length, filter, map, refl, ap, arith, ◌∙◌, subst}
 use Rattle.mxf_views.proofs.Common.{sym, append_assoc, NoteParts, covered_end, AllWithin, cases_lt, true≢false}
 use Rattle.mxf_views.proofs.Common.{get_or_default, get_or-map, length-map, drop_all}
 use Rattle.sha2.specs.Hashers.{Holds256}

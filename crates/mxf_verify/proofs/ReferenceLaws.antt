@@ -1,6 +1,6 @@
 -- The notes of a reference that are compared with bytes.
 use Rattle.mxf_views.proofs.Common.{◌≡◌, ◌≢◌, ◌↔◌, ◌+◌, ◌<◌, ◌≤◌, ℕ, get_or, ◌&&◌, not, zero, suc, Bool, true, false}
-use Rattle.mxf_views.proofs.Common.{IsTrue, List, [], ◌∷◌, cond, length, map, refl, sym, ap, ◌∙◌, subst, arith, inl}
+use Rattle.mxf_views.proofs.Common.{IsTrue, List, [], ◌∷◌, cond, length, map, refl, sym, ap, subst, arith, inl}
 use Rattle.mxf_views.proofs.Common.{inr, and_from, and_parts, cases_lt, false≢true, tied_itself, AllByRecursion}
 use Rattle.mxf_views.proofs.Common.{AllWithin, IsNonDecreasingBy, NoteParts, IsNote, covered_end, end_of, keeps_value}
 use Rattle.mxf_views.proofs.Common.{note_cmp, note_total, In, IsRising, all-In, all_from_In, In-at, In-filter, In-map}

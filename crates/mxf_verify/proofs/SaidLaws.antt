@@ -1,12 +1,12 @@
 -- What candidates say of their notes after a source was read.
-use Rattle.mxf_views.proofs.Common.{◌≡◌, ◌↔◌, ◌+◌, ◌&&◌, ◌||◌, not, ℕ, true, false, IsTrue, List, length, take, drop}
-use Rattle.mxf_views.proofs.Common.{cond, refl, sym, ap, ◌∙◌, subst, arith, and_from, and_parts, false≢true}
+use Rattle.mxf_views.proofs.Common.{◌≡◌, ◌↔◌, ◌+◌, ◌&&◌, ◌||◌, not, ℕ, true, IsTrue, List, length}
+use Rattle.mxf_views.proofs.Common.{cond, ap, arith, and_from, and_parts, false≢true}
 use Rattle.mxf_views.proofs.Common.{length-drop, take_all, bytes_eq-Decides, bytes_eq, NoteParts, IsNote, keeps}
 use Rattle.mxf_views.proofs.Common.{keeps_value}
 use Rattle.sha2.specs.Sha256.{sha256}
 use Rattle.mxf_verify.specs.Agreeing.{agrees, agrees_with}
 use Rattle.mxf_verify.specs.Taking.{has_digest}
-use Rattle.mxf_verify.specs.Verifying.{IsSaidBy, IsValueOf, front_bytes, front_size, held_size, is_digested}
+use Rattle.mxf_verify.specs.Verifying.{IsSaidBy, IsValueOf, front_size, held_size, is_digested}
 use Rattle.mxf_verify.proofs.AgreementLaws.{front_length}
 use Rattle.mxf_verify.proofs.CandidateLaws.{front_within}
 use Rattle.mxf_verify.proofs.ByteLaws.{agrees_whole}

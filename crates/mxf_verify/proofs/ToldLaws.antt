@@ -6,7 +6,7 @@ use Rattle.mxf_views.proofs.Common.{leb-true, drop-map, get_or-drop, get_or-take
 use Rattle.mxf_views.proofs.Common.{take-append-drop, take-map, map-map, AllWithin, NoteParts, covered_end, note_cmp}
 use Rattle.mxf_views.proofs.Common.{In, IsRising, all-In, all_from_In, Contains-from_In, In-append, In-filter}
 use Rattle.mxf_views.proofs.Common.{In-from_Contains, In-map, list_any-In, not_true, not-true-false, same_bool}
-use Rattle.mxf_views.proofs.Common.{IsContent, Covers, LiesIn, is_disputed-IsDisputed, is_disputed}
+use Rattle.mxf_views.proofs.Common.{IsContent, Covers, LiesIn, is_disputed-IsDisputed}
 use Rattle.mxf_catalogue.specs.declared.run.Run.{Run}
 use denote.Bor.{Bor}
 use Rattle.std.proofs.Common.{Ordering, Less}
@@ -15,12 +15,10 @@ use Rattle.mxf_catalogue.proofs.Fronts.{rising_front}
 use Rattle.mxf_verify.specs.Candidates.{notes_of, offset_of}
 use Rattle.mxf_verify.specs.Compared.{ComparesBytes}
 use Rattle.mxf_verify.specs.Comparing.{SharesHeldByte}
-use Rattle.mxf_readings.specs.Readings.{is_held}
 use Rattle.mxf_verify.specs.References.{AreCandidates, is_crowded}
 use Rattle.mxf_verify.specs.Telling.{AreThose, TellsOf, notes_at}
 use Rattle.mxf_verify.specs.ToldBytes.{is_met, is_told_differing, is_told_same}
 use Rattle.mxf_verify.specs.Verifying.{Bytes, DiffersIn, IsAmong, IsCompared, IsCrowded, IsSaidBy, IsSameIn, held_in}
-use Rattle.mxf_verify.specs.Verifying.{is_digested}
 use Rattle.mxf_verify.specs.declared.candidate.Candidate.{Candidate}
 use Rattle.mxf_verify.specs.declared.compared.Compared.{Compared}
 use Rattle.mxf_verify.specs.declared.told.Told.{Told}

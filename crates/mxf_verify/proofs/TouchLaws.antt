@@ -1,12 +1,11 @@
 -- The first and the last of places that a note holds a byte of, by the two orders of places.
-use Rattle.mxf_views.proofs.Common.{◌≡◌, ◌⊎◌, ◌∙◌, ◌<◌, ◌≤◌, ◌+◌, ◌-◌, ℕ, Bool, true, false, List, Option, None, Some}
-use Rattle.mxf_views.proofs.Common.{refl, sym, ap, subst, inl, inr, arith, get_or, length, max, nat_lt, reverse}
+use Rattle.mxf_views.proofs.Common.{◌≡◌, ◌⊎◌, ◌∙◌, ◌<◌, ◌≤◌, ◌-◌, ℕ, Bool, false, List, Option, None, Some}
+use Rattle.mxf_views.proofs.Common.{refl, sym, ap, subst, inl, inr, arith, get_or, length, max, reverse}
 use Rattle.mxf_views.proofs.Common.{if◌then◌else◌, IsTotalOrder, AllWithin, IsNonDecreasing, IsPermutation, is_lt}
-use Rattle.mxf_views.proofs.Common.{nat_cmp, ordering_then, Ordering, Less, Equal, Greater, cases_lt, nat_cmp_total}
+use Rattle.mxf_views.proofs.Common.{nat_cmp, ordering_then, Ordering, cases_lt, nat_cmp_total}
 use Rattle.mxf_views.proofs.Common.{on_total, then_total, get_or-reverse, get_or_default, length-reverse, covered_end}
 use Rattle.mxf_views.proofs.Common.{greatest_end, NoteParts, In, SameMembers, Contains-from_In, In-at}
 use Rattle.std.specs.List.Sorted.{IsSortedByKey}
-use Rattle.std.specs.Ordering.{MatchOrdering}
 use Rattle.std.proofs.lemmas.Bool.{ltb-true, lt-ltb}
 use Rattle.std.proofs.lemmas.Cmp.{ranked}
 use Rattle.std.proofs.lemmas.List.Sorted.{IsPermutation-reverse, ranks_by, sorted_far}

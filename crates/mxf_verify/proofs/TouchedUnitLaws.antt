@@ -1,5 +1,5 @@
 -- Going through places finds the units that a note has a byte of, and there is one answer.
-use Rattle.mxf_views.proofs.Common.{◌≡◌, ◌∙◌, ◌⊎◌, ◌<◌, ◌≤◌, ℕ, Bool, true, false, cond, List, [], ◌∷◌, Option, None}
+use Rattle.mxf_views.proofs.Common.{◌≡◌, ◌⊎◌, ◌<◌, ◌≤◌, ℕ, Bool, true, false, cond, List, [], ◌∷◌, Option, None}
 use Rattle.mxf_views.proofs.Common.{Some, arith, inl, inr, max, min, refl, subst, sym, and_cases, and_parts, eqb-false}
 use Rattle.mxf_views.proofs.Common.{ltb-false, or_cases, or_parts, covered_end, NoteParts, In}
 use Rattle.std.proofs.lemmas.Bool.{cases_eq, eqb-true, ltb-true}

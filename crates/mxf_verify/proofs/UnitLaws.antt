@@ -1,11 +1,11 @@
 -- Edit units beside sources stand in one list of runs, and a note has one first and one last of them at most.
-use Rattle.mxf_views.proofs.Common.{◌≡◌, ◌∙◌, ◌<◌, ◌≤◌, ◌+◌, ℕ, List, [], ◌∷◌, Option, None, Some, refl, sym, subst}
+use Rattle.mxf_views.proofs.Common.{◌≡◌, ◌∙◌, ◌≤◌, ◌+◌, ℕ, List, [], ◌∷◌, Option, None, Some, refl, sym, subst}
 use Rattle.mxf_views.proofs.Common.{inl, inr, arith, cases_lt, NoteParts, SameMembers}
 use Rattle.mxf_catalogue.specs.declared.run.Run.{Run}
-use Rattle.mxf_units.specs.Units.{UnitsParts, unit_of}
+use Rattle.mxf_units.specs.Units.{UnitsParts}
 use Rattle.mxf_units.specs.declared.standing.UnitStanding.{UnitStanding}
 use Rattle.mxf_units.specs.declared.unit.Extent.{Extent}
-use Rattle.mxf_verify.specs.Fixities.{AreUnitRuns, AreUnitsOf, AreVerifiedUnits, IsFirstTouched, IsFixityBy, IsFixityOf}
+use Rattle.mxf_verify.specs.Fixities.{AreUnitRuns, AreUnitsOf, AreVerifiedUnits, IsFirstTouched, IsFixityBy}
 use Rattle.mxf_verify.specs.Fixities.{IsLastTouched, VerifiedUnitsParts}
 use Rattle.mxf_verify.specs.declared.fixity.UnitFixity.{UnitFixity}
 use Rattle.mxf_verify.specs.declared.unit_places.UnitPlace.{UnitPlace}

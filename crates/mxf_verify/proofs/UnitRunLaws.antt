@@ -1,5 +1,5 @@
 -- Edit units as they are gathered in runs, and their places.
-use Rattle.mxf_views.proofs.Common.{◌≡◌, ◌∙◌, ◌<◌, ◌≤◌, ◌+◌, ◌-◌, ◌^◌, ◌++◌, ◌∷◌, ℕ, suc, Bool, true, false, List, []}
+use Rattle.mxf_views.proofs.Common.{◌≡◌, ◌∙◌, ◌<◌, ◌≤◌, ◌+◌, ◌-◌, ◌^◌, ◌++◌, ◌∷◌, ℕ, suc, Bool, true, List, []}
 use Rattle.mxf_views.proofs.Common.{Option, None, Some, refl, sym, ap, subst, inl, inr, append_assoc, arith, cond, drop}
 use Rattle.mxf_views.proofs.Common.{filter, filter_map, get_or, length, AllByRecursion, cons_option, range_with_len}
 use Rattle.mxf_views.proofs.Common.{cases_lt, at_drop_more, In-at, all-In}

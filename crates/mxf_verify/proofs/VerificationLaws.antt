@@ -13,7 +13,7 @@ use Rattle.mxf_verify.specs.Verifications.{VerificationParts, differing_in}
 use Rattle.mxf_verify.specs.VerificationLaws.{AreAllClear, SaysSame}
 use Rattle.mxf_verify.specs.Verifying.{DiffersIn, IsAmong, IsByteOf, IsCompared, IsCut, IsDiffering, IsDifferingByte}
 use Rattle.mxf_verify.specs.Verifying.{IsHeldBy, IsSaidBy, IsSameIn, IsUnknownByte, IsUnverifiedByte, IsVerified}
-use Rattle.mxf_verify.specs.Verifying.{IsVerifiedByte, Source, TouchesIn, held_in, held_size, is_digested, Bytes}
+use Rattle.mxf_verify.specs.Verifying.{IsVerifiedByte, Source, held_in, held_size, is_digested, Bytes}
 use Rattle.mxf_verify.proofs.KnownLaws.{or_not}
 use Rattle.mxf_verify.proofs.RangeLaws.{lies_or_not}
 use Rattle.mxf_verify.proofs.SaidLaws.{said_told}

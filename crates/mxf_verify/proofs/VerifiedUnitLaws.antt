@@ -1,10 +1,10 @@
 -- The bytes of verified units.
-use Rattle.mxf_views.proofs.Common.{◌≡◌, ◌+◌, ◌≤◌, ℕ, List, [], ◌∷◌, None, Some, inl, inr, refl, sym, subst, arith}
+use Rattle.mxf_views.proofs.Common.{◌≡◌, ◌+◌, ◌≤◌, ℕ, List, [], ◌∷◌, inl, inr, subst, arith}
 use Rattle.mxf_views.proofs.Common.{NoteParts, In, LiesIn}
 use Rattle.mxf_catalogue.specs.declared.run.Run.{Run}
 use Rattle.mxf_units.specs.Units.{UnitsParts, unit_of}
 use Rattle.mxf_units.specs.declared.unit.EditUnit.{EditUnit}
-use Rattle.mxf_verify.specs.Fixities.{AreUnitRuns, AreVerifiedUnits, HasEachByte, IsFixityBy, IsFixityOf}
+use Rattle.mxf_verify.specs.Fixities.{AreUnitRuns, AreVerifiedUnits, HasEachByte, IsFixityOf}
 use Rattle.mxf_verify.specs.Fixities.{VerifiedUnitsParts}
 use Rattle.mxf_verify.specs.Verifications.{IsVerification, VerificationParts}
 use Rattle.mxf_verify.specs.Verifying.{IsVerifiedByte, Source}

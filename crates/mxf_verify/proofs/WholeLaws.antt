@@ -1,5 +1,5 @@
 -- All packets of a file beside the bytes of one source.
-use Rattle.mxf_views.proofs.Common.{◌≡◌, ◌≢◌, ◌↔◌, ◌+◌, ◌<◌, ◌≤◌, ◌∙◌, ℕ, true, List, [], ◌∷◌, length, refl, sym, ap}
+use Rattle.mxf_views.proofs.Common.{◌≡◌, ◌≢◌, ◌↔◌, ◌+◌, ◌<◌, ◌≤◌, ◌∙◌, ℕ, true, List, [], ◌∷◌, length, refl, ap}
 use Rattle.mxf_views.proofs.Common.{subst, inl, inr, arith, cond, cases_lt, AreBytes, IsCovered, IsNote, covered_end}
 use Rattle.mxf_views.proofs.Common.{end_of, greatest_end, NoteParts, notes_in, stop_in, In, all-In, Contains-from_In}
 use Rattle.mxf_views.proofs.Common.{AreApart, IsClear, clear_notes, AreMaximal, LiesIn, same_content, In-clear_notes}
@@ -8,7 +8,7 @@ use Rattle.mxf_klv.specs.declared.piece.Stop.TheVariants.{End}
 use Rattle.mxf_catalogue.specs.declared.run.Run.{Run}
 use Rattle.mxf_verify.specs.VerificationLaws.{IsWholeReference, SaysWhole}
 use Rattle.mxf_verify.specs.Verifications.{AreRunsOf, IsCountOf, IsVerification, VerificationParts}
-use Rattle.mxf_verify.specs.Verifying.{DiffersIn, IsByteOf, IsDiffering, IsHeldBy, IsSameIn, IsVerified, Source, Bytes}
+use Rattle.mxf_verify.specs.Verifying.{IsByteOf, IsDiffering, IsHeldBy, IsSameIn, IsVerified, Source, Bytes}
 use Rattle.mxf_verify.proofs.ComparingLaws.{holds_first}
 use Rattle.mxf_verify.proofs.VerificationLaws.{clear_one, held_so}
 use Rattle.mxf_verify.proofs.WholePackets.{AreNotesLaid, laid_end, laid_end_each, laid_end_within, read_all, read_said}

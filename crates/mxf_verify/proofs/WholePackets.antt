@@ -1,9 +1,9 @@
 -- The packets of bytes, and the notes of a reference that says what they are.
-use Rattle.mxf_views.proofs.Common.{◌≡◌, ◌+◌, ◌-◌, ◌<◌, ◌≤◌, ◌∙◌, ℕ, true, ◌&&◌, List, [], ◌∷◌, ◌++◌, Some, length}
+use Rattle.mxf_views.proofs.Common.{◌≡◌, ◌+◌, ◌-◌, ◌<◌, ◌≤◌, ◌∙◌, ℕ, true, List, [], ◌∷◌, ◌++◌, Some, length}
 use Rattle.mxf_views.proofs.Common.{take, drop, cond, refl, sym, ap, subst, inl, inr, arith, append_assoc, cases_lt}
 use Rattle.mxf_views.proofs.Common.{drop_all, drop-drop, drop_at, length-take, take-append-drop, take_at}
 use Rattle.mxf_views.proofs.Common.{IsSpelledLength, length_bytes, AreBytes, IsCovered, IsNote, end_of, greatest_end}
-use Rattle.mxf_views.proofs.Common.{keeps, keeps_value, note_of, IsSpelledPacket, size_of, NoteParts, PacketParts}
+use Rattle.mxf_views.proofs.Common.{keeps, note_of, IsSpelledPacket, size_of, NoteParts, PacketParts}
 use Rattle.mxf_views.proofs.Common.{packet_parts, AreLaid, end_after, notes_from, head_at, heads_at, notes_in}
 use Rattle.mxf_views.proofs.Common.{packet_at, packets_in, rest_in, stop_in, stop_of, In, spelled_len, ends_at, goes_on}
 use Rattle.mxf_views.proofs.Common.{length-spelled, none_at_end, packet_at-given, some_piece, length_bytes-spelled}
@@ -15,7 +15,7 @@ use Rattle.sha2.specs.Sha256.{sha256}
 use Rattle.mxf_klv.specs.NoteOrder.{same_parts}
 use Rattle.mxf_klv.proofs.StopLaws.{one_stop_in}
 use Rattle.mxf_klv.proofs.RoundTrips.{AreBytes-drop, AreBytes-take}
-use Rattle.mxf_verify.specs.Verifying.{IsAmong, IsSaidBy, IsValueOf, front_size, held_in, held_size}
+use Rattle.mxf_verify.specs.Verifying.{IsAmong, IsSaidBy, front_size, held_in, held_size}
 
 -- ---- what a note says of bytes is a packet
 

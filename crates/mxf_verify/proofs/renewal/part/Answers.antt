@@ -1,5 +1,5 @@
-use Rattle.mxf_views.proofs.Common.{◌≡◌, ◌∙◌, ◌+◌, ◌++◌, ◌∷◌, [], Bool, List, true, false, ap, append-nil, append_assoc}
-use Rattle.mxf_views.proofs.Common.{arith, length, refl, sym, NoteParts, reduced_union}
+use Rattle.mxf_views.proofs.Common.{◌≡◌, ◌+◌, ◌++◌, ◌∷◌, [], Bool, List, true, false, append-nil, append_assoc}
+use Rattle.mxf_views.proofs.Common.{arith, length, refl, NoteParts, reduced_union}
 use mathlib.Core.Bool.{cond}
 use Rattle.mxf_verify.specs.Renewing.{added_of, dropped_essence, dropped_of, had_essence}
 use Rattle.mxf_verify.proofs.AnotherLaws.{dropped-one, dropped-step, had-one, had-step}

@@ -1,4 +1,4 @@
-use Rattle.mxf_views.proofs.Common.{◌∙◌, ap, arith, subst, sym, AllByRecursion, IsRun}
+use Rattle.mxf_views.proofs.Common.{arith}
 use Rattle.mxf_places.specs.Held.{bytes_of}
 use Rattle.mxf_places.proofs.ByteLaws.{bytes_within, runs_of_cover}
 use Rattle.mxf_verify.proofs.verification.bytes_in.Goals as goal

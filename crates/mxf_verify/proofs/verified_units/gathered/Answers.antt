@@ -1,4 +1,4 @@
-use Rattle.std.proofs.Common.{◌≡◌, ◌∙◌, ◌++◌, ◌+◌, ◌≤◌, [], List, ap, arith, refl, subst, sym, ℕ}
+use Rattle.std.proofs.Common.{◌∙◌, ◌++◌, ◌+◌, ◌≤◌, [], List, ap, arith, refl, subst, sym, ℕ}
 use Rattle.std.specs.List.{cons_option}
 use Rattle.mxf_catalogue.specs.declared.run.Run.{Run}
 use Rattle.mxf_units.specs.Units.{UnitsParts, unit_of}

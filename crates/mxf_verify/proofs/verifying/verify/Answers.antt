@@ -1,6 +1,6 @@
-use Rattle.mxf_views.proofs.Common.{◌≡◌, ◌∙◌, ◌<◌, List, arith, length, subst, sym, into_iter_items}
-use Rattle.mxf_read.proofs.GatheringLaws.{IsPassed, passed_none, passed_one, passed_within, told}
-use Rattle.mxf_verify.proofs.VerifyingLaws.{HasSeen, seen_all, seen_fault, seen_nothing, seen_one}
+use Rattle.mxf_views.proofs.Common.{◌≡◌, ◌∙◌, ◌<◌, arith, length, sym, into_iter_items}
+use Rattle.mxf_read.proofs.GatheringLaws.{passed_none, passed_one, passed_within, told}
+use Rattle.mxf_verify.proofs.VerifyingLaws.{seen_all, seen_fault, seen_nothing, seen_one}
 use Rattle.mxf_verify.proofs.verifying.verify.Goals as goal
 
 pub parts-init : goal.parts-init

@@ -1,4 +1,4 @@
-use Rattle.mxf_views.proofs.Common.{◌+◌, sym, subst, ap, ◌∙◌, length, arith, IsNonDecreasingBy}
+use Rattle.mxf_views.proofs.Common.{◌+◌, sym, subst, ◌∙◌, length, arith}
 use Rattle.mxf_verify.specs.Candidates.{AreSettled, notes_of, offset_of}
 use Rattle.mxf_verify.proofs.CandidateLaws.{notes_compared, rises_compared, settled_compared}
 use Rattle.mxf_verify.proofs.comparison.Comparison.take.Goals as goal

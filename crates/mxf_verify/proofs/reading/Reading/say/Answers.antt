@@ -1,4 +1,4 @@
-use Rattle.mxf_views.proofs.Common.{◌+◌, ◌≡◌, ◌<◌, IsTrue, List, get_or, length, ap, arith, false, refl, subst, sym, ◌∙◌, AllWithin}
+use Rattle.mxf_views.proofs.Common.{◌+◌, ◌≡◌, ◌<◌, IsTrue, List, get_or, length, ap, arith, false, refl, subst, ◌∙◌, AllWithin}
 use Rattle.mxf_views.proofs.Common.{NoteParts, bytes_eq}
 use denote.Bor.{Bor}
 use Rattle.mxf_verify.specs.Candidates.{notes_of}

@@ -1,5 +1,4 @@
-use Rattle.std.proofs.Common.{◌≡◌, ◌∙◌, ◌++◌, ap, arith, length, subst, sym}
-use Rattle.std.specs.Result.{OnOk}
+use Rattle.std.proofs.Common.{◌∙◌, ◌++◌, ap, arith, length, sym}
 use Rattle.std.proofs.lemmas.List.{append-nil}
 use Rattle.std.proofs.lemmas.Result.{on_ok_weaker}
 use Rattle.mxf_catalogue.specs.Content.{has_note, reduced_union, reduced_with}
