@@ -3,7 +3,7 @@ use Rattle.mxf_views.proofs.Common.{◌≡◌, ◌∙◌, ◌≤◌, ◌<◌, �
 use Rattle.mxf_views.proofs.Common.{[], ◌∷◌, ◌==◌, Option, None, Some, ap, arith, cond, eqb-true, filter, find, inl}
 use Rattle.mxf_views.proofs.Common.{inr, length, length-append, refl, subst, sym, and_parts, cases_lt, leb-true}
 use Rattle.mxf_views.proofs.Common.{same_Some, option_map_or, NoteParts, PacketParts, IsInSpan, covered_end, end_of}
-use Rattle.mxf_views.proofs.Common.{head_note, note_of, packet_parts, size_of, AreLaid, end_after, notes_from, rest_in}
+use Rattle.mxf_views.proofs.Common.{head_note, note_of, packet_parts, size_of, AreLaid, notes_from, rest_in}
 use Rattle.mxf_views.proofs.Common.{In, In-append}
 use Rattle.mxf_views.proofs.Common.{In-filter, In-flat_map, In-map, found-In, length-spelled, some_piece, end_up}
 use Rattle.mxf_views.proofs.Common.{AreReduced, IsContent, reduced_union, IsClear, SharesByte, after}
@@ -14,13 +14,12 @@ use Rattle.mxf_catalogue.proofs.PartLaws.{with_whole}
 use Rattle.mxf_hand.specs.Given.{bytes_between}
 use Rattle.mxf_hand.specs.Noting.{cut_heads, packet_notes}
 use Rattle.mxf_read.proofs.Pieces.{head_begins, heads_few}
-use Rattle.mxf_places.specs.AtHand.{LiesInRange, up_to_bound}
+use Rattle.mxf_places.specs.AtHand.{LiesInRange}
 use Rattle.mxf_places.specs.Heads.{heads_to, is_head_to, start_of}
 use Rattle.mxf_restore.specs.Sections.{AreSections, sections_of}
 use Rattle.mxf_restore.specs.declared.section.Section.{Section}
 use Rattle.mxf_restore.proofs.SectionCover.{are_sections}
 use Rattle.mxf_hand.specs.Hand.{HandBytes, is_value_at_hand, packet_of, read_bytes, read_heads, read_packets, read_to}
-use Rattle.mxf_hand.specs.Hand.{run_end}
 use Rattle.mxf_hand.specs.Heads.{fits, fitting}
 use Rattle.mxf_hand.specs.Rounds.{heads_taken, is_taken, made_in, packets_in, put_together, read_heads_in}
 use Rattle.mxf_hand.specs.Rounds.{read_heads_of, read_in, round, rounds, taken_in}

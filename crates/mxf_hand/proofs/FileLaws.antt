@@ -1,9 +1,9 @@
 -- Of a file's bytes only packets of the file are put together.
 use Rattle.mxf_views.proofs.Common.{◌≡◌, ◌∙◌, ◌≤◌, ◌<◌, ◌+◌, ◌-◌, ◌&&◌, ◌++◌, ℕ, zero, suc, true, false, not, List, []}
-use Rattle.mxf_views.proofs.Common.{◌∷◌, ◌==◌, Option, None, Some, ap, arith, cond, drop, filter, inl, inr, length}
-use Rattle.mxf_views.proofs.Common.{append_assoc, get_or, length-append, map, nat_lt, refl, subst, sym, take}
+use Rattle.mxf_views.proofs.Common.{◌∷◌, ◌==◌, Option, Some, ap, arith, cond, drop, filter, inl, inr, length}
+use Rattle.mxf_views.proofs.Common.{append_assoc, get_or, length-append, map, refl, subst, sym, take}
 use Rattle.mxf_views.proofs.Common.{take-append_seam, and_parts, cases_lt, length-map-range_with_len, same_Some}
-use Rattle.mxf_views.proofs.Common.{slice_get-get_or, slice_get, range_with_len, option_map_or, LengthParts, NoteParts}
+use Rattle.mxf_views.proofs.Common.{slice_get-get_or, slice_get, range_with_len, LengthParts, NoteParts}
 use Rattle.mxf_views.proofs.Common.{PacketParts, head_parts, packet_parts, BeginsWithKeyAndLength, covered_end, end_of}
 use Rattle.mxf_views.proofs.Common.{head_note, note_of, size_of, AreLaid, BeginsWithCut, end_after, notes_from, rest_in}
 use Rattle.mxf_views.proofs.Common.{In, spelled_len, In-append, In-filter, In-flat_map, In-map, notes_from-append, seam}
@@ -23,7 +23,7 @@ use Rattle.mxf_places.specs.Heads.{heads_to, is_head_to, start_of}
 use Rattle.mxf_restore.specs.Sections.{sections_of}
 use Rattle.mxf_restore.specs.declared.section.Section.{Section}
 use Rattle.mxf_hand.specs.File.{AreBytesOfFile, AreOfFile, BeginAtPackets, IsAllAtHand, IsBoundary, IsOfFile}
-use Rattle.mxf_hand.specs.Hand.{HandBytes, is_value_at_hand, packet_of, read_bytes, read_heads, read_packets, read_to}
+use Rattle.mxf_hand.specs.Hand.{HandBytes, is_value_at_hand, packet_of, read_bytes, read_packets, read_to}
 use Rattle.mxf_hand.specs.Heads.{fits, fitting}
 use Rattle.mxf_hand.specs.Rounds.{heads_taken, is_taken, made_in, packets_in, put_together, read_heads_in}
 use Rattle.mxf_hand.specs.Rounds.{read_heads_of, read_in, round, rounds, taken_in}

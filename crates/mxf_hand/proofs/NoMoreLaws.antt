@@ -5,17 +5,16 @@ use Rattle.mxf_views.proofs.Common.{range_with_len, option_map_or, NoteParts, Pa
 use Rattle.mxf_views.proofs.Common.{notes_from, head_at, heads_at, In, filter_none, find-none, none_at_end}
 use Rattle.mxf_views.proofs.Common.{packets_in-none, rest_in-none, reduced_union, is_whole, IsContent-laid}
 use Rattle.mxf_klv.specs.PieceReading.{packets_in as packets_of_piece}
-use Rattle.mxf_hand.specs.Noting.{cut_heads, packet_notes}
+use Rattle.mxf_hand.specs.Noting.{cut_heads}
 use Rattle.mxf_places.specs.Heads.{heads_to, is_head_to, start_of}
 use Rattle.mxf_restore.specs.Sections.{AreSections, sections_of}
 use Rattle.mxf_restore.specs.declared.section.Section.{Section}
 use Rattle.mxf_restore.proofs.SectionCover.{are_sections}
 use Rattle.mxf_hand.specs.File.{AreBytesOfFile}
-use Rattle.mxf_hand.specs.Hand.{HandBytes, read_bytes, read_heads, read_packets, read_to}
+use Rattle.mxf_hand.specs.Hand.{HandBytes, read_bytes, read_to}
 use Rattle.mxf_hand.specs.Heads.{fits, fitting}
-use Rattle.mxf_hand.specs.Rounds.{is_taken, read_heads_of, read_in, round, taken_in}
+use Rattle.mxf_hand.specs.Rounds.{read_heads_of, round, taken_in}
 use Rattle.mxf_hand.specs.Sections.{from_of, made_by, made_of, packets_of, read_from}
-use Rattle.mxf_hand.specs.declared.found.CutHead.{CutHead}
 use Rattle.mxf_hand.proofs.HandLaws.{read_lies}
 use Rattle.mxf_hand.proofs.ScanLaws.{none_noted}
 use Rattle.std.proofs.lemmas.Bool.{not-true}

@@ -1,7 +1,7 @@
 -- What bytes that were read make: the packet of a head, and the reading of a piece.
-use Rattle.mxf_views.proofs.Common.{◌≡◌, ◌+◌, ◌++◌, ◌∙◌, ℕ, Bool, List, Option, Some, false, sym, ap, subst, arith}
+use Rattle.mxf_views.proofs.Common.{◌≡◌, ◌+◌, ◌++◌, ℕ, Bool, List, Option, Some, false, sym, ap, subst, arith}
 use Rattle.mxf_views.proofs.Common.{length, length-append, CanSpell, LengthParts, NoteParts, packet_parts, IsNote}
-use Rattle.mxf_views.proofs.Common.{covered_end, end_of, note_of, heads_at, rest_in}
+use Rattle.mxf_views.proofs.Common.{covered_end, end_of, note_of}
 use Rattle.std.specs.Prelude.{if◌then◌else◌}
 use Rattle.std.specs.Option.{SomeIff}
 use Rattle.mxf_read.specs.Coming.{HasTaken, IsSamePacket}

@@ -1,6 +1,6 @@
 -- Where the packets of a file lie, and what notes of the file that share a byte are.
 use Rattle.mxf_views.proofs.Common.{◌≡◌, ◌∙◌, ◌⊎◌, ◌≤◌, ◌<◌, ◌+◌, ◌++◌, ℕ, List, [], ◌∷◌, ap, arith, drop, inl, inr}
-use Rattle.mxf_views.proofs.Common.{length, false, length-append, refl, subst, sym, take, true, take-append-le, take_at}
+use Rattle.mxf_views.proofs.Common.{length, false, length-append, refl, sym, take, true, take-append-le, take_at}
 use Rattle.mxf_views.proofs.Common.{NoteParts, PacketParts, end_of, head_note, note_of, size_of, AreLaid, end_after}
 use Rattle.mxf_views.proofs.Common.{notes_from, In, In-append, notes_from-append, length-spelled, after, apart}
 use Rattle.mxf_views.proofs.Common.{is_whole}

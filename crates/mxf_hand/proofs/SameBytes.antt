@@ -1,22 +1,21 @@
 -- What is put together depends on the bytes at hand alone.
-use Rattle.mxf_views.proofs.Common.{◌≡◌, ◌∙◌, ◌≤◌, ◌<◌, ◌+◌, ◌-◌, ◌&&◌, ◌||◌, ◌==◌, ◌++◌, ℕ, zero, suc, Bool, true}
-use Rattle.mxf_views.proofs.Common.{false, List, [], ◌∷◌, Option, None, Some, ap, arith, cond, filter, flat_map, get_or}
+use Rattle.mxf_views.proofs.Common.{◌≡◌, ◌∙◌, ◌≤◌, ◌<◌, ◌+◌, ◌-◌, ◌&&◌, ◌++◌, ℕ, zero, suc, Bool, true}
+use Rattle.mxf_views.proofs.Common.{false, List, [], ◌∷◌, Option, None, Some, ap, arith, cond, filter, flat_map}
 use Rattle.mxf_views.proofs.Common.{map, nat_lt, not, refl, subst, sym, list_all, range_with_len, option_map_or}
 use Rattle.mxf_views.proofs.Common.{NoteParts, packet_parts, covered_end, end_of, note_of, SameMembers, filter_alike}
 use Rattle.mxf_views.proofs.Common.{reduced_union, IsCover, LiesIn}
 use Rattle.mxf_catalogue.specs.declared.run.Run.{Run}
 use Rattle.mxf_hand.specs.Given.{Differ, IsAtHand, IsDiffering, IsGivenAs, SourceParts, bytes_between}
-use Rattle.mxf_hand.specs.Noting.{cut_heads, packet_notes}
-use Rattle.mxf_places.specs.AtHand.{has_offset, has_offsets}
+use Rattle.mxf_places.specs.AtHand.{has_offsets}
 use Rattle.mxf_places.proofs.AtHandLaws.{has_offset-says, has_offsets-says}
 use Rattle.mxf_places.specs.Heads.{start_of}
 use Rattle.mxf_restore.specs.Sections.{sections_of}
 use Rattle.mxf_restore.specs.declared.section.Section.{Section}
-use Rattle.mxf_hand.specs.Hand.{AreOf, HandBytes, is_value_at_hand, packet_of, read_bytes, read_heads, read_packets}
+use Rattle.mxf_hand.specs.Hand.{AreOf, HandBytes, is_value_at_hand, packet_of, read_bytes}
 use Rattle.mxf_hand.specs.Hand.{read_to}
 use Rattle.mxf_hand.specs.Heads.{fits, fitting}
 use Rattle.mxf_hand.specs.Rounds.{is_taken, put_together, read_heads_in, read_heads_of, round, rounds}
-use Rattle.mxf_hand.specs.Sections.{ends_within, from_of, heads_of, made_by, made_of, made_of_head, only, packets_of}
+use Rattle.mxf_hand.specs.Sections.{ends_within, from_of, heads_of, made_of, made_of_head, packets_of}
 use Rattle.mxf_hand.specs.Sections.{read_from}
 use Rattle.mxf_hand.specs.declared.found.CutHead.{CutHead}
 use Rattle.mxf_hand.proofs.HandLaws.{one_hand, read_lies}

@@ -1,5 +1,5 @@
 -- For which stops of pieces what is held makes up.
-use Rattle.mxf_views.proofs.Common.{◌≡◌, ◌↔◌, ◌∙◌, ℕ, ◌+◌, ◌<◌, ◌≤◌, ◌==◌, ◌&&◌, Bool, true, false, IsTrue, not, nat_lt}
+use Rattle.mxf_views.proofs.Common.{◌≡◌, ◌↔◌, ◌∙◌, ℕ, ◌+◌, ◌<◌, ◌≤◌, ◌==◌, Bool, true, false, IsTrue, not, nat_lt}
 use Rattle.mxf_views.proofs.Common.{List, Option, Some, None, arith, ap, eq-eqb, eqb-true, find, inl, inr, refl, subst}
 use Rattle.mxf_views.proofs.Common.{sym, lt-ltb, [], ◌∷◌, count_by, filter, length, ltb-true, map, IsNonDecreasingBy}
 use Rattle.mxf_views.proofs.Common.{get_or-map, length-map, range_with_len, option_map_or, and_from, and_parts}

@@ -1,4 +1,4 @@
-use Rattle.std.proofs.Common.{◌+◌, ◌++◌, ℕ, arith, length, length-take, subst, take}
+use Rattle.std.proofs.Common.{◌+◌, ◌++◌, ℕ, arith, length-take, subst, take}
 use Rattle.std.proofs.lemmas.List.{take-append-le}
 use Rattle.mxf_read.specs.Feeding.{Feeds}
 use Rattle.mxf_hand.specs.Given.{bytes_between}
