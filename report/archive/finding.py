@@ -7,7 +7,7 @@ import sqlite3
 from collections.abc import Sequence
 
 from archive import database, printing, timecodes
-from archive.answering import Answer
+from archive.answering import Answer, answer_of
 from archive.texts import words_of
 from archive.words import Words
 
@@ -32,9 +32,9 @@ ORDER BY r.name, h.number
 
 # Texts with a word that begins so: from it up to what comes after all of these.
 BY_WORD = "SELECT text FROM words WHERE word >= ? AND word < ?"
-OF_TEXT = """
+OF_TEXTS = """
 SELECT r.name AS recording, 'name of ' || t.what AS what, t.text
-FROM texts t JOIN recordings r ON r.id = t.recording WHERE t.id = ?
+FROM texts t JOIN recordings r ON r.id = t.recording WHERE t.id IN
 """
 AFTER_ALL = "\U0010ffff"
 
@@ -78,9 +78,11 @@ def found_by_umid(connection: sqlite3.Connection, digits: str) -> Found:
 
 def found_by_words(connection: sqlite3.Connection, words: Sequence[str]) -> Found:
     """Texts that have, for each of the words, one that begins with it."""
-    each = [{row["text"] for row in connection.execute(BY_WORD, (word, word + AFTER_ALL))} for word in words]
-    texts = set.intersection(*each) if each else set()
-    return {tuple(row) for text in texts for row in connection.execute(OF_TEXT, (text,))}
+    if not words:
+        return set()
+    question = f"{OF_TEXTS} ({' INTERSECT '.join([BY_WORD] * len(words))})"
+    values = [value for word in words for value in (word, word + AFTER_ALL)]
+    return set(answer_of(connection, question, values)[1])
 
 
 def found_by_timecode(connection: sqlite3.Connection, timecode: str) -> Found:

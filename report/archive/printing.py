@@ -3,7 +3,7 @@ from __future__ import annotations
 
 import sys
 from collections.abc import Collection, Iterable, Sequence
-from itertools import groupby
+from itertools import groupby, repeat
 
 # Characters of control, line ends of Unicode, and marks of direction: a terminal may obey them. Each is shown as ?.
 CONTROL = dict.fromkeys((*range(0x20), *range(0x7F, 0xA0), *range(0x2028, 0x202F), *range(0x2066, 0x206A)), "?")
@@ -23,18 +23,29 @@ def shown(text: str) -> str:
     return text if text.isprintable() else text.translate(CONTROL)
 
 
-def laid_out(head: str, column: Cells) -> list[str]:
+def print_texts(_: Iterable[str], texts: list[str]) -> None:
+    """Prints texts, each on a line of its own."""
+    for start in range(0, len(texts), BLOCK):
+        sys.stdout.write("\n".join(texts[start : start + BLOCK]) + "\n")
+
+
+def texts_of(values: Cells) -> Cells:
+    """Values as texts that can be printed, - if there is none."""
+    texts = ["-" if value is None else str(value) for value in values]
+    return texts if all(map(str.isprintable, texts)) else list(map(shown, texts))
+
+
+def laid_out(head: str, column: Cells) -> Iterable[str]:
     """A head and the cells below it as texts, each as wide as the widest, with numbers on the right."""
-    texts = [head, *map(cell, column)]
-    width = max(map(len, texts))
+    texts = [head, *texts_of(column)]
     side = str.rjust if int in map(type, column) else str.ljust
-    return [side(text, width) for text in texts]
+    return map(side, texts, repeat(max(map(len, texts))))
 
 
 def print_table(heads: Sequence[str], rows: Iterable[Cells]) -> None:
     """Prints columns side by side. Nothing stands after the last one."""
     columns = map(laid_out, heads, list(zip(*rows)) or [()] * len(heads))
-    sys.stdout.writelines("  ".join(cells).rstrip() + "\n" for cells in zip(*columns))
+    print_texts(heads, list(map(str.rstrip, map("  ".join, zip(*columns)))))
 
 
 def print_csv(heads: Sequence[str], rows: Iterable[Cells]) -> None:
@@ -82,15 +93,9 @@ def print_arrays(heads: Collection[str], arrays: list[str]) -> None:
             csv.writer(sys.stdout).writerows(json.loads(f"[{','.join(group)}]"))
 
 
-def print_texts(_: Iterable[str], texts: list[str]) -> None:
-    """Prints texts, each on a line of its own."""
-    for start in range(0, len(texts), BLOCK):
-        sys.stdout.write("\n".join(texts[start : start + BLOCK]) + "\n")
-
-
 def print_laid_out(heads: Iterable[str], lines: list[str]) -> None:
     """Prints the lines of a table, the heads among them."""
-    print_texts(heads, lines if all(map(str.isprintable, lines)) else list(map(shown, lines)))
+    print_texts(heads, texts_of(lines))
 
 
 MADE = {"table": print_laid_out, "csv": print_arrays, "json": print_texts}
