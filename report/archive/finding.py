@@ -34,7 +34,7 @@ ORDER BY r.name, h.number
 BY_WORD = "SELECT text FROM words WHERE word >= ? AND word < ?"
 OF_TEXTS = """
 SELECT r.name AS recording, 'name of ' || t.what AS what, t.text
-FROM texts t JOIN recordings r ON r.id = t.recording WHERE t.id IN
+FROM texts t JOIN recordings r ON r.id = t.recording WHERE t.id IN (SELECT value FROM json_each(?))
 """
 AFTER_ALL = "\U0010ffff"
 
@@ -78,11 +78,9 @@ def found_by_umid(connection: sqlite3.Connection, digits: str) -> Found:
 
 def found_by_words(connection: sqlite3.Connection, words: Sequence[str]) -> Found:
     """Texts that have, for each of the words, one that begins with it."""
-    if not words:
-        return set()
-    question = f"{OF_TEXTS} ({' INTERSECT '.join([BY_WORD] * len(words))})"
-    values = [value for word in words for value in (word, word + AFTER_ALL)]
-    return set(answer_of(connection, question, values)[1])
+    each = [set(answer_of(connection, BY_WORD, (word, word + AFTER_ALL))[1]) for word in words]
+    texts = set.intersection(*each) if each else set()
+    return set(answer_of(connection, OF_TEXTS, (f"[{','.join(str(text) for text, in texts)}]",))[1])
 
 
 def found_by_timecode(connection: sqlite3.Connection, timecode: str) -> Found:
