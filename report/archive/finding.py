@@ -32,6 +32,7 @@ ORDER BY r.name, h.number
 
 # Texts with a word that begins so: from it up to what comes after all of these.
 BY_WORD = "SELECT text FROM words WHERE word >= ? AND word < ?"
+# Of an array of texts by their numbers: SQLite bounds how many values or questions one question has, and no array.
 OF_TEXTS = """
 SELECT r.name AS recording, 'name of ' || t.what AS what, t.text
 FROM texts t JOIN recordings r ON r.id = t.recording WHERE t.id IN (SELECT value FROM json_each(?))

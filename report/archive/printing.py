@@ -23,7 +23,7 @@ def shown(text: str) -> str:
     return text if text.isprintable() else text.translate(CONTROL)
 
 
-def print_texts(_: Iterable[str], texts: list[str]) -> None:
+def print_texts(texts: Cells) -> None:
     """Prints texts, each on a line of its own."""
     for start in range(0, len(texts), BLOCK):
         sys.stdout.write("\n".join(texts[start : start + BLOCK]) + "\n")
@@ -45,7 +45,7 @@ def laid_out(head: str, column: Cells) -> Iterable[str]:
 def print_table(heads: Sequence[str], rows: Iterable[Cells]) -> None:
     """Prints columns side by side. Nothing stands after the last one."""
     columns = map(laid_out, heads, list(zip(*rows)) or [()] * len(heads))
-    print_texts(heads, list(map(str.rstrip, map("  ".join, zip(*columns)))))
+    print_texts(list(map(str.rstrip, map("  ".join, zip(*columns)))))
 
 
 def print_csv(heads: Sequence[str], rows: Iterable[Cells]) -> None:
@@ -93,17 +93,12 @@ def print_arrays(heads: Collection[str], arrays: list[str]) -> None:
             csv.writer(sys.stdout).writerows(json.loads(f"[{','.join(group)}]"))
 
 
-def print_laid_out(heads: Iterable[str], lines: list[str]) -> None:
-    """Prints the lines of a table, the heads among them."""
-    print_texts(heads, texts_of(lines))
-
-
-MADE = {"table": print_laid_out, "csv": print_arrays, "json": print_texts}
-
-
 def print_made(form: str, heads: Collection[str], texts: list[str]) -> None:
-    """Prints rows in a form of FORMS of which each is a text already."""
-    MADE[form](heads, texts)
+    """Prints rows in a form of FORMS of which each is a text already: a line of a table, or JSON."""
+    if form == "csv":
+        print_arrays(heads, texts)
+    else:
+        print_texts(texts_of(texts) if form == "table" else texts)
 
 
 def print_parts(form: str, parts: list[object]) -> None:

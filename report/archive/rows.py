@@ -74,7 +74,8 @@ class Recording:
         return self.add(table, number=len(self.rows[table]) + 1, **row)
 
     def add_text(self, what: str, text: str | None) -> None:
-        """Adds a text by whose words the recording is found. No text of mxf_tool has a zero, at which one of C would end."""
+        """Adds a text by whose words the recording is found. No text of mxf_tool has a zero, at which SQLite would end a
+        line of a table."""
         if text and "\0" in text:
             raise ValueError("no text of mxf_tool")
         if text:
