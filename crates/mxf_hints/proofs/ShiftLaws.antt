@@ -1,5 +1,5 @@
 -- The shifts of partitions, and of contents one after another.
-use Rattle.mxf_views.proofs.Common.{◌≡◌, ◌++◌, ◌<◌, ℕ, Option, None, Some, MatchOption, List, [], ◌∷◌, arith, map}
+use Rattle.mxf_views.proofs.Common.{◌≡◌, ◌++◌, Option, None, Some, MatchOption, List, [], ◌∷◌, arith, map}
 use Rattle.mxf_views.proofs.Common.{subst, sym, list_all, NoteParts, PartitionParts, in_numbers, partitions_of}
 use Rattle.mxf_views.proofs.NumbersLaws.{all_mapped}
 use Rattle.mxf_hints.specs.declared.shift.Shift.{Shift}

@@ -6,7 +6,6 @@ use Rattle.mxf_klv.specs.Rising.{union}
 use Rattle.mxf_clocks.specs.Runs.{RunParts}
 use Rattle.mxf_units.specs.Indexes.{index_sids_of}
 use Rattle.mxf_asked.specs.Units.{timecode_in}
-use Rattle.mxf_asked.specs.declared.units.AskedUnits.{AskedUnits}
 use Rattle.mxf_asked.specs.declared.units.IndexedUnits.{IndexedUnits}
 use Rattle.mxf_hints.specs.declared.fault.RunFault.{RunFault}
 use Rattle.mxf_hints.specs.declared.fault.RunFault.TheVariants as runs

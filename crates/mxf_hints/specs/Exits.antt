@@ -1,5 +1,5 @@
 -- How a run of the program ends, and the exit statuses (this project's profile).
-use Rattle.std.specs.Prelude.{ℕ, ◌==◌, ◌&&◌, nat_lt, not, if◌then◌else◌, Bool, true, false, List, Result, Ok, Err}
+use Rattle.std.specs.Prelude.{ℕ, ◌&&◌, nat_lt, not, if◌then◌else◌, Bool, true, false, List}
 use Rattle.std.specs.List.{list_all}
 use Rattle.mxf_klv.specs.declared.piece.Stop.{Stop}
 use Rattle.mxf_klv.specs.declared.piece.Stop.TheVariants.{End, Truncated}

@@ -1,14 +1,14 @@
 -- When disputes are told beside a plan for units.
 use Rattle.mxf_views.proofs.Common.{◌≡◌, ◌≢◌, ◌↔◌, Bool, true, false, IsTrue, None, Some, if◌then◌else◌, not, refl}
 use Rattle.mxf_views.proofs.Common.{◌||◌, list_any, list_any-In, In}
-use Rattle.mxf_restore.specs.Disputes.{AreDisputes, disputes_of}
+use Rattle.mxf_restore.specs.Disputes.{disputes_of}
 use Rattle.mxf_restore.specs.declared.disputes.Disputes.{Disputes}
 use Rattle.mxf_restore.proofs.DisputesLaws.{disputes-some}
 use Rattle.mxf_units.specs.declared.standing.UnitStanding.{UnitStanding}
 use Rattle.mxf_units.specs.declared.unit.EditUnit.{EditUnit}
 use Rattle.mxf_partial.specs.Wanted.{WantedParts, notes_of, wanted_units}
 use Rattle.mxf_lines.specs.UnitLines.{is_hand, is_held}
-use Rattle.mxf_lines.specs.UnitPlanLines.{AreToldDisputes, IsOpen, is_open, told_disputes}
+use Rattle.mxf_lines.specs.UnitPlanLines.{AreToldDisputes, is_open, told_disputes}
 use Rattle.mxf_units.specs.declared.standing.UnitStanding.TheVariants as standings
 
 open-test : (s : UnitStanding) → not (is_held s || is_hand s) ≡ true → (s ≢ standings.Held) × (s ≢ standings.Hand)

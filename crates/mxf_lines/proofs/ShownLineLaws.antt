@@ -13,7 +13,7 @@ use Rattle.mxf_timed.specs.declared.timecodes.ShownEnds.{ShownEnds}
 use Rattle.mxf_timed.proofs.TimecodeLaws.{ends-same, timecode-same}
 use Rattle.mxf_verify.specs.Fixities.{fixity_name}
 use Rattle.mxf_verify.specs.declared.verified_units.UnitRun.{UnitRun}
-use Rattle.mxf_forms.specs.Forms.{Field, PrintedLine, known_member, line, number, word}
+use Rattle.mxf_forms.specs.Forms.{Field, known_member, line, number, word}
 use Rattle.mxf_lines.specs.DescriptionLines.{word_if}
 use Rattle.mxf_lines.specs.UnitLines.{AreToldTimes, entry_fields, extent_fields, extent_length, last_line, shown_fields}
 use Rattle.mxf_lines.specs.UnitLines.{unit_line, unit_lines}

@@ -11,7 +11,6 @@ use Rattle.std.specs.Option.{option_map_or, option_to_list}
 use Rattle.mxf_klv.specs.Parts.{NoteParts}
 use Rattle.mxf_sets.specs.Component.{ClipParts, TimecodeParts, FillerParts, is_drop}
 use Rattle.mxf_sets.specs.Descriptor.{DescriptorParts}
-use Rattle.mxf_sets.specs.Package.{PackageParts}
 use Rattle.mxf_sets.specs.Track.{TrackParts}
 use Rattle.mxf_sets.specs.declared.record.descriptor.PictureFields.{PictureFields}
 use Rattle.mxf_sets.specs.declared.record.descriptor.SoundFields.{SoundFields}
@@ -34,7 +33,6 @@ use Rattle.mxf_tracks.specs.declared.package.PackageAt.{PackageAt}
 use Rattle.mxf_tracks.specs.declared.package.PackageKind.{PackageKind}
 use Rattle.mxf_tracks.specs.declared.package.PackageKind.TheVariants as packages
 use Rattle.mxf_tracks.specs.declared.sequence.FoundSequence.{FoundSequence}
-use Rattle.mxf_tracks.specs.declared.sequence.SequenceAt.{SequenceAt}
 use Rattle.mxf_tracks.specs.declared.sequence.SequenceKind.{SequenceKind}
 use Rattle.mxf_tracks.specs.declared.sequence.SequenceKind.TheVariants as kinds
 use Rattle.mxf_tracks.specs.declared.target.Target.{Target}

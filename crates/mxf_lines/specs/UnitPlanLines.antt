@@ -1,5 +1,5 @@
 -- The lines of a plan for edit units (this project's profile).
-use Rattle.std.specs.Prelude.{◌≡◌, ◌≢◌, ℕ, ◌+◌, ◌==◌, ◌&&◌, ◌||◌, Bool, not, if◌then◌else◌, Option, None, List, [], ◌∷◌}
+use Rattle.std.specs.Prelude.{◌≢◌, ℕ, ◌+◌, ◌==◌, ◌&&◌, ◌||◌, Bool, not, if◌then◌else◌, Option, None, List, [], ◌∷◌}
 use Rattle.std.specs.Prelude.{◌++◌, count_by, flat_map, is_none, length, sum_by}
 use Rattle.std.specs.List.{list_any}
 use Rattle.mxf_klv.specs.Rising.{In}

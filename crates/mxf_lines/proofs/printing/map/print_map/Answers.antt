@@ -2,7 +2,6 @@ use Rattle.mxf_views.proofs.Common.{◌≡◌, ◌∙◌, ◌*◌, ◌<◌, ℕ,
 use Rattle.mxf_views.proofs.Common.{Writes}
 use Rattle.mxf_places.specs.AtHand.{KnownParts}
 use Rattle.mxf_map.specs.Map.{IsMap, MapParts}
-use Rattle.mxf_map.specs.declared.extent.MapExtent.{MapExtent}
 use Rattle.mxf_map.proofs.MarkLaws.{one_map}
 use Rattle.mxf_lines.specs.MapLines.{AreToldExtents, map_lines}
 use Rattle.mxf_lines.specs.Printing.{Prints}

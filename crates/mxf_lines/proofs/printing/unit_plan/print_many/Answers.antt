@@ -1,4 +1,4 @@
-use Rattle.std.proofs.Common.{◌≡◌, ◌∙◌, ◌==◌, ◌+◌, ◌&&◌, ℕ, IfOk, ap, if◌then◌else◌, is_none, length, subst}
+use Rattle.std.proofs.Common.{◌≡◌, ◌==◌, ◌+◌, ◌&&◌, ℕ, IfOk, if◌then◌else◌, is_none, length, subst}
 use Rattle.mxf_klv.specs.Written.{Writes}
 use Rattle.mxf_lines.specs.Printing.{Prints}
 use Rattle.mxf_lines.specs.UnitLines.{units_line}

@@ -1,4 +1,4 @@
-use Rattle.mxf_views.proofs.Common.{◌≡◌, ◌<◌, arith, length, length-append, rules, subst, err_from_is_err_and}
+use Rattle.mxf_views.proofs.Common.{◌<◌, arith, length, length-append, rules, subst, err_from_is_err_and}
 use Rattle.mxf_views.proofs.Common.{List, Writes}
 use Rattle.mxf_units.specs.Ranges.{units_from}
 use Rattle.mxf_forms.specs.Forms.{PrintedLine}

@@ -1,4 +1,4 @@
-use Rattle.std.proofs.Common.{◌≡◌, ◌∷◌, [], IfOk, subst, sym}
+use Rattle.std.proofs.Common.{◌≡◌, IfOk, subst, sym}
 use Rattle.mxf_forms.specs.Writing.{Written}
 use Rattle.mxf_lines.proofs.LineLaws.{fields_after}
 use Rattle.mxf_lines.proofs.printing.line.record.write_owned.Goals as goal
