@@ -11,19 +11,27 @@ from archive import moments
 from archive.faults import USAGE, OwnFault
 from archive.printing import number_or_none
 
-# What a list has of each recording, by its heads. Numbers stand on the right in a table.
+# What a list has of each recording, by its heads; which of that are numbers, and which may be unknown. Numbers stand on the
+# right in a table.
 LISTED = {
     "recording": "name", "name": "title", "length": "length", "timecode": "timecode", "end": "last_end",
     "missing": "last_missing", "orders": "last_orders", "findings": "last_findings", "disputes": "last_disputes",
     "verified": "nullif(verified, '')",
 }  # fmt: skip
 NUMBERS = ("end", "missing", "orders", "findings", "disputes")
+UNKNOWN = ("name", "length", "timecode", "end", "verified")
+
+
+def listed_or(none: str) -> str:
+    """The values of a list, and this text for what is unknown."""
+    return ", ".join(f"ifnull({value}, '{none}')" if head in UNKNOWN else value for head, value in LISTED.items())
+
 
 # A row of a list as the text that SQLite makes of it, by the form that is printed: a line of a table, or JSON. That takes
 # less time than to make Python's values of each.
 ROWS = {
-    "table": "printf(:layout, " + ", ".join(f"ifnull({value}, '-')" for value in LISTED.values()) + ")",
-    "csv": "json_array(" + ", ".join(f"ifnull({value}, '')" for value in LISTED.values()) + ")",
+    "table": f"printf(:layout, {listed_or('-')})",
+    "csv": f"json_array({listed_or('')})",
     "json": "json_object(" + ", ".join(f"'{head}', {value}" for head, value in LISTED.items()) + ")",
 }
 
@@ -115,7 +123,7 @@ def layout_of(connection: sqlite3.Connection) -> str:
     *columns, _ = LISTED.items()
     widest = ", ".join(f"(SELECT max(length({value})) FROM recordings)" for _, value in columns)
     (widths,) = answer_of(connection, f"SELECT {widest}")[1]
-    cells = [f"%{'' if head in NUMBERS else '-'}!{max(len(head), width or 0)}s" for (head, _), width in zip(columns, widths)]
+    cells = [f"%{'' if head in NUMBERS else '-!'}{max(len(head), width or 0)}s" for (head, _), width in zip(columns, widths)]
     return "  ".join([*cells, "%s"])
 
 

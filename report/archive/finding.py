@@ -2,9 +2,9 @@
 from __future__ import annotations
 
 import functools
-import re
 import sqlite3
-from collections.abc import Sequence
+from collections.abc import Collection, Sequence
+from itertools import groupby
 
 from archive import database, printing, timecodes
 from archive.answering import Answer, answer_of
@@ -30,20 +30,25 @@ WHERE h.hour = ? AND h.first < ?
 ORDER BY r.name, h.number
 """
 
-# Texts with a word that begins so: from it up to what comes after all of these.
-BY_WORD = "SELECT text FROM words WHERE word >= ? AND word < ?"
-# Of an array of texts by their numbers: SQLite bounds how many values or questions one question has, and no array.
-OF_TEXTS = """
+# Texts with a word that begins so, as often as they have one: from this beginning up to what comes after all such words.
+BY_WORD = """
 SELECT r.name AS recording, 'name of ' || t.what AS what, t.text
-FROM texts t JOIN recordings r ON r.id = t.recording WHERE t.id IN (SELECT value FROM json_each(?))
+FROM words w JOIN texts t ON t.id = w.text JOIN recordings r ON r.id = t.recording
+WHERE w.word >= :word AND w.word < :word || :after
+"""
+# Those that have one for each of an array of others too: SQLite bounds how many values a question has, and no array.
+AND_BY_OTHERS = """
+AND NOT EXISTS (SELECT 1 FROM json_each(:others) WHERE NOT EXISTS (
+  SELECT 1 FROM words o WHERE o.text = t.id AND o.word >= json_each.value AND o.word < json_each.value || :after))
 """
 AFTER_ALL = "\U0010ffff"
 
-# The digits of an identifier, and what may stand between and before them.
-UMID = re.compile(r"[0-9a-f]{16,64}")
-UMID_PREFIX = re.compile(r"^(urn:smpte:umid:|0x)|[-.\s{}]")
+# How many digits an identifier has that is asked for, what may stand before them, and what between them beside spaces.
+UMID_DIGITS = range(16, 65)
+UMID_PREFIXES = ("urn:smpte:umid:", "0x")
+UMID_SIGNS = dict.fromkeys(map(ord, "-.{}"))
 
-Found = set[tuple[str, str, str]]
+Found = Collection[tuple]
 
 
 def find(words: Words) -> int:
@@ -55,33 +60,47 @@ def find(words: Words) -> int:
 
 
 def found(connection: sqlite3.Connection, words: Sequence[str]) -> Answer:
-    """What is found by all of these words: the recording, what has the word, and that text."""
-    each = [found_by(connection, word) for word in words]
-    recordings = set.intersection(*({row[0] for row in rows} for rows in each))
-    rows = sorted({row for one in each for row in one if row[0] in recordings})
-    return ["recording", "what", "text"], rows
+    """What is found by all of these words, each once: the recording, what has the word, and that text."""
+    rows = found_by(connection, words[0])
+    for word in words[1:]:
+        more = found_by(connection, word)
+        recordings = {row[0] for row in rows} & {row[0] for row in more}
+        rows = {row for row in (*rows, *more) if row[0] in recordings}
+    return ["recording", "what", "text"], [row for row, _ in groupby(sorted(rows))]
 
 
 def found_by(connection: sqlite3.Connection, word: str) -> Found:
     """What is found by one word: a timecode, the end of an identifier, or words of a name."""
     if timecodes.is_timecode(word):
         return found_by_timecode(connection, word)
-    digits = UMID_PREFIX.sub("", word.lower())
-    rows = found_by_words(connection, words_of(word))
-    return rows | found_by_umid(connection, digits) if UMID.fullmatch(digits) else rows
+    return found_by_words(connection, words_of(word)) + found_by_umid(connection, digits_of(word))
 
 
-def found_by_umid(connection: sqlite3.Connection, digits: str) -> Found:
+def digits_of(word: str) -> str:
+    """What a word may have of the digits of an identifier."""
+    word = word.lower()
+    prefix = next(filter(word.startswith, UMID_PREFIXES), "")
+    return "".join(word.removeprefix(prefix).translate(UMID_SIGNS).split())
+
+
+def found_by_umid(connection: sqlite3.Connection, digits: str) -> list[tuple]:
     """Packages with an identifier that ends so, and clips that show one."""
-    rows = connection.execute(BY_UMID, (digits[-16:], digits[-16:]))
-    return {tuple(row) for row in rows if row["text"].endswith(digits)}
+    if len(digits) not in UMID_DIGITS or not set(digits) <= set("0123456789abcdef"):
+        return []
+    rows = answer_of(connection, BY_UMID, (digits[-16:], digits[-16:]))[1]
+    return [row for row in rows if row[-1].endswith(digits)]
 
 
-def found_by_words(connection: sqlite3.Connection, words: Sequence[str]) -> Found:
-    """Texts that have, for each of the words, one that begins with it."""
-    each = [set(answer_of(connection, BY_WORD, (word, word + AFTER_ALL))[1]) for word in words]
-    texts = set.intersection(*each) if each else set()
-    return set(answer_of(connection, OF_TEXTS, (f"[{','.join(str(text) for text, in texts)}]",))[1])
+def found_by_words(connection: sqlite3.Connection, words: Sequence[str]) -> list[tuple]:
+    """Texts that have, for each of the words, one that begins with it. The longest word is asked first, since few texts may
+    have it."""
+    if not words:
+        return []
+    first, *others = sorted(dict.fromkeys(words), key=len, reverse=True)
+    question = BY_WORD + AND_BY_OTHERS if others else BY_WORD
+    # Words have no character that JSON would escape.
+    array = ",".join(f'"{word}"' for word in others)
+    return answer_of(connection, question, {"word": first, "after": AFTER_ALL, "others": f"[{array}]"})[1]
 
 
 def found_by_timecode(connection: sqlite3.Connection, timecode: str) -> Found:

@@ -2,11 +2,12 @@
 from __future__ import annotations
 
 import sys
-from collections.abc import Collection, Iterable, Sequence
+from collections.abc import Collection, Iterable, Iterator, Sequence
 from itertools import groupby, repeat
 
 # Characters of control, line ends of Unicode, and marks of direction: a terminal may obey them. Each is shown as ?.
 CONTROL = dict.fromkeys((*range(0x20), *range(0x7F, 0xA0), *range(0x2028, 0x202F), *range(0x2066, 0x206A)), "?")
+ASCII = bytes(ord("?") if code in CONTROL else code for code in range(256))  # the same of bytes of ASCII
 
 BLOCK = 500  # lines that are printed at once. Memory that is used again takes less time than new memory.
 
@@ -23,29 +24,42 @@ def shown(text: str) -> str:
     return text if text.isprintable() else text.translate(CONTROL)
 
 
+def is_plain(text: str) -> bool:
+    """Whether a text is ASCII without characters of control. To ask of each character whether it can be printed takes
+    several times as long."""
+    encoded = text.encode()
+    return encoded.isascii() and encoded.translate(ASCII) == encoded
+
+
+def blocks_of(texts: Cells) -> Iterator[Cells]:
+    """Texts, so many at once."""
+    return (texts[start : start + BLOCK] for start in range(0, len(texts), BLOCK))
+
+
 def print_texts(texts: Cells) -> None:
     """Prints texts, each on a line of its own."""
-    for start in range(0, len(texts), BLOCK):
-        sys.stdout.write("\n".join(texts[start : start + BLOCK]) + "\n")
+    for block in blocks_of(texts):
+        sys.stdout.write("\n".join(block) + "\n")
 
 
-def texts_of(values: Cells) -> Cells:
-    """Values as texts that can be printed, - if there is none."""
-    texts = ["-" if value is None else str(value) for value in values]
-    return texts if all(map(str.isprintable, texts)) else list(map(shown, texts))
+def print_rows(lines: Cells) -> None:
+    """Prints the lines of a table. Nothing stands after the last column."""
+    for block in blocks_of(lines):
+        safe = block if is_plain("".join(block)) else map(shown, block)
+        sys.stdout.write("\n".join(map(str.rstrip, safe)) + "\n")
 
 
 def laid_out(head: str, column: Cells) -> Iterable[str]:
-    """A head and the cells below it as texts, each as wide as the widest, with numbers on the right."""
-    texts = [head, *texts_of(column)]
-    side = str.rjust if int in map(type, column) else str.ljust
-    return map(side, texts, repeat(max(map(len, texts))))
+    """A head and the cells below it, - if there is none, each as wide as the widest, with numbers on the right."""
+    kinds = set(map(type, column))
+    cells = [head, *(column if kinds <= {str} else ("-" if value is None else str(value) for value in column))]
+    return map(str.rjust if int in kinds else str.ljust, cells, repeat(max(map(len, cells))))
 
 
 def print_table(heads: Sequence[str], rows: Iterable[Cells]) -> None:
-    """Prints columns side by side. Nothing stands after the last one."""
+    """Prints columns side by side."""
     columns = map(laid_out, heads, list(zip(*rows)) or [()] * len(heads))
-    print_texts(list(map(str.rstrip, map("  ".join, zip(*columns)))))
+    print_rows(list(map("  ".join, zip(*columns))))
 
 
 def print_csv(heads: Sequence[str], rows: Iterable[Cells]) -> None:
@@ -98,7 +112,7 @@ def print_made(form: str, heads: Collection[str], texts: list[str]) -> None:
     if form == "csv":
         print_arrays(heads, texts)
     else:
-        print_texts(texts_of(texts) if form == "table" else texts)
+        (print_rows if form == "table" else print_texts)(texts)
 
 
 def print_parts(form: str, parts: list[object]) -> None:

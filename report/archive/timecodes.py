@@ -1,18 +1,17 @@
 """Timecodes, which number the frames of a day."""
 from __future__ import annotations
 
-import re
 from collections import namedtuple
-
-# A timecode: two digits each, and two to five of the frames.
-TIMECODE = r"([0-9]{2}):([0-9]{2}):([0-9]{2})([:;])([0-9]{2,5})"
 
 HOURS = 24
 
 
 def is_timecode(text: str) -> bool:
-    """Whether a text has the form of a timecode."""
-    return re.fullmatch(TIMECODE, text) is not None
+    """Whether a text has the form of a timecode: two digits each of hours, minutes and seconds, and two to five of the
+    frames."""
+    digits = text[:2] + text[3:5] + text[6:8] + text[9:]
+    is_parted = text[2:3] == text[5:6] == ":" and text[8:9] in (":", ";")
+    return is_parted and 8 <= len(digits) <= 11 and digits.isascii() and digits.isdigit()
 
 
 def is_within(timecode: str, first: str, last: str) -> bool:
@@ -51,9 +50,9 @@ class Counting(namedtuple("Counting", "base is_drop")):
 
     def has(self, timecode: str) -> bool:
         """Whether a day has this label. One with a semicolon is of drop frame alone."""
-        hours, minutes, seconds, mark, frames = re.fullmatch(TIMECODE, timecode).groups()
-        if int(hours) >= HOURS or int(minutes) > 59 or int(seconds) > 59 or int(frames) >= self.base:
+        hours, minutes, seconds, frames = map(int, (timecode[:2], timecode[3:5], timecode[6:8], timecode[9:]))
+        if hours >= HOURS or minutes > 59 or seconds > 59 or frames >= self.base:
             return False
-        if mark == ";" and not self.is_drop:
+        if timecode[8] == ";" and not self.is_drop:
             return False
-        return not (int(minutes) % 10 and int(seconds) == 0 and int(frames) < self.left_out())
+        return not (minutes % 10 and seconds == 0 and frames < self.left_out())
