@@ -65,7 +65,7 @@ def found(connection: sqlite3.Connection, words: Sequence[str]) -> Answer:
     for word in words[1:]:
         more = found_by(connection, word)
         recordings = {row[0] for row in rows} & {row[0] for row in more}
-        rows = {row for row in (*rows, *more) if row[0] in recordings}
+        rows = [row for row in (*rows, *more) if row[0] in recordings]
     return ["recording", "what", "text"], [row for row, _ in groupby(sorted(rows))]
 
 
