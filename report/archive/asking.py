@@ -30,6 +30,7 @@ CLOSING = {
     "units": "units", "verify": "verified", "find": "fragments",
 }  # fmt: skip
 
+BLOCK = 1 << 20  # bytes that are read at once of a catalogue
 
 
 class Sources(namedtuple("Sources", "words listed")):
@@ -125,18 +126,18 @@ def open_file(path: str) -> io.BufferedReader:
         raise OwnFault(READ, f"read fault: {path}") from fault
 
 
-def digesting(path: str) -> Call:
-    """The call that says the SHA-256 of a file. To load the module hashlib takes longer than several calls of mxf_tool."""
-    return Call(["sha256sum", path])
+def sha256_of(path: str) -> str:
+    """The SHA-256 of a file."""
+    import hashlib
 
-
-def sha256_of(call: Call) -> str:
-    """What it says. Ahead of the digest of a path with a line end or a backslash it says a backslash."""
-    with call:
-        said = b"".join(call.texts())
-    if call.status != 0:
-        raise OwnFault(READ, f"read fault: {call.words[1]}")
-    return said.lstrip(b"\\")[:64].decode()
+    digest = hashlib.sha256()
+    try:
+        with open_file(path) as file:
+            for block in iter(lambda: file.read(BLOCK), b""):
+                digest.update(block)
+    except OSError as fault:
+        raise OwnFault(READ, f"read fault: {path}") from fault
+    return digest.hexdigest()
 
 
 def is_identifier(text: bytes) -> bool:

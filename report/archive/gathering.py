@@ -11,7 +11,7 @@ from collections import namedtuple
 from collections.abc import Iterable
 
 from archive import moments
-from archive.asking import Line, Source, Sources, Tool, digesting, is_identifier, origin_of, sha256_of, source_of
+from archive.asking import Line, Source, Sources, Tool, is_identifier, origin_of, sha256_of, source_of
 from archive.calling import Call
 from archive.faults import ToolFault
 
@@ -92,9 +92,9 @@ class Gathering:
         is_at_once = is_small_catalogue(sources)
         if is_at_once:
             begin_all(calls, opened)
-        catalogues = [line for line in self.lines if line["line"] == "origin" and line["form"] == "cat"]
-        digests = [digesting(line["path"]) for line in catalogues]
-        begin_all(digests[:1], opened)
+        for line in self.lines:
+            if line["line"] == "origin" and line["form"] == "cat":
+                line["sha256"] = sha256_of(line["path"])
         self.add_show(calls[0])
         units = {index_sid: self.tool.call(self.units_words(index_sid), sources) for index_sid in self.indexes()}
         if is_at_once:
@@ -106,8 +106,6 @@ class Gathering:
         for index_sid, call in units.items():
             self.lines.append({"line": "asked", "command": "units", "index-sid": index_sid})
             self.lines.append(self.units_of(index_sid, call, sources))
-        for line, digest in zip(catalogues, digests):
-            line["sha256"] = sha256_of(digest)
 
     def add_show(self, call: Call) -> None:
         """Adds what show says, with the number of packets in place of those that aren't in dispute. Of items identifiers

@@ -7,7 +7,7 @@ from itertools import groupby, repeat
 
 # Characters of control, line ends of Unicode, and marks of direction: a terminal may obey them. Each is shown as ?.
 CONTROL = dict.fromkeys((*range(0x20), *range(0x7F, 0xA0), *range(0x2028, 0x202F), *range(0x2066, 0x206A)), "?")
-ASCII = bytes(ord("?") if code in CONTROL else code for code in range(256))  # the same of bytes of ASCII
+ASCII = bytes(ord("?") if code in CONTROL else code for code in range(256))  # each byte of ASCII as it is shown
 
 BLOCK = 500  # lines that are printed at once. Memory that is used again takes less time than new memory.
 
