@@ -8,12 +8,16 @@
     tests/database.py --statements WORDS..    how many statements mxf_archive runs by these words
     tests/database.py --killed N WORDS..      mxf_archive, which is killed ahead of its statement N
     tests/database.py --made N                lines of N recordings for `mxf_archive load`
+    tests/database.py --list-anew DB          makes what lists print again, after a change of the tables by SQL
 
 Each difference is a line. Nothing is printed of a database that is right.
 """
+import csv
 import fractions
+import importlib
 import importlib.machinery
 import importlib.util
+import io
 import json
 import math
 import os
@@ -257,11 +261,34 @@ def check_whole(database):
                               "(SELECT 1 FROM states s WHERE s.recording = r.id AND s.number = r.state)")  # fmt: skip
     differ("recordings without a state", [], [row["name"] for row in lone])
     if connection.execute("PRAGMA user_version").fetchone()[0] > 1:
-        columns = ", ".join(f"last_{name}" for name in ("end", "missing", "orders", "findings", "disputes"))
-        other = connection.execute(f'SELECT name, {columns} FROM recordings EXCEPT SELECT r.name, s."end", s.missing, s.orders, '
-                                   "s.findings, s.disputes FROM recordings r JOIN states s ON s.recording = r.id "
-                                   "AND s.number = r.state")  # fmt: skip
-        differ("recordings with other counts than their last state", [], [row["name"] for row in other])
+        check_listed(connection)
+
+
+def check_listed(connection):
+    """Prints what lists and searches for words would print other than the tables say."""
+    rows = connection.execute('SELECT r.name AS recording, r.title AS name, r.length, r.timecode, s."end", s.missing, s.orders, '
+                              "s.findings, s.disputes, nullif(r.verified, '') AS verified, r.listed, r.listed_csv, r.listed_json "
+                              "FROM recordings r JOIN states s ON s.recording = r.id AND s.number = r.state")  # fmt: skip
+    for row in map(dict, rows):
+        listed = [row.pop(name) for name in ("listed", "listed_csv", "listed_json")]
+        cells = ["-" if value is None else str(value) for value in [*row.values()][2:]]
+        differ("the line of a list", cells, listed[0].split())
+        text = io.StringIO(newline="")
+        csv.writer(text).writerow(row.values())
+        differ("the CSV of a list", text.getvalue(), listed[1] + "\r\n")
+        differ("the JSON of a list", json.dumps(row, ensure_ascii=False, separators=(",", ":")), listed[2])
+    other = connection.execute("SELECT w.word, w.text FROM words w JOIN texts t ON t.id = w.text JOIN recordings r ON r.id = "
+                               "t.recording WHERE (w.found_in, w.found_as, w.found_text) IS NOT (r.name, 'name of ' || t.what, "
+                               "t.text)")  # fmt: skip
+    differ("words of other texts", [], [tuple(row) for row in other])
+
+
+def list_anew(database):
+    """Makes what lists print from the tables again."""
+    archive()
+    schema = importlib.import_module("archive.schema")
+    with sqlite3.connect(database) as connection:
+        connection.execute(schema.LISTED)
 
 
 def print_rows(database, name):
@@ -437,6 +464,8 @@ def main(words):
         run_killed(int(words[1]), words[2:])
     elif words[:1] == ["--made"]:
         print_made(int(words[1]))
+    elif words[:1] == ["--list-anew"]:
+        list_anew(words[1])
     else:
         compare(words[0], words[1], words[2], words[3:])
 

@@ -1,39 +1,20 @@
 """What is asked of the database: lists, all of one recording, and orders."""
 from __future__ import annotations
 
-import datetime
 import sqlite3
-from collections import namedtuple
 from collections.abc import Sequence
 from itertools import chain
 
-from archive import moments
+from archive import moments, schema
 from archive.faults import USAGE, OwnFault
 from archive.printing import number_or_none
 
-# What a list has of each recording, by its heads; which of that are numbers, and which may be unknown. Numbers stand on the
-# right in a table.
-LISTED = {
-    "recording": "name", "name": "title", "length": "length", "timecode": "timecode", "end": "last_end",
-    "missing": "last_missing", "orders": "last_orders", "findings": "last_findings", "disputes": "last_disputes",
-    "verified": "nullif(verified, '')",
-}  # fmt: skip
-NUMBERS = ("end", "missing", "orders", "findings", "disputes")
-UNKNOWN = ("name", "length", "timecode", "end", "verified")
+# The columns of a list.
+HEADS = ("recording", "name", "length", "timecode", "end", "missing", "orders", "findings", "disputes", "verified")
 
-
-def listed_or(none: str) -> str:
-    """The values of a list, and this text for what is unknown."""
-    return ", ".join(f"ifnull({value}, '{none}')" if head in UNKNOWN else value for head, value in LISTED.items())
-
-
-# A row of a list as the text that SQLite makes of it, by the form that is printed: a line of a table, or JSON. That takes
-# less time than to make Python's values of each.
-ROWS = {
-    "table": f"printf(:layout, {listed_or('-')})",
-    "csv": f"json_array({listed_or('')})",
-    "json": "json_object(" + ", ".join(f"'{head}', {value}" for head, value in LISTED.items()) + ")",
-}
+# A row of a list as a text, by the form that is printed. The database has it ready, for to make Python's values of each row,
+# or SQLite's texts of them, takes several times as long.
+ROWS = {"table": "printf(:layout, name, ifnull(title, '-'), listed)", "csv": "listed_csv", "json": "listed_json"}
 
 # What is listed, by the option.
 LISTS = {
@@ -45,12 +26,12 @@ LISTS = {
     "unverified": "WHERE verified < :since ORDER BY verified, name",
 }
 
-# What a page of all recordings shows: those of LISTED, whether each is damaged, and how many packets differed when it was
+# What a page of all recordings shows: the row of a list, whether each is damaged, and how many packets differed when it was
 # last verified.
-OVERVIEW = f"""
-SELECT {", ".join(f'{value} AS "{head}"' for head, value in LISTED.items())}, is_damaged,
+OVERVIEW = """
+SELECT listed_json, is_damaged,
   coalesce((SELECT v.differs FROM verifications v WHERE v.recording = id ORDER BY v.number DESC LIMIT 1), 0) AS differs
-FROM recordings ORDER BY recording
+FROM recordings ORDER BY name
 """
 
 # What `show` prints of a recording, table by table.
@@ -105,35 +86,29 @@ def answer_of(connection: sqlite3.Connection, question: str, values: Sequence[ob
 
 
 def listed(connection: sqlite3.Connection, what: str, days: int | None, form: str) -> list[str]:
-    """The recordings of a list, each as a text of ROWS, and in a table the heads before them. Those that weren't verified
+    """The recordings of a list, each as a text of ROWS, and but for JSON the heads before them. Those that weren't verified
     for so many days go by the time of their last verification."""
     values = {} if days is None else {"since": before(days)}
-    heads = []
+    heads = [",".join(HEADS)] if form == "csv" else []
     if form == "table":
         values["layout"] = layout_of(connection)
         # Python counts characters without being told to.
-        heads.append(values["layout"].replace("!", "") % tuple(LISTED))
+        heads.append(values["layout"].replace("!", "") % (*HEADS[:2], schema.LAYOUT % HEADS[2:]))
     texts = answer_of(connection, f"SELECT {ROWS[form]} FROM recordings {LISTS[what]}", values)[1]
     return [*heads, *chain.from_iterable(texts)]
 
 
 def layout_of(connection: sqlite3.Connection) -> str:
-    """How a line of a list is laid out, for printf of SQLite: each column is as wide in characters as its widest text of
-    all recordings, and nothing stands after the last one."""
-    *columns, _ = LISTED.items()
-    widest = ", ".join(f"(SELECT max(length({value})) FROM recordings)" for _, value in columns)
-    (widths,) = answer_of(connection, f"SELECT {widest}")[1]
-    cells = [f"%{'' if head in NUMBERS else '-!'}{max(len(head), width or 0)}s" for (head, _), width in zip(columns, widths)]
-    return "  ".join([*cells, "%s"])
+    """How a line of a list is laid out, for printf of SQLite: the two names are as wide in characters as the widest of all
+    recordings."""
+    widest = "SELECT (SELECT max(length(name)) FROM recordings), (SELECT max(length(title)) FROM recordings)"
+    (widths,) = answer_of(connection, widest)[1]
+    return "".join(f"%-!{max(len(head), width or 0)}s  " for head, width in zip(HEADS, widths)) + "%s"
 
 
 def before(days: int) -> str:
     """The time so many days ago. A recording that was never verified goes before all times."""
-    try:
-        since = moments.text_of(moments.now() - datetime.timedelta(days=days))
-    except OverflowError:
-        since = ""
-    return max(since, "0")
+    return moments.text_of(moments.now() - days * moments.DAY) or "0"
 
 
 def shown(connection: sqlite3.Connection, identity: int) -> list[tuple[str, list[str], list[tuple]]]:
@@ -150,11 +125,23 @@ def identity_of(connection: sqlite3.Connection, name: str) -> int:
     return row["id"]
 
 
-class Stretch(namedtuple("Stretch", "recording start end reasons form")):
+class Stretch:
     """Orders of a recording that are restored as one: from where to where, why, and the form of source that takes what
     comes."""
 
-    __slots__ = ()
+    def __init__(self, row: sqlite3.Row) -> None:
+        self.recording, self.start, self.end = row["recording"], int(row["start"]), number_or_none(row["end"])
+        self.reasons = {row["reason"]: None}
+        self.form = "range" if row["is_inside"] else "at"
+
+    def takes(self, order: Stretch, apart: int) -> bool:
+        """Whether an order that doesn't begin ahead of it touches it, or lies less than so many bytes apart."""
+        return self.recording == order.recording and (self.end is None or order.start - self.end < max(apart, 1))
+
+    def add(self, order: Stretch) -> None:
+        """Restores an order with it."""
+        self.end = None if None in (self.end, order.end) else max(self.end, order.end)
+        self.reasons.update(order.reasons)
 
     def row(self) -> tuple:
         """The row that is printed."""
@@ -164,21 +151,12 @@ class Stretch(namedtuple("Stretch", "recording start end reasons form")):
 
 def ordered(connection: sqlite3.Connection, by: str, apart: int) -> Answer:
     """All orders, of which those of one recording are one that touch or lie less than so many bytes apart."""
-    orders = [order_of(row) for row in connection.execute(ORDERS)]
     stretches: list[Stretch] = []
-    for order in sorted(orders, key=lambda one: (one.recording, one.start)):
-        last = stretches[-1] if stretches else None
-        if last and last.recording == order.recording and (last.end is None or order.start - last.end < max(apart, 1)):
-            end = None if None in (last.end, order.end) else max(last.end, order.end)
-            stretches[-1] = last._replace(end=end, reasons={**last.reasons, **order.reasons})
+    for order in sorted(map(Stretch, connection.execute(ORDERS)), key=lambda one: (one.recording, one.start)):
+        if stretches and stretches[-1].takes(order, apart):
+            stretches[-1].add(order)
         else:
             stretches.append(order)
     if by == "offset":
         stretches.sort(key=lambda one: (one.start, one.recording))
     return ["recording", "start", "end", "length", "reason", "form"], [one.row() for one in stretches]
-
-
-def order_of(row: sqlite3.Row) -> Stretch:
-    """An order by itself."""
-    end = number_or_none(row["end"])
-    return Stretch(row["recording"], int(row["start"]), end, {row["reason"]: None}, "range" if row["is_inside"] else "at")

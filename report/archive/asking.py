@@ -3,10 +3,8 @@ from __future__ import annotations
 
 import contextlib
 import io
-import json
 import os
 import stat
-from collections import namedtuple
 from collections.abc import Callable, Sequence
 
 from archive import moments
@@ -33,21 +31,24 @@ CLOSING = {
 BLOCK = 1 << 20  # bytes that are read at once of a catalogue
 
 
-class Sources(namedtuple("Sources", "words listed")):
+class Sources:
     """The words that name the sources, and those of a list that is handed in through standard input: the others come
     first."""
 
-    __slots__ = ()
+    def __init__(self, words: list[str], listed: Sequence[str] = ()) -> None:
+        self.words = words
+        self.listed = list(listed)
 
     def each(self) -> list[str]:
         """Each source by itself, in the order of their numbers."""
         return self.words + self.listed
 
 
-class Source(namedtuple("Source", "form numbers path")):
+class Source:
     """A source: its form, its offset and its length in the file if the form has them, and its path from the root on."""
 
-    __slots__ = ()
+    def __init__(self, form: str, numbers: str, path: str) -> None:
+        self.form, self.numbers, self.path = form, numbers, path
 
     def word(self) -> str:
         """The word that names it from any folder."""
@@ -112,7 +113,7 @@ def origin_of(number: int, source: Source) -> Line:
     origin.update(word=source.word(), size=None, modified=None, sha256=None)
     with contextlib.suppress(OSError, ValueError):
         found = os.stat(source.path)
-        origin.update(size=found.st_size, modified=moments.text_of_seconds(found.st_mtime))
+        origin.update(size=found.st_size, modified=moments.text_of(found.st_mtime))
     if source.form == "cat":
         open_file(source.path).close()
     return origin
@@ -128,16 +129,27 @@ def open_file(path: str) -> io.BufferedReader:
 
 def sha256_of(path: str) -> str:
     """The SHA-256 of a file."""
-    import hashlib
-
-    digest = hashlib.sha256()
     try:
         with open_file(path) as file:
+            digest = new_digest(os.fstat(file.fileno()).st_size)
             for block in iter(lambda: file.read(BLOCK), b""):
                 digest.update(block)
     except OSError as fault:
         raise OwnFault(READ, f"read fault: {path}") from fault
     return digest.hexdigest()
+
+
+def new_digest(size: int) -> object:
+    """A SHA-256 for so many bytes. To load hashlib takes as long as several calls of mxf_tool, so for few bytes the part of
+    Python is taken that it falls back on, as its own module random does; some versions have it by another name."""
+    if size <= BLOCK:
+        with contextlib.suppress(ImportError):
+            from _sha256 import sha256
+
+            return sha256()
+    import hashlib
+
+    return hashlib.sha256()
 
 
 def is_identifier(text: bytes) -> bool:
@@ -164,33 +176,42 @@ def program() -> str:
     return next((path for path in programs if os.path.isfile(path)), "mxf_tool")
 
 
-def version_of(path: str) -> str:
-    """What the program calls itself."""
-    with Call([path, "--version"], is_kept=False) as call:
-        texts = list(call.texts())
-    if call.status != 0:
-        raise OwnFault(NO_PROGRAM, f"{path} --version ended with status {call.status}")
-    return b"\n".join(texts).decode("utf-8", "replace").strip()
-
-
 class Tool:
-    """mxf_tool. Its first call says its faults and how far it is by itself. The launcher of the repository looks at
-    each call whether the program is current; once is enough, and then the program itself is asked."""
+    """mxf_tool. Its first call begins at once; it says its faults and how far it is by itself. The launcher of the repository
+    looks at each call whether the program is current; once is enough, and then the program itself is asked."""
 
     def __init__(self) -> None:
-        launcher = program()
-        self.version = version_of(launcher)
-        built = os.path.join(os.path.dirname(os.path.realpath(launcher)), "crates", "mxf_tool", "out", "mxf_tool")
-        self.program = built if os.path.isfile(built) else launcher
+        self.program = program()
+        self.told: str | None = None
         self.calls = 0
         self.status = 0
+        self.first = Call([self.program, "--version"], is_kept=False)
+        self.first.begin()
+        crates = os.path.join(os.path.dirname(os.path.realpath(self.program)), "crates")
+        if os.path.isdir(crates):
+            self.version()
+            built = os.path.join(crates, "mxf_tool", "out", "mxf_tool")
+            self.program = built if os.path.isfile(built) else self.program
 
-    def call(self, words: Sequence[str], sources: Sources) -> Call:
-        """The call of a command of the sources."""
+    def version(self) -> str:
+        """What the program calls itself, as soon as it has said it."""
+        if self.told is None:
+            with self.first as call:
+                texts = list(call.texts())
+            if call.status == NO_PROGRAM:
+                raise ToolFault(NO_PROGRAM, b"")
+            if call.status != 0:
+                raise OwnFault(NO_PROGRAM, f"{self.program} --version ended with status {call.status}")
+            self.told = b"\n".join(texts).decode("utf-8", "replace").strip()
+        return self.told
+
+    def call(self, words: Sequence[str], sources: Sources, is_alone: bool = True) -> Call:
+        """The call of a command of the sources, which goes on alone or beside others."""
         self.calls += 1
         handed = ["--sources", "-"] if sources.listed else []
         given = "".join(f"{word}\n" for word in sources.listed).encode()
-        return Call([self.program, *words, "--json", *handed, *sources.words], given, is_kept=self.calls > 1)
+        is_kept = self.calls > 1 or not is_alone
+        return Call([self.program, *words, "--json", *handed, *sources.words], given, is_kept)
 
     def ask(self, words: Sequence[str], sources: Sources, keeps: Keeps = lambda _: True) -> list[Line]:
         """The lines that a command prints of the sources, as far as they are kept. A call that fails is a fault."""
@@ -200,6 +221,7 @@ class Tool:
         """The same of a call, which may have begun."""
         name, command = call.words[:2]
         closing, is_whole, texts = b'{"line":"%s"' % CLOSING[command].encode(), False, []
+        self.version()
         with call:
             for text in call.texts():
                 is_whole = is_whole or text.startswith(closing)
@@ -210,15 +232,7 @@ class Tool:
             raise ToolFault(call.status if call.status > 0 else 128 - call.status, call.said)
         if not is_whole:
             raise OwnFault(NO_PROGRAM, f"{name} {command} prints no line {CLOSING[command]}")
+        # Loaded while mxf_tool works, as it takes as long.
+        from archive.json_lines import line_of
+
         return [line_of(text, name) for text in texts]
-
-
-def line_of(text: bytes, name: str) -> Line:
-    """The JSON object of a line of mxf_tool, which has its name."""
-    try:
-        line = json.loads(text.decode("utf-8", "replace"))
-    except (ValueError, RecursionError) as fault:
-        raise OwnFault(NO_PROGRAM, f"{name} prints a line that is no JSON of mxf_tool") from fault
-    if not isinstance(line, dict) or not isinstance(line.get("line"), str):
-        raise OwnFault(NO_PROGRAM, f"{name} prints a line that is no JSON of mxf_tool")
-    return line

@@ -2,7 +2,6 @@
 import os
 import sys
 
-from archive import database
 from archive.faults import OUTPUT, USAGE, OwnFault, ToolFault
 from archive.words import WordFault, Words, read_words, usage_of
 
@@ -23,7 +22,6 @@ def misunderstood(fault: WordFault) -> int:
 def run(words: Words) -> int:
     """Runs a command, and answers its status. Only the parts that it needs are loaded."""
     try:
-        database.check_library()
         module, function = words.run
         # The module importlib does the same, and takes longer to load than such a part.
         part = getattr(__import__(f"archive.{module}"), module)

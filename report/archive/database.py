@@ -66,6 +66,7 @@ def version_of(connection: sqlite3.Connection, path: str) -> int:
 def reading(path: str) -> Iterator[sqlite3.Connection]:
     """The database, to be asked: all answers are of one state of it. It is written to only to make up for a writer that was
     killed. Of one of an earlier version a copy in memory is asked."""
+    check_library()
     if not os.path.exists(path):
         raise OwnFault(READ, f"read fault: {path}: No such file or directory")
     with faults_of(path, READ), contextlib.ExitStack() as opened:
@@ -89,6 +90,7 @@ def reading(path: str) -> Iterator[sqlite3.Connection]:
 
 def check_place(path: str) -> None:
     """Sees that a database can be written there, before a recording is asked for, which may take an hour."""
+    check_library()
     if os.path.exists(path) and os.path.getsize(path):
         with faults_of(path, UNWRITTEN), contextlib.closing(sqlite3.connect(address_of(path, "ro"), uri=True)) as connection:
             version_of(connection, path)

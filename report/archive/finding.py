@@ -4,7 +4,7 @@ from __future__ import annotations
 import functools
 import sqlite3
 from collections.abc import Collection, Sequence
-from itertools import groupby
+from itertools import chain, groupby
 
 from archive import database, printing, timecodes
 from archive.answering import Answer, answer_of
@@ -32,14 +32,12 @@ ORDER BY r.name, h.number
 
 # Texts with a word that begins so, as often as they have one: from this beginning up to what comes after all such words.
 BY_WORD = """
-SELECT r.name AS recording, 'name of ' || t.what AS what, t.text
-FROM words w JOIN texts t ON t.id = w.text JOIN recordings r ON r.id = t.recording
-WHERE w.word >= :word AND w.word < :word || :after
+SELECT found_in AS recording, found_as AS what, found_text AS text FROM words WHERE word >= :word AND word < :word || :after
 """
 # Those that have one for each of an array of others too: SQLite bounds how many values a question has, and no array.
 AND_BY_OTHERS = """
 AND NOT EXISTS (SELECT 1 FROM json_each(:others) WHERE NOT EXISTS (
-  SELECT 1 FROM words o WHERE o.text = t.id AND o.word >= json_each.value AND o.word < json_each.value || :after))
+  SELECT 1 FROM words o WHERE o.text = words.text AND o.word >= json_each.value AND o.word < json_each.value || :after))
 """
 AFTER_ALL = "\U0010ffff"
 
@@ -61,12 +59,12 @@ def find(words: Words) -> int:
 
 def found(connection: sqlite3.Connection, words: Sequence[str]) -> Answer:
     """What is found by all of these words, each once: the recording, what has the word, and that text."""
-    rows = found_by(connection, words[0])
-    for word in words[1:]:
-        more = found_by(connection, word)
-        recordings = {row[0] for row in rows} & {row[0] for row in more}
-        rows = [row for row in (*rows, *more) if row[0] in recordings]
-    return ["recording", "what", "text"], [row for row, _ in groupby(sorted(rows))]
+    parts = [found_by(connection, word) for word in words]
+    if len(parts) > 1:
+        recordings = set.intersection(*({row[0] for row in part} for part in parts))
+        parts = [[row for row in part if row[0] in recordings] for part in parts]
+    rows = sorted(chain.from_iterable(parts))
+    return ["recording", "what", "text"], [row for row, _ in groupby(rows)]
 
 
 def found_by(connection: sqlite3.Connection, word: str) -> Found:

@@ -7,8 +7,6 @@ from __future__ import annotations
 
 import contextlib
 import os
-from collections import namedtuple
-from collections.abc import Iterable
 
 from archive import moments
 from archive.asking import Line, Source, Sources, Tool, is_identifier, origin_of, sha256_of, source_of
@@ -27,79 +25,90 @@ COMMANDS = ("show", "describe", "check", "plan", "map")
 TOO_MANY, NO_LAST = "too many units", "no last unit"
 
 
-class Asked(namedtuple("Asked", "name sources catalogue is_skim")):
-    """What is to be asked: the name of a recording, its sources, the catalogue that is asked in their place if there is
-    one, and whether essence is passed over."""
-
-    __slots__ = ()
-
-
 class Gathering:
-    """The lines of a recording, as they come."""
+    """The lines of a recording, as they come: by its sources, or by a catalogue in their place, and whether essence is passed
+    over. A small catalogue is asked by five calls at once, which begin with the block; what this program needs beside them
+    is loaded meanwhile. Files are looked at before they are read."""
 
-    def __init__(self, asked: Asked) -> None:
-        self.asked = asked
+    def __init__(self, name: str, sources: Sources, catalogue: str | None, is_skim: bool) -> None:
+        self.name, self.sources, self.catalogue, self.is_skim = name, sources, catalogue, is_skim
         self.tool = Tool()
         self.lines: list[Line] = []
+        self.calls: list[Call] = []
+        self.opened = contextlib.ExitStack()
+        self.gathered = moments.text_of(moments.now())
+        self.origins = [origin_of(number, source_of(word)) for number, word in enumerate(sources.each(), 1)]
+        if catalogue is not None:
+            self.origins.insert(0, origin_of(0, source_of(f"cat:{catalogue}")))
+
+    def __enter__(self) -> "Gathering":
+        self.opened.enter_context(self.tool.first)
+        sources = self.named()
+        if sources is not None and is_small_catalogue(sources):
+            self.begin(sources)
+        return self
+
+    def __exit__(self, *_: object) -> None:
+        self.opened.close()
 
     def gather(self) -> list[Line]:
-        """All lines of the recording. Files are looked at before they are read."""
-        asked, gathered = self.asked, moments.text_of(moments.now())
-        origins = [origin_of(number, source_of(word)) for number, word in enumerate(asked.sources.each(), 1)]
-        if asked.catalogue is not None:
-            origins.insert(0, origin_of(0, source_of(f"cat:{asked.catalogue}")))
+        """All lines of the recording."""
         self.lines.append({
-            "line": "recording", "format": FORMAT, "name": asked.name, "gathered": gathered, "program": self.tool.version,
-            "skim": asked.is_skim,
+            "line": "recording", "format": FORMAT, "name": self.name, "gathered": self.gathered,
+            "program": self.tool.version(), "skim": self.is_skim,
         })  # fmt: skip
-        self.lines += origins
-        with contextlib.ExitStack() as opened:
-            self.ask_all(self.to_ask(opened), opened)
-        self.lines.append({"line": "recorded", "name": asked.name, "lines": len(self.lines) + 1})
+        self.lines += self.origins
+        self.ask_all(self.named() or self.joined())
+        self.lines.append({"line": "recorded", "name": self.name, "lines": len(self.lines) + 1})
         return self.lines
 
-    def to_ask(self, opened: contextlib.ExitStack) -> Sources:
-        """The sources that are asked. Ranges tell themselves which bytes are at hand, and a skim reads little; all else is
-        read once, and then its catalogue is asked. Which source is damaged that doesn't tell, so it is asked for if the
-        join says that there may be one."""
-        asked = self.asked
-        sources = [source_of(word) for word in asked.sources.each()]
-        if any(source.form == "range" for source in sources):
-            return asked.sources
-        if asked.catalogue is not None:
-            return Sources([Source("cat", "", asked.catalogue).word()], [])
-        if asked.is_skim:
-            return asked.sources
-        if len(sources) == 1 and sources[0].form == "cat":
-            return asked.sources
+    def named(self) -> Sources | None:
+        """The sources that are asked as they are named: a catalogue, ranges, which tell themselves which bytes are at hand,
+        or those of a skim, which reads little. All others are joined first."""
+        forms = [source_of(word).form for word in self.sources.each()]
+        if "range" in forms:
+            return self.sources
+        if self.catalogue is not None:
+            return Sources([Source("cat", "", self.catalogue).word()])
+        return self.sources if self.is_skim or forms == ["cat"] else None
+
+    def joined(self) -> Sources:
+        """The catalogue that the sources are joined to, so that they are read once. Which of them is damaged it doesn't
+        tell, so that is asked for if the join says that there may be one."""
         import tempfile
 
-        joined = os.path.join(opened.enter_context(tempfile.TemporaryDirectory(prefix="mxf_archive.")), "joined")
-        self.tool.ask(["join", "--strict", "--out", joined], asked.sources)
+        folder = self.opened.enter_context(tempfile.TemporaryDirectory(prefix="mxf_archive."))
+        joined = os.path.join(folder, "joined")
+        self.tool.ask(["join", "--strict", "--out", joined], self.sources)
         if self.tool.status == 1:
             self.lines.append({"line": "asked", "command": "check"})
-            self.lines += [line for line in self.tool.ask(["check"], asked.sources) if line["line"] == "stop"]
-        return Sources([f"cat:{joined}"], [])
+            self.lines += [line for line in self.tool.ask(["check"], self.sources) if line["line"] == "stop"]
+        return Sources([f"cat:{joined}"])
 
     def skimming(self) -> list[str]:
         """The option that passes over essence, if it is meant."""
-        return ["--skim"] if self.asked.is_skim else []
+        return ["--skim"] if self.is_skim else []
 
-    def ask_all(self, sources: Sources, opened: contextlib.ExitStack) -> None:
-        """Adds what each command says, in the order in which a reader of the lines needs it. A small catalogue is asked
-        by five calls at once. Meanwhile the catalogues are digested."""
-        calls = [self.tool.call([command, *self.skimming()], sources) for command in COMMANDS]
+    def begin(self, sources: Sources) -> None:
+        """Makes the first calls, and begins those of a small catalogue. They are over at the latest when the block is."""
         is_at_once = is_small_catalogue(sources)
-        if is_at_once:
-            begin_all(calls, opened)
-        for line in self.lines:
-            if line["line"] == "origin" and line["form"] == "cat":
+        self.calls = [self.tool.call([command, *self.skimming()], sources, not is_at_once) for command in COMMANDS]
+        for call in self.calls if is_at_once else ():
+            self.opened.enter_context(call).begin()
+
+    def ask_all(self, sources: Sources) -> None:
+        """Adds what each command says, in the order in which a reader of the lines needs it. Meanwhile the catalogues are
+        digested."""
+        if not self.calls:
+            self.begin(sources)
+        for line in self.origins:
+            if line["form"] == "cat":
                 line["sha256"] = sha256_of(line["path"])
-        self.add_show(calls[0])
+        self.add_show(self.calls[0])
         units = {index_sid: self.tool.call(self.units_words(index_sid), sources) for index_sid in self.indexes()}
-        if is_at_once:
-            begin_all([*units.values()][:1], opened)
-        for command, call in zip(COMMANDS[1:], calls[1:]):
+        for call in [*units.values()][:1] if is_small_catalogue(sources) else ():
+            self.opened.enter_context(call).begin()
+        for command, call in zip(COMMANDS[1:], self.calls[1:]):
             said = self.tool.said_by(call, lambda text: not text.startswith(b'{"line":"row"'))
             self.lines.append({"line": "asked", "command": command})
             self.lines += said
@@ -164,12 +173,6 @@ class Gathering:
                 if track["kind"] == kind:
                     return max(track["origin"], 0) + track["duration"] - 1 if track["duration"] else None
         return None
-
-
-def begin_all(calls: Iterable[Call], opened: contextlib.ExitStack) -> None:
-    """Begins calls, which are over at the latest when the block is."""
-    for call in calls:
-        opened.enter_context(call).begin()
 
 
 def is_small_catalogue(sources: Sources) -> bool:

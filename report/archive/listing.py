@@ -9,7 +9,7 @@ def list(words: Words) -> int:
     with database.reading(words.database) as connection:
         what = "unverified" if words.days is not None else words.what
         texts = answering.listed(connection, what, words.days, words.form)
-    printing.print_made(words.form, answering.LISTED, texts)
+    printing.print_made(words.form, texts)
     return 0
 
 

@@ -46,7 +46,7 @@ def match(words: Words) -> int:
 
 def identifiers_of(tool: asking.Tool, source: str) -> Iterable[tuple[str, bytes]]:
     """What the sets of a fragment identify."""
-    lines = tool.ask(["show"], asking.Sources([source], []), asking.is_identifier)
+    lines = tool.ask(["show"], asking.Sources([source]), asking.is_identifier)
     return filter(None, map(asking.identifier_of, lines))
 
 

@@ -1,29 +1,24 @@
-"""Times in UTC at which something was done."""
+"""Times in UTC at which something was done, as seconds since 1970."""
 from __future__ import annotations
 
-import datetime
 import os
+import time
+
+DAY = 24 * 60 * 60  # seconds
+TIMES = range(-62_135_596_800, 253_402_300_800)  # from the first second of the year 1 to the last of 9999
 
 
-def now() -> datetime.datetime:
+def now() -> int:
     """The time of this call; that of SOURCE_DATE_EPOCH if it says one that can be."""
     epoch = os.environ.get("SOURCE_DATE_EPOCH", "")
-    if epoch.isascii() and epoch.isdigit() and len(epoch) <= 11:
-        return datetime.datetime.fromtimestamp(int(epoch), datetime.timezone.utc)
-    return datetime.datetime.now(datetime.timezone.utc)
+    return int(epoch) if epoch.isascii() and epoch.isdigit() and len(epoch) <= 11 else int(time.time())
 
 
-def text_of(moment: datetime.datetime) -> str:
-    """A time in UTC by ISO 8601, to the second."""
-    return moment.strftime("%Y-%m-%dT%H:%M:%SZ")
-
-
-def text_of_seconds(seconds: float) -> str | None:
-    """The same of seconds since 1970; None of a time outside the years 1 to 9999."""
-    try:
-        return text_of(datetime.datetime.fromtimestamp(int(seconds), datetime.timezone.utc))
-    except (ValueError, OverflowError, OSError):
+def text_of(seconds: float) -> str | None:
+    """A time by ISO 8601, to the second; None of one outside the years 1 to 9999."""
+    if int(seconds) not in TIMES:
         return None
+    return "{:04}-{:02}-{:02}T{:02}:{:02}:{:02}Z".format(*time.gmtime(int(seconds)))
 
 
 def text_of_stamp(line: dict) -> str | None:

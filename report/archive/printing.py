@@ -2,8 +2,8 @@
 from __future__ import annotations
 
 import sys
-from collections.abc import Collection, Iterable, Iterator, Sequence
-from itertools import groupby, repeat
+from collections.abc import Iterable, Iterator, Sequence
+from itertools import repeat
 
 # Characters of control, line ends of Unicode, and marks of direction: a terminal may obey them. Each is shown as ?.
 CONTROL = dict.fromkeys((*range(0x20), *range(0x7F, 0xA0), *range(0x2028, 0x202F), *range(0x2066, 0x206A)), "?")
@@ -36,30 +36,34 @@ def blocks_of(texts: Cells) -> Iterator[Cells]:
     return (texts[start : start + BLOCK] for start in range(0, len(texts), BLOCK))
 
 
-def print_texts(texts: Cells) -> None:
-    """Prints texts, each on a line of its own."""
+def print_texts(texts: Cells, end: str) -> None:
+    """Prints texts, each with this end."""
     for block in blocks_of(texts):
-        sys.stdout.write("\n".join(block) + "\n")
+        sys.stdout.write(end.join(block) + end)
 
 
 def print_rows(lines: Cells) -> None:
-    """Prints the lines of a table. Nothing stands after the last column."""
+    """Prints the lines of a table."""
     for block in blocks_of(lines):
         safe = block if is_plain("".join(block)) else map(shown, block)
-        sys.stdout.write("\n".join(map(str.rstrip, safe)) + "\n")
+        sys.stdout.write("\n".join(safe) + "\n")
 
 
-def laid_out(head: str, column: Cells) -> Iterable[str]:
-    """A head and the cells below it, - if there is none, each as wide as the widest, with numbers on the right."""
+def laid_out(head: str, column: Cells, is_last: bool) -> Iterable[str]:
+    """A head and the cells below it, - if there is none, each as wide as the widest: numbers stand on the right, and nothing
+    stands after the last column."""
     kinds = set(map(type, column))
     cells = [head, *(column if kinds <= {str} else ("-" if value is None else str(value) for value in column))]
+    if is_last and int not in kinds:
+        return cells
     return map(str.rjust if int in kinds else str.ljust, cells, repeat(max(map(len, cells))))
 
 
 def print_table(heads: Sequence[str], rows: Iterable[Cells]) -> None:
     """Prints columns side by side."""
-    columns = map(laid_out, heads, list(zip(*rows)) or [()] * len(heads))
-    print_rows(list(map("  ".join, zip(*columns))))
+    columns = list(zip(*rows)) or [()] * len(heads)
+    are_last = [*repeat(False, len(heads) - 1), True]
+    print_rows(list(map("  ".join, zip(*map(laid_out, heads, columns, are_last)))))
 
 
 def print_csv(heads: Sequence[str], rows: Iterable[Cells]) -> None:
@@ -73,15 +77,21 @@ def print_csv(heads: Sequence[str], rows: Iterable[Cells]) -> None:
 
 def print_json(heads: Sequence[str], rows: Iterable[Cells]) -> None:
     """Prints a JSON object a line, with a member for each column."""
-    print_lines(dict(zip(heads, row)) for row in rows)
+    encode = encoder().encode
+    members = ",".join(f"{encode(head)}:%s" for head in heads)
+    sys.stdout.writelines(f"{{{members}}}\n" % tuple(map(encode, row)) for row in rows)
 
 
 def print_lines(lines: Iterable[object]) -> None:
     """Prints JSON objects, each on a line of its own."""
+    sys.stdout.writelines(f"{line}\n" for line in map(encoder().encode, lines))
+
+
+def encoder() -> object:
+    """What writes values as JSON."""
     import json
 
-    encoder = json.JSONEncoder(ensure_ascii=False, separators=(",", ":"))
-    sys.stdout.writelines(encoder.encode(line) + "\n" for line in lines)
+    return json.JSONEncoder(ensure_ascii=False, separators=(",", ":"))
 
 
 FORMS = {"table": print_table, "csv": print_csv, "json": print_json}
@@ -92,27 +102,12 @@ def print_answer(form: str, heads: Sequence[str], rows: Iterable[Cells]) -> None
     FORMS[form](heads, rows)
 
 
-def print_arrays(heads: Collection[str], arrays: list[str]) -> None:
-    """Prints CSV of rows that are arrays of JSON. What stands in one between the quotes is the line of CSV, unless a text
-    has a comma or is escaped."""
-    sys.stdout.write(",".join(heads) + "\r\n")
-    commas = len(heads) - 1
-    for is_plain, group in groupby(arrays, lambda array: array.count(",") == commas and "\\" not in array):
-        if is_plain:
-            sys.stdout.write("\n".join(group)[1:-1].replace("]\n[", "\r\n").replace('"', "") + "\r\n")
-        else:
-            import csv
-            import json
-
-            csv.writer(sys.stdout).writerows(json.loads(f"[{','.join(group)}]"))
-
-
-def print_made(form: str, heads: Collection[str], texts: list[str]) -> None:
-    """Prints rows in a form of FORMS of which each is a text already: a line of a table, or JSON."""
-    if form == "csv":
-        print_arrays(heads, texts)
+def print_made(form: str, texts: Cells) -> None:
+    """Prints rows in a form of FORMS of which each is a text already: a line of a table, of CSV or of JSON."""
+    if form == "table":
+        print_rows(texts)
     else:
-        (print_rows if form == "table" else print_texts)(texts)
+        print_texts(texts, "\r\n" if form == "csv" else "\n")
 
 
 def print_parts(form: str, parts: list[object]) -> None:

@@ -260,31 +260,47 @@ CREATE VIEW history AS
   FROM recordings r JOIN states s ON s.recording = r.id;
 """
 
-# What a list has of a recording stands in one table, with indexes that have all of it in the order of the lists that may be
-# long. Other indexes tell how wide the columns are.
-SECOND = """
-ALTER TABLE recordings ADD COLUMN last_end ANY;
-ALTER TABLE recordings ADD COLUMN last_missing ANY NOT NULL DEFAULT 0;
-ALTER TABLE recordings ADD COLUMN last_orders INTEGER NOT NULL DEFAULT 0;
-ALTER TABLE recordings ADD COLUMN last_findings INTEGER NOT NULL DEFAULT 0;
-ALTER TABLE recordings ADD COLUMN last_disputes INTEGER NOT NULL DEFAULT 0;
-UPDATE recordings SET (last_end, last_missing, last_orders, last_findings, last_disputes) =
-  (SELECT s."end", s.missing, s.orders, s.findings, s.disputes FROM states s
-   WHERE s.recording = recordings.id AND s.number = recordings.state);
-CREATE INDEX recordings_listed ON recordings
-  (name, title, length, timecode, last_end, last_missing, last_orders, last_findings, last_disputes, verified);
+# How a line of a list is laid out behind the name of the recording and its own name.
+LAYOUT = "%-12s  %-11s  %13s  %13s  %6s  %8s  %8s  %s"
+
+
+def csv_of(column: str) -> str:
+    """A text in a line of CSV (RFC 4180). One that there isn't is empty."""
+    has_signs = f"""{column} GLOB '*[",' || char(10, 13) || ']*'"""
+    return f"""iif({has_signs}, '"' || replace({column}, '"', '""') || '"', ifnull({column}, ''))"""
+
+
+# What a list prints of a recording, by its last state: that part of its line, and all of it as CSV and as JSON.
+LISTED = f"""
+UPDATE recordings SET (listed, listed_csv, listed_json) = (
+  SELECT printf('{LAYOUT}', ifnull(length, '-'), ifnull(timecode, '-'), ifnull(s."end", '-'), s.missing, s.orders, s.findings,
+      s.disputes, ifnull(nullif(verified, ''), '-')),
+    {csv_of("name")} || ',' || {csv_of("title")} || printf(',%s,%s,%s,%s,%s,%s,%s,%s', length, timecode, s."end", s.missing,
+      s.orders, s.findings, s.disputes, verified),
+    json_object('recording', name, 'name', title, 'length', length, 'timecode', timecode, 'end', s."end",
+      'missing', s.missing, 'orders', s.orders, 'findings', s.findings, 'disputes', s.disputes,
+      'verified', nullif(verified, ''))
+  FROM states s WHERE s.recording = recordings.id AND s.number = recordings.state)
+"""
+
+# What lists and searches for words print stands where they look, as they print it. Of the lists that may be long an index
+# has it in their order, and two tell how wide the names are.
+SECOND = f"""
+ALTER TABLE recordings ADD COLUMN listed TEXT NOT NULL DEFAULT '';
+ALTER TABLE recordings ADD COLUMN listed_csv TEXT NOT NULL DEFAULT '';
+ALTER TABLE recordings ADD COLUMN listed_json TEXT NOT NULL DEFAULT '';
+{LISTED};
+CREATE INDEX recordings_listed ON recordings (name, title, listed, listed_csv, listed_json);
 DROP INDEX recordings_verified;
-CREATE INDEX recordings_verified ON recordings
-  (verified, name, title, length, timecode, last_end, last_missing, last_orders, last_findings, last_disputes);
+CREATE INDEX recordings_verified ON recordings (verified, name, title, listed, listed_csv, listed_json);
 CREATE INDEX recordings_name_length ON recordings (length(name));
 CREATE INDEX recordings_title_length ON recordings (length(title));
-CREATE INDEX recordings_length_length ON recordings (length(length));
-CREATE INDEX recordings_timecode_length ON recordings (length(timecode));
-CREATE INDEX recordings_end_length ON recordings (length(last_end));
-CREATE INDEX recordings_missing_length ON recordings (length(last_missing));
-CREATE INDEX recordings_orders_length ON recordings (length(last_orders));
-CREATE INDEX recordings_findings_length ON recordings (length(last_findings));
-CREATE INDEX recordings_disputes_length ON recordings (length(last_disputes));
+
+ALTER TABLE words ADD COLUMN found_in TEXT NOT NULL DEFAULT '';
+ALTER TABLE words ADD COLUMN found_as TEXT NOT NULL DEFAULT '';
+ALTER TABLE words ADD COLUMN found_text TEXT NOT NULL DEFAULT '';
+UPDATE words SET (found_in, found_as, found_text) =
+  (SELECT r.name, 'name of ' || t.what, t.text FROM texts t JOIN recordings r ON r.id = t.recording WHERE t.id = words.text);
 """
 
 # What leads from each version of the schema to the next, from nothing on. How many there are is the user_version.

@@ -1,17 +1,17 @@
 """Which timecodes of a day clocks and timecode components have, hour by hour."""
 from __future__ import annotations
 
-from collections import namedtuple
 from collections.abc import Iterator
 
 from archive.timecodes import HOURS, Counting
 
 
-class Span(namedtuple("Span", "first count counting is_open")):
+class Span:
     """Timecodes one after another: the first, how many there are, how they are numbered, and whether there may be more
     than is known."""
 
-    __slots__ = ()
+    def __init__(self, first: str, count: int, counting: Counting, is_open: bool) -> None:
+        self.first, self.count, self.counting, self.is_open = first, count, counting, is_open
 
     def hours(self) -> Iterator[dict]:
         """What of them lies in each hour of a day, as rows of the table hours. A day is all that there is."""
@@ -30,10 +30,11 @@ class Span(namedtuple("Span", "first count counting is_open")):
             }  # fmt: skip
 
 
-class Rate(namedtuple("Rate", "above below")):
+class Rate:
     """Edit units a second: a fraction whose numbers are above 0."""
 
-    __slots__ = ()
+    def __init__(self, above: int, below: int) -> None:
+        self.above, self.below = above, below
 
     def nearest(self) -> int:
         """The whole number that is nearest, the even one of two."""

@@ -11,10 +11,6 @@ from archive.texts import words_of
 # The counts of a state by which it is said to have changed.
 COUNTS = ("packets", "held", "missing", "findings", "disputes", "orders")
 
-# What the table of recordings has of the last state, for lists.
-KEPT = ("end", "missing", "orders", "findings", "disputes")
-
-
 def insert(connection: sqlite3.Connection, table: str, recording: int, rows: list[Row]) -> None:
     """Adds rows of a recording to a table."""
     if rows:
@@ -56,8 +52,7 @@ def store(connection: sqlite3.Connection, recording: Recording) -> bool:
     store_texts(connection, identity, recording)
     number = connection.execute("SELECT coalesce(max(number), 0) + 1 FROM states WHERE recording = ?", (identity,)).fetchone()[0]
     insert(connection, "states", identity, [{"number": number, **recording.state}])
-    last = {f"last_{name}": recording.state[name] for name in KEPT}
-    facts = {**recording.facts, **last, "state": number}
+    facts = {**recording.facts, "state": number}
     changes = ", ".join(f"{name} = :{name}" for name in facts)
     connection.execute(f"UPDATE recordings SET {changes} WHERE id = :id", {**facts, "id": identity})
     settle(connection, identity)
@@ -65,16 +60,17 @@ def store(connection: sqlite3.Connection, recording: Recording) -> bool:
 
 
 def store_texts(connection: sqlite3.Connection, identity: int, recording: Recording) -> None:
-    """Adds the texts by whose words a recording is found."""
+    """Adds the texts by whose words the recording is found, and with each word what `find` prints of its text."""
     for what, text in recording.texts:
         added = connection.execute("INSERT INTO texts (recording, what, text) VALUES (?, ?, ?)", (identity, what, text))
-        words = [(word, added.lastrowid) for word in dict.fromkeys(words_of(text))]
-        connection.executemany("INSERT INTO words (word, text) VALUES (?, ?)", words)
+        found = (added.lastrowid, recording.name, f"name of {what}", text)
+        words = [(word, *found) for word in dict.fromkeys(words_of(text))]
+        connection.executemany("INSERT INTO words (word, text, found_in, found_as, found_text) VALUES (?, ?, ?, ?, ?)", words)
 
 
 def settle(connection: sqlite3.Connection, identity: int) -> None:
     """Sets what follows of a recording from its states and its verifications: whether its counts are others than on the
-    first day, when it was last found whole as its reference says, and whether it is damaged."""
+    first day, when it was last found whole as its reference says, whether it is damaged, and what a list prints of it."""
     differs = " OR ".join(f"a.{name} IS NOT z.{name}" for name in COUNTS)
     codes = ", ".join(f"'{code}'" for code in UNREADABLE)
     last = "(SELECT max(number) FROM verifications WHERE recording = :id)"
@@ -89,6 +85,7 @@ def settle(connection: sqlite3.Connection, identity: int) -> None:
             OR EXISTS (SELECT 1 FROM verifications WHERE recording = :id AND number = {last} AND differs > 0)
           WHERE id = :id""", {"id": identity}
     )  # fmt: skip
+    connection.execute(f"{schema.LISTED} WHERE id = ?", (identity,))
 
 
 def store_verification(connection: sqlite3.Connection, identity: int, told: dict, lines: list[Line],

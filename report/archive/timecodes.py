@@ -1,8 +1,6 @@
 """Timecodes, which number the frames of a day."""
 from __future__ import annotations
 
-from collections import namedtuple
-
 HOURS = 24
 
 
@@ -20,10 +18,11 @@ def is_within(timecode: str, first: str, last: str) -> bool:
     return (first[:8], int(first[9:])) <= (second, frame) <= (last[:8], int(last[9:]))
 
 
-class Counting(namedtuple("Counting", "base is_drop")):
+class Counting:
     """How the frames of a day are numbered: so many a second, and whether drop frame leaves labels out."""
 
-    __slots__ = ()
+    def __init__(self, base: int, is_drop: bool) -> None:
+        self.base, self.is_drop = base, is_drop
 
     def left_out(self) -> int:
         """How many labels drop frame leaves out of a minute, but for each tenth (ST 12-1)."""

@@ -5,8 +5,7 @@ of mxf_tool of a small catalogue.
 """
 from __future__ import annotations
 
-from collections import namedtuple
-from collections.abc import Iterator
+from collections.abc import Iterator, Sequence
 from types import SimpleNamespace
 
 Words = SimpleNamespace
@@ -30,17 +29,28 @@ class WordFault(Exception):
         self.command = command
 
 
-# A word behind a command: the field that has it, its name, what it is, and how many there are at least and at most. If
-# there may be several, it is the last, and the field has a list.
-Word = namedtuple("Word", "field name said least most", defaults=(1, 1))
+class Word:
+    """A word behind a command: the field that has it, its name, what it is, and how many there are at least and at most. If
+    there may be several, it is the last, and the field has a list."""
 
-# An option: its name, the field that it sets, what it does, and to what it sets the field. If it takes a word, that has
-# a name, and is read by the value. Of options of one kind one alone may be given.
-Option = namedtuple("Option", "name field said value takes kind", defaults=(True, "", ""))
+    def __init__(self, field: str, name: str, said: str, least: int = 1, most: int | None = 1) -> None:
+        self.field, self.name, self.said, self.least, self.most = field, name, said, least, most
 
-# A command: the module that has the function of its name, what it does, its words and its options, and the fields that
-# aren't None without an option. A field with a list takes each word, and needs one.
-Command = namedtuple("Command", "module said words options fields")
+
+class Option:
+    """An option: its name, the field that it sets, what it does, and to what it sets the field. If it takes a word, that has
+    a name, and is read by the value. Of options of one kind one alone may be given."""
+
+    def __init__(self, name: str, field: str, said: str, value: object = True, takes: str = "", kind: str = "") -> None:
+        self.name, self.field, self.said, self.value, self.takes, self.kind = name, field, said, value, takes, kind
+
+
+class Command:
+    """A command: the module that has the function of its name, what it does, its words and its options, and the fields that
+    aren't None without an option. A field with a list takes each word, and needs one."""
+
+    def __init__(self, module: str, said: str, words: Sequence[Word], options: Sequence[Option], fields: dict) -> None:
+        self.module, self.said, self.words, self.options, self.fields = module, said, words, options, fields
 
 
 def number(text: str) -> int:
@@ -95,12 +105,12 @@ COMMANDS = {
     "show": Command("listing", "print all of a recording", (DATABASE, NAME), FORMS, TABLE),
     "orders": Command("listing", "print what is to be restored", (DATABASE,), ORDERED + FORMS,
                       {"by": "name", "merge": 0, **TABLE}),
-    "verify": Command("adding", "verify a recording, and keep what comes of it", (DATABASE, NAME, SOURCE),
+    "verify": Command("verifying", "verify a recording, and keep what comes of it", (DATABASE, NAME, SOURCE),
                       (AGAINST, SOURCES), {"against": []}),
     "match": Command("matching", "print of which recording fragments are, and where they lie in it", (DATABASE, SOURCE),
                      (SOURCES, *FORMS), TABLE),
     "lines": Command("adding", "print what add would put into the database", (NAME, SOURCE), ADDED, {"skim": False}),
-    "load": Command("adding", "put recordings into the database of which lines were printed", (DATABASE, FILE), (), {}),
+    "load": Command("loading", "put recordings into the database of which lines were printed", (DATABASE, FILE), (), {}),
 }  # fmt: skip
 
 
