@@ -78,8 +78,8 @@ def print_csv(heads: Sequence[str], rows: Iterable[Cells]) -> None:
 def print_json(heads: Sequence[str], rows: Iterable[Cells]) -> None:
     """Prints a JSON object a line, with a member for each column."""
     encode = encoder().encode
-    members = ",".join(f"{encode(head)}:%s" for head in heads)
-    sys.stdout.writelines(f"{{{members}}}\n" % tuple(map(encode, row)) for row in rows)
+    line = "{" + ",".join(f"{encode(head)}:%s" for head in heads) + "}\n"
+    sys.stdout.writelines(line % tuple(map(encode, row)) for row in rows)
 
 
 def print_lines(lines: Iterable[object]) -> None:
