@@ -2,12 +2,11 @@
 import contextlib
 import os
 import sqlite3
-import sys
 import time
 from collections.abc import Iterator
 
 from archive import schema
-from archive.faults import DATA, NO_PROGRAM, READ, UNWRITTEN, OwnFault
+from archive.faults import DATA, NO_PROGRAM, READ, UNWRITTEN, OwnFault, tell_own
 
 PATIENCE = 1  # seconds after which it is said that another writer is waited for
 LONGEST = 600  # seconds that are waited at most
@@ -121,7 +120,7 @@ class Waiting:
                 if not is_locked(fault) or waited > LONGEST:
                     raise
                 if waited > PATIENCE and not self.is_told:
-                    print(f"mxf_archive: {self.path}: another program writes to it, and is waited for", file=sys.stderr)
+                    tell_own(f"{self.path}: another program writes to it, and is waited for")
                     self.is_told = True
                 time.sleep(0.02)
 

@@ -1,4 +1,5 @@
-"""What can go wrong, and the statuses of it."""
+"""What can go wrong, the statuses of it, and how it is said."""
+import sys
 
 USAGE, READ, OUTPUT, DATA, NO_PROGRAM, UNWRITTEN = 2, 3, 6, 65, 69, 73  # statuses that are this program's own
 
@@ -22,3 +23,17 @@ class OwnFault(Exception):
     def __init__(self, status: int, message: str) -> None:
         super().__init__(message)
         self.status = status
+
+
+def tell(said: bytes) -> None:
+    """Says something on standard error. If that takes nothing, nobody is told."""
+    try:
+        sys.stderr.buffer.write(said)
+        sys.stderr.buffer.flush()
+    except OSError:
+        pass
+
+
+def tell_own(said: str) -> None:
+    """Says a line of this program."""
+    tell(f"mxf_archive: {said}\n".encode("utf-8", "replace"))

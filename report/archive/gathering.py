@@ -11,7 +11,7 @@ import os
 from archive import moments
 from archive.asking import Line, Source, Sources, Tool, is_identifier, origin_of, sha256_of, source_of
 from archive.calling import Call
-from archive.faults import ToolFault
+from archive.faults import OwnFault, ToolFault
 
 FORMAT = 1  # of these lines
 INDEXES = 16  # of which edit units are counted
@@ -49,6 +49,9 @@ class Gathering:
         return self
 
     def __exit__(self, *_: object) -> None:
+        # The first call says by itself that nobody takes what it prints, so that is taken.
+        with contextlib.suppress(ToolFault, OwnFault):
+            self.tool.version()
         self.opened.close()
 
     def gather(self) -> list[Line]:

@@ -1,9 +1,8 @@
 """The command that puts recordings into the database by lines that were printed."""
 import sqlite3
-import sys
 
 from archive import database, storing
-from archive.faults import DATA, READ, OwnFault
+from archive.faults import DATA, READ, OwnFault, tell_own
 from archive.json_lines import Line, line_of
 from archive.rows import Recording, recordings_of
 from archive.words import Words
@@ -23,7 +22,7 @@ def load(words: Words) -> int:
         except OwnFault as fault:
             if fault.status not in (DATA, READ):
                 raise
-            print(f"mxf_archive: {fault}", file=sys.stderr)
+            tell_own(str(fault))
             status = status or fault.status
     print(f"loaded {loaded}, passed over {older} that are no newer than what is there")
     return status

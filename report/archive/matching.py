@@ -1,12 +1,11 @@
 """The command that finds of which recording fragments are, by their identifiers and their packets."""
 import os
 import sqlite3
-import sys
 from collections import namedtuple
 from collections.abc import Iterable
 
 from archive import asking, database, printing
-from archive.faults import USAGE, OwnFault
+from archive.faults import USAGE, OwnFault, tell_own
 from archive.words import Words
 
 # By which identifiers candidates are found: those of packages and modifications, and if none has one, those of any set,
@@ -67,7 +66,7 @@ def catalogues_of(connection: sqlite3.Connection, recording: int) -> list[Candid
     asked = [row for row in rows if row["number"] == 0] or rows
     there = [Candidate(row["name"], row["path"]) for row in asked if row["path"] and os.path.isfile(row["path"])]
     if not there:
-        print(f"mxf_archive: no catalogue of {printing.cell(rows[0]['name'])} is there, so it isn't looked at", file=sys.stderr)
+        tell_own(f"no catalogue of {printing.cell(rows[0]['name'])} is there, so it isn't looked at")
     return there
 
 
