@@ -19,10 +19,13 @@ def gathering_of(words: Words) -> gathering.Gathering:
 def add(words: Words) -> int:
     """Puts a recording into the database. All is asked before that is written to."""
     with gathering_of(words) as asked:
-        from archive import database, printing, storing
+        from archive import database, printing
+
+        database.check_place(words.database, is_soon=bool(asked.calls))
+        asked.read()
+        from archive import storing
         from archive.rows import recordings_of
 
-        database.check_place(words.database)
         lines = asked.gather()
     try:
         (recording,) = recordings_of(lines, asked.tool.program)

@@ -198,12 +198,16 @@ class Tool:
         if self.told is None:
             with self.first as call:
                 texts = list(call.texts())
-            if call.status == NO_PROGRAM:
-                raise ToolFault(NO_PROGRAM, b"")
             if call.status != 0:
                 raise OwnFault(NO_PROGRAM, f"{self.program} --version ended with status {call.status}")
             self.told = b"\n".join(texts).decode("utf-8", "replace").strip()
         return self.told
+
+    def close(self) -> None:
+        """Takes what the first call prints, if that wasn't asked for: it says by itself that nobody does."""
+        if self.first.process is not None:
+            with contextlib.suppress(OwnFault):
+                self.version()
 
     def call(self, words: Sequence[str], sources: Sources, is_alone: bool = True) -> Call:
         """The call of a command of the sources, which goes on alone or beside others."""

@@ -87,16 +87,18 @@ def reading(path: str) -> Iterator[sqlite3.Connection]:
         yield connection
 
 
-def check_place(path: str) -> None:
-    """Sees that a database can be written there, before a recording is asked for, which may take an hour."""
+def check_place(path: str, is_soon: bool = False) -> None:
+    """Sees that a database can be written there, before a recording is asked for, which may take an hour. If it is written to
+    soon, that tells its version."""
     check_library()
-    if os.path.exists(path) and os.path.getsize(path):
+    folder = os.path.dirname(os.path.abspath(path))
+    is_there = os.path.exists(path)
+    if not is_there and not os.path.isdir(folder):
+        raise OwnFault(UNWRITTEN, f"write fault: {path}: No such file or directory")
+    if not is_soon and is_there and os.path.getsize(path):
         with faults_of(path, UNWRITTEN), contextlib.closing(sqlite3.connect(address_of(path, "ro"), uri=True)) as connection:
             version_of(connection, path)
-    elif not os.path.isdir(os.path.dirname(os.path.abspath(path))):
-        raise OwnFault(UNWRITTEN, f"write fault: {path}: No such file or directory")
-    target = path if os.path.exists(path) else os.path.dirname(os.path.abspath(path))
-    if not os.access(target, os.W_OK):
+    if not os.access(path if is_there else folder, os.W_OK):
         raise OwnFault(UNWRITTEN, f"write fault: {path}: Permission denied")
 
 

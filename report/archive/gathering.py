@@ -11,7 +11,7 @@ import os
 from archive import moments
 from archive.asking import Line, Source, Sources, Tool, is_identifier, origin_of, sha256_of, source_of
 from archive.calling import Call
-from archive.faults import OwnFault, ToolFault
+from archive.faults import ToolFault
 
 FORMAT = 1  # of these lines
 INDEXES = 16  # of which edit units are counted
@@ -35,6 +35,8 @@ class Gathering:
         self.tool = Tool()
         self.lines: list[Line] = []
         self.calls: list[Call] = []
+        self.units: dict[int, Call] = {}
+        self.asked: Sources | None = None  # the sources that all was asked of, once that is done
         self.opened = contextlib.ExitStack()
         self.gathered = moments.text_of(moments.now())
         self.origins = [origin_of(number, source_of(word)) for number, word in enumerate(sources.each(), 1)]
@@ -42,26 +44,46 @@ class Gathering:
             self.origins.insert(0, origin_of(0, source_of(f"cat:{catalogue}")))
 
     def __enter__(self) -> "Gathering":
-        self.opened.enter_context(self.tool.first)
         sources = self.named()
         if sources is not None and is_small_catalogue(sources):
             self.begin(sources)
         return self
 
     def __exit__(self, *_: object) -> None:
-        # The first call says by itself that nobody takes what it prints, so that is taken.
-        with contextlib.suppress(ToolFault, OwnFault):
-            self.tool.version()
+        self.tool.close()
         self.opened.close()
 
-    def gather(self) -> list[Line]:
-        """All lines of the recording."""
+    def read(self) -> None:
+        """Asks for all but edit units, in the order in which a reader of the lines needs it. Meanwhile the catalogues are
+        digested, and edit units are counted from when it is known of which indexes."""
         self.lines.append({
             "line": "recording", "format": FORMAT, "name": self.name, "gathered": self.gathered,
             "program": self.tool.version(), "skim": self.is_skim,
         })  # fmt: skip
         self.lines += self.origins
-        self.ask_all(self.named() or self.joined())
+        sources = self.named() or self.joined()
+        if not self.calls:
+            self.begin(sources)
+        for line in self.origins:
+            if line["form"] == "cat":
+                line["sha256"] = sha256_of(line["path"])
+        self.add_show(self.calls[0])
+        self.units = {index_sid: self.tool.call(self.units_words(index_sid), sources) for index_sid in self.indexes()}
+        for call in [*self.units.values()][:1] if is_small_catalogue(sources) else ():
+            self.opened.enter_context(call).begin()
+        for command, call in zip(COMMANDS[1:], self.calls[1:]):
+            said = self.tool.said_by(call, lambda text: not text.startswith(b'{"line":"row"'))
+            self.lines.append({"line": "asked", "command": command})
+            self.lines += said
+        self.asked = sources
+
+    def gather(self) -> list[Line]:
+        """All lines of the recording, as soon as edit units are counted."""
+        if self.asked is None:
+            self.read()
+        for index_sid, call in self.units.items():
+            self.lines.append({"line": "asked", "command": "units", "index-sid": index_sid})
+            self.lines.append(self.units_of(index_sid, call))
         self.lines.append({"line": "recorded", "name": self.name, "lines": len(self.lines) + 1})
         return self.lines
 
@@ -99,26 +121,6 @@ class Gathering:
         for call in self.calls if is_at_once else ():
             self.opened.enter_context(call).begin()
 
-    def ask_all(self, sources: Sources) -> None:
-        """Adds what each command says, in the order in which a reader of the lines needs it. Meanwhile the catalogues are
-        digested."""
-        if not self.calls:
-            self.begin(sources)
-        for line in self.origins:
-            if line["form"] == "cat":
-                line["sha256"] = sha256_of(line["path"])
-        self.add_show(self.calls[0])
-        units = {index_sid: self.tool.call(self.units_words(index_sid), sources) for index_sid in self.indexes()}
-        for call in [*units.values()][:1] if is_small_catalogue(sources) else ():
-            self.opened.enter_context(call).begin()
-        for command, call in zip(COMMANDS[1:], self.calls[1:]):
-            said = self.tool.said_by(call, lambda text: not text.startswith(b'{"line":"row"'))
-            self.lines.append({"line": "asked", "command": command})
-            self.lines += said
-        for index_sid, call in units.items():
-            self.lines.append({"line": "asked", "command": "units", "index-sid": index_sid})
-            self.lines.append(self.units_of(index_sid, call, sources))
-
     def add_show(self, call: Call) -> None:
         """Adds what show says, with the number of packets in place of those that aren't in dispute. Of items identifiers
         are kept."""
@@ -143,7 +145,7 @@ class Gathering:
         """The words that ask how many edit units of an index are held."""
         return ["units", "--index", str(index_sid), *span, *self.skimming()]
 
-    def units_of(self, index_sid: int, call: Call, sources: Sources) -> Line:
+    def units_of(self, index_sid: int, call: Call) -> Line:
         """The last line of units, or why there is none. If the index doesn't say its last unit, the header metadata
         may."""
         said = self.counted(call)
@@ -154,7 +156,7 @@ class Gathering:
             return said
         if last >= UNITS:
             return uncounted(TOO_MANY)
-        return self.counted(self.tool.call(self.units_words(index_sid, "--from", "0", "--to", str(last)), sources))
+        return self.counted(self.tool.call(self.units_words(index_sid, "--from", "0", "--to", str(last)), self.asked))
 
     def counted(self, call: Call) -> Line:
         """The last line of a call of units, or why there is none."""

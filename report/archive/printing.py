@@ -77,21 +77,18 @@ def print_csv(heads: Sequence[str], rows: Iterable[Cells]) -> None:
 
 def print_json(heads: Sequence[str], rows: Iterable[Cells]) -> None:
     """Prints a JSON object a line, with a member for each column."""
-    encode = encoder().encode
-    line = "{" + ",".join(f"{encode(head)}:%s" for head in heads) + "}\n"
-    sys.stdout.writelines(line % tuple(map(encode, row)) for row in rows)
+    from archive.json_lines import json_of
+
+    line = "{" + ",".join(f"{json_of(head)}:%s" for head in heads) + "}\n"
+    sys.stdout.writelines(line % tuple(map(json_of, row)) for row in rows)
 
 
 def print_lines(lines: Iterable[object]) -> None:
     """Prints JSON objects, each on a line of its own."""
-    sys.stdout.writelines(f"{line}\n" for line in map(encoder().encode, lines))
-
-
-def encoder() -> object:
-    """What writes values as JSON."""
     import json
 
-    return json.JSONEncoder(ensure_ascii=False, separators=(",", ":"))
+    encoder = json.JSONEncoder(ensure_ascii=False, separators=(",", ":"))
+    sys.stdout.writelines(f"{line}\n" for line in map(encoder.encode, lines))
 
 
 FORMS = {"table": print_table, "csv": print_csv, "json": print_json}

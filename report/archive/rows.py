@@ -2,7 +2,6 @@
 from __future__ import annotations
 
 import collections
-import re
 from collections.abc import Iterable, Iterator
 
 from archive import moments, spans
@@ -14,8 +13,9 @@ Row = dict  # the values of a row, by the names of its columns
 
 GREATEST = 2**63 - 1  # of an INTEGER of SQLite
 
-# A time in UTC by ISO 8601, to the second.
-TIME = r"[0-9]{4}-[0-9]{2}-[0-9]{2}T[0-9]{2}:[0-9]{2}:[0-9]{2}Z"
+# A time in UTC by ISO 8601, to the second, with a zero for each digit; and what has a zero for each digit.
+TIME = "0000-00-00T00:00:00Z"
+ZEROS = dict.fromkeys(map(ord, "123456789"), "0")
 
 # The commands whose lines are taken, and what is kept of a source.
 COMMANDS = ("show", "describe", "check", "plan", "map", "units")
@@ -37,7 +37,7 @@ class Recording:
     """A recording as its lines tell it: its name, its state, what stands in the table of recordings, and rows of others."""
 
     def __init__(self, line: Line) -> None:
-        if line.get("line") != "recording" or line["format"] != FORMAT or not re.fullmatch(TIME, line["gathered"]):
+        if line.get("line") != "recording" or line["format"] != FORMAT or line["gathered"].translate(ZEROS) != TIME:
             raise ValueError("no first line of a recording")
         self.name: str = line["name"]
         self.state: Row = {"gathered": line["gathered"], "program": line["program"], "is_skim": int(line["skim"])}
