@@ -5,6 +5,7 @@ so it is taken only where a Python has the parts by other names.
 """
 from __future__ import annotations
 
+from collections.abc import Iterable, Sequence
 from types import SimpleNamespace
 
 from archive.faults import NO_PROGRAM, OwnFault
@@ -43,3 +44,8 @@ def json_of(value: str | int | None) -> str:
     if value is None:
         return "null"
     return encode_basestring(value) if isinstance(value, str) else str(value)
+
+
+def texts_of(column: Sequence) -> Iterable[str]:
+    """Values as JSON. All of a column are mostly texts, which take a third of the time then."""
+    return map(encode_basestring if set(map(type, column)) == {str} else json_of, column)

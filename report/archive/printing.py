@@ -75,12 +75,12 @@ def print_csv(heads: Sequence[str], rows: Iterable[Cells]) -> None:
     writer.writerows(rows)
 
 
-def print_json(heads: Sequence[str], rows: Iterable[Cells]) -> None:
+def print_json(heads: Sequence[str], rows: Iterable[tuple]) -> None:
     """Prints a JSON object a line, with a member for each column."""
-    from archive.json_lines import json_of
+    from archive.json_lines import json_of, texts_of
 
     line = "{" + ",".join(f"{json_of(head)}:%s" for head in heads) + "}\n"
-    sys.stdout.writelines(line % tuple(map(json_of, row)) for row in rows)
+    sys.stdout.writelines(map(line.__mod__, zip(*map(texts_of, zip(*rows)))))
 
 
 def print_lines(lines: Iterable[object]) -> None:
