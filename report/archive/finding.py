@@ -31,14 +31,10 @@ ORDER BY r.name, h.number
 """
 
 # Texts with a word that begins so, as often as they have one: from this beginning up to what comes after all such words.
-BY_WORD = """
-SELECT found_in AS recording, found_as AS what, found_text AS text FROM words WHERE word >= :word AND word < :word || :after
-"""
-# Those that have one for each of an array of others too: SQLite bounds how many values a question has, and no array.
-AND_BY_OTHERS = """
-AND NOT EXISTS (SELECT 1 FROM json_each(:others) WHERE NOT EXISTS (
-  SELECT 1 FROM words o WHERE o.text = words.text AND o.word >= json_each.value AND o.word < json_each.value || :after))
-"""
+BY_WORD = "SELECT found_in AS recording, found_as AS what, found_text AS text FROM words WHERE word >= ? AND word < ?"
+# Those that have another one too. SQLite bounds how many values a question has, so it is asked for so many others.
+AND_BY_WORD = " AND EXISTS (SELECT 1 FROM words o WHERE o.text = words.text AND o.word >= ? AND o.word < ?)"
+OTHERS = 50
 AFTER_ALL = "\U0010ffff"
 
 # How many digits an identifier has that is asked for, what may stand before them, and what between them beside spaces.
@@ -90,15 +86,21 @@ def found_by_umid(connection: sqlite3.Connection, digits: str) -> list[tuple]:
 
 
 def found_by_words(connection: sqlite3.Connection, words: Sequence[str]) -> list[tuple]:
-    """Texts that have, for each of the words, one that begins with it. The longest word is asked first, since few texts may
-    have it."""
+    """Texts that have, for each of the words, one that begins with it. The longest words are asked first, since few texts may
+    have them."""
     if not words:
         return []
-    first, *others = sorted(dict.fromkeys(words), key=len, reverse=True)
-    question = BY_WORD + AND_BY_OTHERS if others else BY_WORD
-    # Words have no character that JSON would escape.
-    array = ",".join(f'"{word}"' for word in others)
-    return answer_of(connection, question, {"word": first, "after": AFTER_ALL, "others": f"[{array}]"})[1]
+    words = sorted(dict.fromkeys(words), key=len, reverse=True)
+    asked, rest = words[: OTHERS + 1], words[OTHERS + 1 :]
+    values = [value for word in asked for value in (word, word + AFTER_ALL)]
+    rows = answer_of(connection, BY_WORD + AND_BY_WORD * (len(asked) - 1), values)[1]
+    return [row for row in rows if has_all(row[-1], rest)] if rest else rows
+
+
+def has_all(text: str, beginnings: Sequence[str]) -> bool:
+    """Whether a text has, for each beginning, a word that begins so."""
+    words = words_of(text)
+    return all(any(word.startswith(beginning) for word in words) for beginning in beginnings)
 
 
 def found_by_timecode(connection: sqlite3.Connection, timecode: str) -> Found:
