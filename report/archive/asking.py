@@ -10,8 +10,8 @@ from collections.abc import Callable, Sequence
 from archive import moments
 from archive.calling import Call
 from archive.faults import NO_PROGRAM, READ, USAGE, OwnFault, ToolFault
+from archive.json_lines import Line, line_of
 
-Line = dict  # the members of a JSON object of mxf_tool, by their names
 Keeps = Callable[[bytes], bool]  # whether a line is kept
 
 # Tags of sets whose values tell recordings apart (ST 377-1), and what each is: the identifier of the set, of a package, and
@@ -236,7 +236,4 @@ class Tool:
             raise ToolFault(call.status if call.status > 0 else 128 - call.status, call.said)
         if not is_whole:
             raise OwnFault(NO_PROGRAM, f"{name} {command} prints no line {CLOSING[command]}")
-        # Loaded while mxf_tool works, as it takes as long.
-        from archive.json_lines import line_of
-
         return [line_of(text, name) for text in texts]

@@ -9,9 +9,10 @@ import contextlib
 import os
 
 from archive import moments
-from archive.asking import Line, Source, Sources, Tool, is_identifier, origin_of, sha256_of, source_of
+from archive.asking import Source, Sources, Tool, is_identifier, origin_of, sha256_of, source_of
 from archive.calling import Call
 from archive.faults import ToolFault
+from archive.json_lines import Line
 
 FORMAT = 1  # of these lines
 INDEXES = 16  # of which edit units are counted

@@ -1,6 +1,6 @@
 """JSON, of mxf_tool, of files that are loaded, and of answers.
 
-It is read and written by what Python's module json is made of. That module takes as long to load as ten calls of mxf_tool,
+It is read and written by what Python's module json is made of. To load that module takes as long as all calls of an add,
 so it is taken only where a Python has the parts by other names.
 """
 from __future__ import annotations
@@ -47,5 +47,5 @@ def json_of(value: str | int | None) -> str:
 
 
 def texts_of(column: Sequence) -> Iterable[str]:
-    """Values as JSON. All of a column are mostly texts, which take a third of the time then."""
+    """Values as JSON. Mostly all of a column are texts, and then none is looked at by itself."""
     return map(encode_basestring if set(map(type, column)) == {str} else json_of, column)

@@ -5,9 +5,10 @@ import collections
 from collections.abc import Iterable, Iterator
 
 from archive import moments, spans
-from archive.asking import Line, identifier_of
+from archive.asking import identifier_of
 from archive.faults import DATA, OwnFault
 from archive.gathering import FORMAT
+from archive.json_lines import Line
 
 Row = dict  # the values of a row, by the names of its columns
 

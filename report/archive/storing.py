@@ -4,7 +4,7 @@ from __future__ import annotations
 import sqlite3
 
 from archive import moments, schema
-from archive.asking import Line
+from archive.json_lines import Line
 from archive.rows import UNREADABLE, Recording, Row, number_of
 from archive.texts import words_of
 
