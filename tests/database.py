@@ -277,10 +277,10 @@ def check_listed(connection):
         csv.writer(text).writerow(row.values())
         differ("the CSV of a list", text.getvalue(), listed[1] + "\r\n")
         differ("the JSON of a list", json.dumps(row, ensure_ascii=False, separators=(",", ":")), listed[2])
-    other = connection.execute("SELECT w.word, w.text FROM words w JOIN texts t ON t.id = w.text JOIN recordings r ON r.id = "
-                               "t.recording WHERE (w.found_in, w.found_as, w.found_text) IS NOT (r.name, 'name of ' || t.what, "
-                               "t.text)")  # fmt: skip
-    differ("words of other texts", [], [tuple(row) for row in other])
+    rows = connection.execute("SELECT r.name AS recording, t.what, t.text, w.found_in, w.found_line FROM words w JOIN texts t "
+                              "ON t.id = w.text JOIN recordings r ON r.id = t.recording")  # fmt: skip
+    for row in rows:
+        differ("what find prints", (row["recording"], f"{'name of ' + row['what']:17}  {row['text']}"), tuple(row)[3:])
 
 
 def list_anew(database):
@@ -320,7 +320,8 @@ def archive():
 def run_traced(words, trace):
     """Runs mxf_archive by these words, and answers its status. Each statement is handed to the function ahead of it."""
     module = archive()
-    connect = sqlite3.connect
+    library = importlib.import_module("archive.database").sqlite3
+    connect = library.connect
 
     def traced(*arguments, **options):
         """A connection whose statements are traced."""
@@ -328,12 +329,12 @@ def run_traced(words, trace):
         connection.set_trace_callback(trace)
         return connection
 
-    sqlite3.connect = traced
+    library.connect = traced
     sys.argv = ["mxf_archive", *words]
     try:
         return module.main()
     finally:
-        sqlite3.connect = connect
+        library.connect = connect
 
 
 def statements_of(words):

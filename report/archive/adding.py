@@ -42,5 +42,5 @@ def lines(words: Words) -> int:
     with gathering_of(words) as asked:
         from archive import printing
 
-        printing.print_lines(asked.gather())
+        printing.print_objects(asked.gather())
     return 0

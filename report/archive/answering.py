@@ -1,11 +1,11 @@
 """What is asked of the database: lists, all of one recording, and orders."""
 from __future__ import annotations
 
-import sqlite3
 from collections.abc import Sequence
 from itertools import chain
 
 from archive import moments, schema
+from archive.database import Connection, Row
 from archive.faults import USAGE, OwnFault
 from archive.printing import number_or_none
 
@@ -77,7 +77,7 @@ FROM recordings r JOIN orders o ON o.recording = r.id WHERE r.is_missing = 1 ORD
 Answer = tuple[list[str], list[tuple]]
 
 
-def answer_of(connection: sqlite3.Connection, question: str, values: Sequence[object] | dict[str, str] = ()) -> Answer:
+def answer_of(connection: Connection, question: str, values: Sequence[object] | dict[str, str] = ()) -> Answer:
     """The heads and the rows that a question answers."""
     cursor = connection.cursor()
     cursor.row_factory = None
@@ -85,7 +85,7 @@ def answer_of(connection: sqlite3.Connection, question: str, values: Sequence[ob
     return [column[0] for column in cursor.description], rows
 
 
-def listed(connection: sqlite3.Connection, what: str, days: int | None, form: str) -> list[str]:
+def listed(connection: Connection, what: str, days: int | None, form: str) -> list[str]:
     """The recordings of a list, each as a text of ROWS, and but for JSON the heads before them. Those that weren't verified
     for so many days go by the time of their last verification."""
     values = {} if days is None else {"since": before(days)}
@@ -98,7 +98,7 @@ def listed(connection: sqlite3.Connection, what: str, days: int | None, form: st
     return [*heads, *chain.from_iterable(texts)]
 
 
-def layout_of(connection: sqlite3.Connection) -> str:
+def layout_of(connection: Connection) -> str:
     """How a line of a list is laid out, for printf of SQLite: the two names are as wide in characters as the widest of all
     recordings."""
     widest = "SELECT (SELECT max(length(name)) FROM recordings), (SELECT max(length(title)) FROM recordings)"
@@ -111,13 +111,13 @@ def before(days: int) -> str:
     return moments.text_of(moments.now() - days * moments.DAY) or "0"
 
 
-def shown(connection: sqlite3.Connection, identity: int) -> list[tuple[str, list[str], list[tuple]]]:
+def shown(connection: Connection, identity: int) -> list[tuple[str, list[str], list[tuple]]]:
     """All of a recording: each table that has something of it."""
     parts = [(table, *answer_of(connection, question, (identity,))) for table, question in SHOWN.items()]
     return [part for part in parts if part[2]]
 
 
-def identity_of(connection: sqlite3.Connection, name: str) -> int:
+def identity_of(connection: Connection, name: str) -> int:
     """The number of a recording, which has to be there."""
     row = connection.execute("SELECT id FROM recordings WHERE name = ?", (name,)).fetchone()
     if row is None:
@@ -129,7 +129,7 @@ class Stretch:
     """Orders of a recording that are restored as one: from where to where, why, and the form of source that takes what
     comes."""
 
-    def __init__(self, row: sqlite3.Row) -> None:
+    def __init__(self, row: Row) -> None:
         self.recording, self.start, self.end = row["recording"], int(row["start"]), number_or_none(row["end"])
         self.reasons = {row["reason"]: None}
         self.form = "range" if row["is_inside"] else "at"
@@ -149,7 +149,7 @@ class Stretch:
         return self.recording, self.start, self.end, length, ",".join(self.reasons), self.form
 
 
-def ordered(connection: sqlite3.Connection, by: str, apart: int) -> Answer:
+def ordered(connection: Connection, by: str, apart: int) -> Answer:
     """All orders, of which those of one recording are one that touch or lie less than so many bytes apart."""
     stretches: list[Stretch] = []
     for order in sorted(map(Stretch, connection.execute(ORDERS)), key=lambda one: (one.recording, one.start)):

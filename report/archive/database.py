@@ -1,12 +1,19 @@
 """The database file: opening it, its version, waiting for other writers, and transactions."""
 import contextlib
 import os
-import sqlite3
 import time
 from collections.abc import Iterator
 
 from archive import schema
 from archive.faults import DATA, NO_PROGRAM, READ, UNWRITTEN, OwnFault, tell_own
+
+try:
+    # Of this Python's module sqlite3 is made, which loads datetime too.
+    import _sqlite3 as sqlite3
+except ImportError:
+    import sqlite3
+
+Connection, Row = sqlite3.Connection, sqlite3.Row
 
 PATIENCE = 1  # seconds after which it is said that another writer is waited for
 LONGEST = 600  # seconds that are waited at most
@@ -14,7 +21,7 @@ LONGEST = 600  # seconds that are waited at most
 
 def check_library() -> None:
     """Sees that the library of SQLite knows what the schema needs."""
-    if sqlite3.sqlite_version_info < schema.SQLITE:
+    if tuple(map(int, sqlite3.sqlite_version.split("."))) < schema.SQLITE:
         least = ".".join(str(part) for part in schema.SQLITE[:2])
         raise OwnFault(NO_PROGRAM, f"SQLite {least} is needed, and this Python has {sqlite3.sqlite_version}")
 
@@ -46,7 +53,7 @@ def faults_of(path: str, status: int) -> Iterator[None]:
         raise OwnFault(status, f"{words}: {path}: {fault}") from fault
 
 
-def version_of(connection: sqlite3.Connection, path: str) -> int:
+def version_of(connection: Connection, path: str) -> int:
     """The version of the schema; 0 of a file that has nothing. Any other is none of this program's."""
     application = connection.execute("PRAGMA application_id").fetchone()[0]
     version = connection.execute("PRAGMA user_version").fetchone()[0]
@@ -62,7 +69,7 @@ def version_of(connection: sqlite3.Connection, path: str) -> int:
 
 
 @contextlib.contextmanager
-def reading(path: str) -> Iterator[sqlite3.Connection]:
+def reading(path: str) -> Iterator[Connection]:
     """The database, to be asked: all answers are of one state of it. It is written to only to make up for a writer that was
     killed. Of one of an earlier version a copy in memory is asked."""
     check_library()
@@ -81,7 +88,7 @@ def reading(path: str) -> Iterator[sqlite3.Connection]:
             former.backup(connection)
             # A writer may have taken the steps meanwhile.
             take_steps(connection, version_of(connection, path))
-        connection.row_factory = sqlite3.Row
+        connection.row_factory = Row
         connection.execute("PRAGMA query_only = ON")
         connection.execute("BEGIN")
         yield connection
@@ -110,7 +117,7 @@ class Waiting:
         self.begun = time.monotonic()
         self.is_told = False
 
-    def until(self, connection: sqlite3.Connection, statement: str) -> None:
+    def until(self, connection: Connection, statement: str) -> None:
         """Runs a statement as soon as no other program holds the database."""
         while True:
             connection.execute(f"PRAGMA busy_timeout = {1000 * PATIENCE}")
@@ -128,7 +135,7 @@ class Waiting:
 
 
 @contextlib.contextmanager
-def writing(path: str, is_new: bool = False) -> Iterator[sqlite3.Connection]:
+def writing(path: str, is_new: bool = False) -> Iterator[Connection]:
     """A transaction that writes to the database, all or nothing. If that may be new, it is made."""
     if not is_new and not os.path.exists(path):
         raise OwnFault(READ, f"read fault: {path}: No such file or directory")
@@ -136,7 +143,7 @@ def writing(path: str, is_new: bool = False) -> Iterator[sqlite3.Connection]:
         mode = "rwc" if is_new else "rw"
         connection = sqlite3.connect(address_of(path, mode), uri=True, isolation_level=None)
         with contextlib.closing(connection):
-            connection.row_factory = sqlite3.Row
+            connection.row_factory = Row
             waiting = Waiting(path)
             if version_of(connection, path) == 0:
                 waiting.until(connection, "PRAGMA journal_mode = WAL")
@@ -153,7 +160,7 @@ def writing(path: str, is_new: bool = False) -> Iterator[sqlite3.Connection]:
                 raise
 
 
-def take_steps(connection: sqlite3.Connection, version: int) -> None:
+def take_steps(connection: Connection, version: int) -> None:
     """Brings the tables from a version of the schema to the last one; from 0 on they are made."""
     if version == schema.VERSION:
         return

@@ -1,7 +1,6 @@
 """The command that puts recordings into the database by lines that were printed."""
-import sqlite3
-
 from archive import database, storing
+from archive.database import Connection, sqlite3
 from archive.faults import DATA, READ, OwnFault, tell_own
 from archive.json_lines import Line, line_of
 from archive.rows import Recording, recordings_of
@@ -28,7 +27,7 @@ def load(words: Words) -> int:
     return status
 
 
-def store_news(connection: sqlite3.Connection, recording: Recording, path: str) -> bool:
+def store_news(connection: Connection, recording: Recording, path: str) -> bool:
     """Puts a recording of a file into the database, if it is newer than what is there. Whether it is."""
     if recording.state["gathered"] <= storing.last_gathered(connection, recording.name):
         return False

@@ -1,10 +1,10 @@
 """The command that finds of which recording fragments are, by their identifiers and their packets."""
 import os
-import sqlite3
 from collections import namedtuple
 from collections.abc import Iterable
 
 from archive import asking, database, printing
+from archive.database import Connection
 from archive.faults import USAGE, OwnFault, tell_own
 from archive.words import Words
 
@@ -49,7 +49,7 @@ def identifiers_of(tool: asking.Tool, source: str) -> Iterable[tuple[str, bytes]
     return filter(None, map(asking.identifier_of, lines))
 
 
-def candidates_of(connection: sqlite3.Connection, held: set[tuple[str, bytes]]) -> list[int]:
+def candidates_of(connection: Connection, held: set[tuple[str, bytes]]) -> list[int]:
     """The recordings that have one of the identifiers, of the first rank of which one is known; all if none is."""
     for rank in RANKS:
         asked = [(uid, what) for what, uid in held if what in rank]
@@ -59,7 +59,7 @@ def candidates_of(connection: sqlite3.Connection, held: set[tuple[str, bytes]]) 
     return [row["id"] for row in connection.execute(ALL)]
 
 
-def catalogues_of(connection: sqlite3.Connection, recording: int) -> list[Candidate]:
+def catalogues_of(connection: Connection, recording: int) -> list[Candidate]:
     """The catalogues of a recording that are there: the one that was asked in place of its sources, or else those among
     them. If there is none, that is told."""
     rows = [row for row in connection.execute(CATALOGUES, (recording,))]

@@ -3,7 +3,7 @@ from __future__ import annotations
 
 import sys
 from collections.abc import Iterable, Iterator, Sequence
-from itertools import repeat
+from itertools import chain, islice, repeat
 
 # Characters of control, line ends of Unicode, and marks of direction: a terminal may obey them. Each is shown as ?.
 CONTROL = dict.fromkeys((*range(0x20), *range(0x7F, 0xA0), *range(0x2028, 0x202F), *range(0x2066, 0x206A)), "?")
@@ -31,22 +31,28 @@ def is_plain(text: str) -> bool:
     return encoded.isascii() and encoded.translate(ASCII) == encoded
 
 
-def blocks_of(texts: Cells) -> Iterator[Cells]:
+def blocks_of(texts: Iterable[str]) -> Iterator[list[str]]:
     """Texts, so many at once."""
-    return (texts[start : start + BLOCK] for start in range(0, len(texts), BLOCK))
+    texts = iter(texts)
+    return iter(lambda: list(islice(texts, BLOCK)), [])
 
 
-def print_texts(texts: Cells, end: str) -> None:
+def print_texts(texts: Iterable[str], end: str) -> None:
     """Prints texts, each with this end."""
     for block in blocks_of(texts):
         sys.stdout.write(end.join(block) + end)
 
 
-def print_rows(lines: Cells) -> None:
+def print_lines(lines: Iterable[str]) -> None:
     """Prints the lines of a table."""
     for block in blocks_of(lines):
         safe = block if is_plain("".join(block)) else map(shown, block)
         sys.stdout.write("\n".join(safe) + "\n")
+
+
+def print_laid_out(layout: str, heads: Cells, rows: Iterable[Cells]) -> None:
+    """Prints the lines of a table by a layout for %."""
+    print_lines(map(layout.__mod__, chain((heads,), rows)))
 
 
 def laid_out(head: str, column: Cells, is_last: bool) -> Iterable[str]:
@@ -63,7 +69,7 @@ def print_table(heads: Sequence[str], rows: Iterable[Cells]) -> None:
     """Prints columns side by side."""
     columns = list(zip(*rows)) or [()] * len(heads)
     are_last = [*repeat(False, len(heads) - 1), True]
-    print_rows(list(map("  ".join, zip(*map(laid_out, heads, columns, are_last)))))
+    print_lines(map("  ".join, zip(*map(laid_out, heads, columns, are_last))))
 
 
 def print_csv(heads: Sequence[str], rows: Iterable[Cells]) -> None:
@@ -83,7 +89,7 @@ def print_json(heads: Sequence[str], rows: Iterable[tuple]) -> None:
     sys.stdout.writelines(map(line.__mod__, zip(*map(texts_of, zip(*rows)))))
 
 
-def print_lines(lines: Iterable[object]) -> None:
+def print_objects(lines: Iterable[object]) -> None:
     """Prints JSON objects, each on a line of its own."""
     import json
 
@@ -102,7 +108,7 @@ def print_answer(form: str, heads: Sequence[str], rows: Iterable[Cells]) -> None
 def print_made(form: str, texts: Cells) -> None:
     """Prints rows in a form of FORMS of which each is a text already: a line of a table, of CSV or of JSON."""
     if form == "table":
-        print_rows(texts)
+        print_lines(texts)
     else:
         print_texts(texts, "\r\n" if form == "csv" else "\n")
 

@@ -283,6 +283,10 @@ UPDATE recordings SET (listed, listed_csv, listed_json) = (
   FROM states s WHERE s.recording = recordings.id AND s.number = recordings.state)
 """
 
+# How `find` prints what it finds of a recording: what it is, in so many characters, and the text.
+FOUND_AS = len("name of recording")
+FOUND = f"%-{FOUND_AS}s  %s"
+
 # What lists and searches for words print stands where they look, as they print it. Of the lists that may be long an index
 # has it in their order, and two tell how wide the names are.
 SECOND = f"""
@@ -297,10 +301,10 @@ CREATE INDEX recordings_name_length ON recordings (length(name));
 CREATE INDEX recordings_title_length ON recordings (length(title));
 
 ALTER TABLE words ADD COLUMN found_in TEXT NOT NULL DEFAULT '';
-ALTER TABLE words ADD COLUMN found_as TEXT NOT NULL DEFAULT '';
-ALTER TABLE words ADD COLUMN found_text TEXT NOT NULL DEFAULT '';
-UPDATE words SET (found_in, found_as, found_text) =
-  (SELECT r.name, 'name of ' || t.what, t.text FROM texts t JOIN recordings r ON r.id = t.recording WHERE t.id = words.text);
+ALTER TABLE words ADD COLUMN found_line TEXT NOT NULL DEFAULT '';
+UPDATE words SET (found_in, found_line) =
+  (SELECT r.name, printf('{FOUND}', 'name of ' || t.what, t.text)
+   FROM texts t JOIN recordings r ON r.id = t.recording WHERE t.id = words.text);
 """
 
 # What leads from each version of the schema to the next, from nothing on. How many there are is the user_version.

@@ -1,9 +1,8 @@
 """What is written to the database: recordings, and what comes of verifying them."""
 from __future__ import annotations
 
-import sqlite3
-
 from archive import moments, schema
+from archive.database import Connection
 from archive.json_lines import Line
 from archive.rows import UNREADABLE, Recording, Row, number_of
 from archive.texts import words_of
@@ -11,7 +10,8 @@ from archive.texts import words_of
 # The counts of a state by which it is said to have changed.
 COUNTS = ("packets", "held", "missing", "findings", "disputes", "orders")
 
-def insert(connection: sqlite3.Connection, table: str, recording: int, rows: list[Row]) -> None:
+
+def insert(connection: Connection, table: str, recording: int, rows: list[Row]) -> None:
     """Adds rows of a recording to a table."""
     if rows:
         names = list(rows[0])
@@ -21,13 +21,13 @@ def insert(connection: sqlite3.Connection, table: str, recording: int, rows: lis
         connection.executemany(f"INSERT INTO {table} (recording, {columns}) VALUES (?, {marks})", values)
 
 
-def is_known(connection: sqlite3.Connection, name: str) -> int | None:
+def is_known(connection: Connection, name: str) -> int | None:
     """The number of a recording, if the database has one of this name."""
     found = connection.execute("SELECT id FROM recordings WHERE name = ?", (name,)).fetchone()
     return found["id"] if found else None
 
 
-def last_gathered(connection: sqlite3.Connection, name: str) -> str:
+def last_gathered(connection: Connection, name: str) -> str:
     """When the last state of a recording was gathered; an empty text if there is none."""
     found = connection.execute(
         "SELECT s.gathered FROM recordings r JOIN states s ON s.recording = r.id AND s.number = r.state WHERE r.name = ?", (name,)
@@ -35,7 +35,7 @@ def last_gathered(connection: sqlite3.Connection, name: str) -> str:
     return found["gathered"] if found else ""
 
 
-def store(connection: sqlite3.Connection, recording: Recording) -> bool:
+def store(connection: Connection, recording: Recording) -> bool:
     """Puts a recording into the database, in the place of the one of its name. Whether there was one."""
     known = is_known(connection, recording.name)
     if known is None:
@@ -59,16 +59,16 @@ def store(connection: sqlite3.Connection, recording: Recording) -> bool:
     return known is not None
 
 
-def store_texts(connection: sqlite3.Connection, identity: int, recording: Recording) -> None:
+def store_texts(connection: Connection, identity: int, recording: Recording) -> None:
     """Adds the texts by whose words the recording is found, and with each word what `find` prints of its text."""
     for what, text in recording.texts:
         added = connection.execute("INSERT INTO texts (recording, what, text) VALUES (?, ?, ?)", (identity, what, text))
-        found = (added.lastrowid, recording.name, f"name of {what}", text)
+        found = (added.lastrowid, recording.name, schema.FOUND % (f"name of {what}", text))
         words = [(word, *found) for word in dict.fromkeys(words_of(text))]
-        connection.executemany("INSERT INTO words (word, text, found_in, found_as, found_text) VALUES (?, ?, ?, ?, ?)", words)
+        connection.executemany("INSERT INTO words (word, text, found_in, found_line) VALUES (?, ?, ?, ?)", words)
 
 
-def settle(connection: sqlite3.Connection, identity: int) -> None:
+def settle(connection: Connection, identity: int) -> None:
     """Sets what follows of a recording from its states and its verifications: whether its counts are others than on the
     first day, when it was last found whole as its reference says, whether it is damaged, and what a list prints of it."""
     differs = " OR ".join(f"a.{name} IS NOT z.{name}" for name in COUNTS)
@@ -88,7 +88,7 @@ def settle(connection: sqlite3.Connection, identity: int) -> None:
     connection.execute(f"{schema.LISTED} WHERE id = ?", (identity,))
 
 
-def store_verification(connection: sqlite3.Connection, identity: int, told: dict, lines: list[Line],
+def store_verification(connection: Connection, identity: int, told: dict, lines: list[Line],
                        words: list[str]) -> None:  # fmt: skip
     """Adds what `verify` says: when and against what, its counts, and what differs. Its sources stand with their words."""
     number = connection.execute(
