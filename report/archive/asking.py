@@ -8,7 +8,7 @@ import stat
 from collections.abc import Callable, Sequence
 
 from archive import moments
-from archive.calling import Call
+from archive.calling import Call, end_by_signals
 from archive.faults import NO_PROGRAM, READ, USAGE, OwnFault, ToolFault
 from archive.json_lines import Line, line_of
 
@@ -181,6 +181,7 @@ class Tool:
     looks at each call whether the program is current; once is enough, and then the program itself is asked."""
 
     def __init__(self) -> None:
+        end_by_signals()
         self.program = program()
         self.told: str | None = None
         self.calls = 0

@@ -4,20 +4,31 @@ from __future__ import annotations
 import contextlib
 import os
 import select
+import sys
 from collections.abc import Iterator
 
 from archive.faults import NO_PROGRAM, OwnFault
 
+try:
+    # Of this Python's module signal is made, which takes as long to load as a call of mxf_tool.
+    from _signal import SIG_DFL, SIGHUP, SIGPIPE, SIGTERM, SIGXFSZ, getsignal, signal
+except ImportError:
+    from signal import SIG_DFL, SIGHUP, SIGPIPE, SIGTERM, SIGXFSZ, getsignal, signal
+
 BLOCK = 1 << 16  # bytes that are read at once, as many as a pipe has
 
-# Signals that Python passes over, and a program that it calls doesn't: SIGPIPE and SIGXFSZ of Linux. The module signal
-# has them too, and takes as long to load as a call of mxf_tool.
-SIGNALS = (13, 25)
+
+def end_by_signals() -> None:
+    """Lets a signal that ends this program end its calls too, and remove what they wrote, as an interrupt does."""
+    for number in (SIGHUP, SIGTERM):
+        if getsignal(number) == SIG_DFL:
+            signal(number, lambda number, _: sys.exit(128 + number))
 
 
 class Call:
     """A call of a program. It begins when it is told to, at the latest when its lines are asked for. What it says of
-    faults is kept, or goes where that of this program goes. The call is over when its block ends."""
+    faults is kept, or goes where that of this program goes. The call is over when its block ends, and is ended if that ends
+    by a fault."""
 
     def __init__(self, words: list[str], given: bytes = b"", is_kept: bool = True) -> None:
         self.words = words
@@ -41,7 +52,8 @@ class Call:
                 actions.append((os.POSIX_SPAWN_DUP2, end, place))
             try:
                 # The module subprocess, with the modules that it loads, takes as long as several calls of mxf_tool.
-                named = {"file_actions": actions, "setsigdef": SIGNALS}
+                # Python passes over these two signals, and what it calls doesn't.
+                named = {"file_actions": actions, "setsigdef": (SIGPIPE, SIGXFSZ)}
                 self.process = os.posix_spawnp(self.words[0], self.words, os.environ, **named)
             except OSError as fault:
                 raise OwnFault(NO_PROGRAM, f"{self.words[0]} can't be run: {fault.strerror}") from fault
@@ -97,5 +109,7 @@ class Call:
     def __enter__(self) -> "Call":
         return self
 
-    def __exit__(self, *_: object) -> None:
+    def __exit__(self, fault: type | None, *_: object) -> None:
+        if fault is not None and self.process is not None:
+            os.kill(self.process, SIGTERM)
         self.end()

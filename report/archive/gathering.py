@@ -50,9 +50,9 @@ class Gathering:
             self.begin(sources)
         return self
 
-    def __exit__(self, *_: object) -> None:
+    def __exit__(self, *fault: object) -> None:
         self.tool.close()
-        self.opened.close()
+        self.opened.__exit__(*fault)
 
     def read(self) -> None:
         """Asks for all but edit units, in the order in which a reader of the lines needs it. Meanwhile the catalogues are
