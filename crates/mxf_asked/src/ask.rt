@@ -2,7 +2,7 @@
 use mxf_skim::Scan;
 
 /// What a run is asked for.
-#[derive(Clone, Copy, Debug, PartialEq, Eq)]
+#[derive(Clone, Copy, PartialEq, Eq)]
 pub enum Ask {
     /// What was noted of each piece, and all that is known of the recording, by a reading or a skim.
     Show { scan: Scan },

@@ -52,10 +52,20 @@ use std::mem::replace;
 ///
 /// Clear and disputed notes are kept apart, with the runs of the disputed spans and those of all. So a new note is
 /// compared with a few of them, by binary search.
-#[derive(Debug, Drop)]
+#[derive(Debug)]
 pub struct Catalogue {
     lists: NoteLists,
     spans: Cover,
+}
+
+// Written out, a drop is one call wherever a catalogue is let go.
+impl Drop for Catalogue {
+    fn drop(self) {
+        let Catalogue {
+            lists: _lists,
+            spans: _spans,
+        } = self;
+    }
 }
 
 impl Model for Catalogue {
@@ -173,7 +183,10 @@ impl Catalogue {
         let Ok(()) = self.lists.reserve(count) else {
             return Err(MergeFault { other });
         };
-        let others = other.lists;
+        let Catalogue {
+            lists: others,
+            spans: _spans,
+        } = other;
         let notes = MergedNotes::of(others.undisputed, others.disputed);
         self.lists.put_all(&mut spans.runs, notes);
         Ok(())
@@ -192,7 +205,11 @@ impl Catalogue {
         let mut lists = room.lists;
         let mut runs = room.runs;
         let own = replace(&mut self.lists, NoteLists::new(alloc)).into_notes(room.own);
-        let others = other.lists.into_notes(room.others);
+        let Catalogue {
+            lists: given,
+            spans: _spans,
+        } = other;
+        let others = given.into_notes(room.others);
         lists.put_all(&mut runs, MergedNotes::of(own, others));
         self.lists = lists;
         self.spans = Cover { runs };

@@ -25,7 +25,7 @@ use std::marker::Model;
 
 /// The clocks of all indexes of a file: for each position that a clip shows, or that a file package has, which timecode
 /// the first timecode track of the package gives it.
-#[derive(Debug, Drop)]
+#[derive(Drop)]
 pub struct Clocks {
     by: PackageKind,
     runs: Vec<Run>,

@@ -11,7 +11,7 @@ use std::alloc::Global;
 use std::marker::Model;
 
 /// A note of a fragment, and by what it tells.
-#[derive(Debug, Drop)]
+#[derive(Drop)]
 pub(crate) struct Teller<'a> {
     note: &'a Note,
     tells: Tells,
@@ -26,7 +26,7 @@ impl<'a> Model for Teller<'a> {
 }
 
 /// What is held of bytes whose recording is looked for: a content, and the offset at which its bytes begin.
-#[derive(Debug, Drop)]
+#[derive(Drop)]
 pub struct Fragment<'a> {
     content: &'a Catalogue,
     offset: u64,

@@ -15,7 +15,7 @@ use std::cmp::Ordering;
 use std::marker::Model;
 
 /// A note that goes by what it says of its packet, and then by its offset.
-#[derive(Debug, Drop)]
+#[derive(Drop)]
 pub(crate) struct ByPacket<'a> {
     note: &'a Note,
 }

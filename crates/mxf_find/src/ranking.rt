@@ -84,7 +84,7 @@ impl Ord for Ranked {
 
 /// The recordings in which most notes of a fragment agree, at most 16: those with more first, and of those with as many
 /// the one with the lower number.
-#[derive(Debug, Drop)]
+#[derive(Drop)]
 pub struct Ranking {
     best: Vec<Ranked>,
 }

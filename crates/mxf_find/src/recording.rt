@@ -13,7 +13,7 @@ use std::alloc::Global;
 use std::marker::Model;
 
 /// By what a note tells which recording it is of.
-#[derive(Clone, Copy, Debug, PartialEq, Eq)]
+#[derive(Clone, Copy, PartialEq, Eq)]
 pub(crate) struct Tells {
     /// No other note has its key, width, length and held bytes.
     pub by_value: bool,
@@ -23,7 +23,7 @@ pub(crate) struct Tells {
 
 /// The content of a recording in which fragments are looked up, with its notes in an order in which those of equal
 /// packets stand together.
-#[derive(Debug, Drop)]
+#[derive(Drop)]
 pub struct Recording<'a> {
     content: &'a Catalogue,
     packets: Vec<ByPacket<'a>>,

@@ -218,7 +218,7 @@ impl Collected {
 }
 
 /// A set of findings, in their order.
-#[derive(Debug, Drop)]
+#[derive(Drop)]
 pub struct Findings {
     items: Vec<Finding>,
 }

@@ -16,12 +16,23 @@ use std::marker::Model;
 
 /// Writes lines in a form, each in the same text. Of a field it takes what stands before it in the text, its name,
 /// which JSON has, and its value. Out of memory, the line is begun anew.
-#[derive(Drop)]
 pub struct FieldWriter {
     form: Form,
     text: String,
     characters: String,
     label: LabelText,
+}
+
+// Written out, a drop is one call wherever a writer is let go.
+impl Drop for FieldWriter {
+    fn drop(self) {
+        let FieldWriter {
+            form: _,
+            text: _text,
+            characters: _characters,
+            label: _label,
+        } = self;
+    }
 }
 
 impl Model for FieldWriter {

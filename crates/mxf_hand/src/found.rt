@@ -15,14 +15,13 @@ use mxf_klv::{Note, OutOfMemory};
 use std::alloc::Global;
 
 /// A head that was read, and the end of the hole in which it was, in bytes.
-#[derive(Debug, Drop)]
+#[derive(Drop)]
 pub(crate) struct CutHead {
     pub note: Note,
     pub hole_end: Option<u64>,
 }
 
 /// What was found of some sections.
-#[derive(Debug, Drop)]
 pub(crate) struct Found {
     /// The packets that were read.
     pub packets: Catalogue,
@@ -32,6 +31,18 @@ pub(crate) struct Found {
     pub heads: Vec<CutHead>,
     /// Where the packets and heads begin that were read.
     pub starts: Cover,
+}
+
+// Written out, a drop is one call wherever what was found is let go.
+impl Drop for Found {
+    fn drop(self) {
+        let Found {
+            packets: _packets,
+            made: _made,
+            heads: _heads,
+            starts: _starts,
+        } = self;
+    }
 }
 
 impl Found {

@@ -93,7 +93,7 @@ impl<T: Drop> From<AllocFailed<T>> for SourceFault {
 }
 
 /// Offsets, in bytes, from a start up to an end, the end excluded, that a source gives.
-#[derive(Clone, Copy, Debug, PartialEq, Eq)]
+#[derive(Clone, Copy, PartialEq, Eq)]
 pub(crate) struct Place {
     pub start: u64,
     pub end: u64,
@@ -102,7 +102,7 @@ pub(crate) struct Place {
 }
 
 /// The extents of sources, placed in the file: of which source each byte is read, and where sources overlap.
-#[derive(Debug, Drop)]
+#[derive(Drop)]
 pub struct Given {
     extents: Vec<Extent>,
     /// Each offset that a source gives lies in one of these, which rise.

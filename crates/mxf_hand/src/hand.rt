@@ -18,11 +18,21 @@ use std::marker::Model;
 
 /// The extents of sources, and which of their offsets are at hand; and whether the values of a container's packets are
 /// read there.
-#[derive(Debug, Drop)]
 pub(crate) struct Hand {
     scan: Scan,
     given: Given,
     runs: Cover,
+}
+
+// Written out, a drop is one call wherever a hand is let go.
+impl Drop for Hand {
+    fn drop(self) {
+        let Hand {
+            scan: _,
+            given: _given,
+            runs: _runs,
+        } = self;
+    }
 }
 
 impl Model for Hand {
@@ -61,7 +71,11 @@ impl Hand {
         ensures given { result.given ≡ self.given.given }
         ensures hand { result.hand ≡ self.runs }
     {
-        let Hand { given, runs, .. } = self;
+        let Hand {
+            scan: _,
+            given,
+            runs,
+        } = self;
         AtHand::of(given.into_given(), runs)
     }
 

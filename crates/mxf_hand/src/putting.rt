@@ -28,7 +28,7 @@ use std::alloc::Global;
 const GREATEST_ROUNDS: u32 = 64;
 
 /// What a run holds after packets were put together, and which bytes are at hand.
-#[derive(Debug, Drop)]
+#[derive(Drop)]
 pub struct PutTogether {
     pub views: Views,
     pub at_hand: AtHand,

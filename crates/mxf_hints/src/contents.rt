@@ -77,7 +77,7 @@ fn keep(contents: &mut Contents, number: usize, gathered: Gathered) -> Result<()
     ensures shifts { AreShifts contents.old.contents.items contents.old.shifts.items
         → OnOk result (AreShifts contents.new.contents.items contents.new.shifts.items) }
 {
-    let Gathered { views, reports } = gathered;
+    let (views, reports) = gathered.into_parts();
     push_all(&mut contents.reports, number, reports.as_slice())?;
     contents.shifts.push(shift_of(&views))?;
     contents.contents.push(views.into_catalogue())?;

@@ -8,7 +8,7 @@ use mxf_references::{Target, resolved};
 use mxf_saving::Source;
 use mxf_sets::Package;
 use mxf_views::Views;
-use std::alloc::AllocError;
+use std::alloc::{AllocError, Global};
 use std::rt::Files;
 
 /// Tells what of the sources doesn't go together, or else that their packets are disputed.
@@ -82,7 +82,12 @@ fn describing<'a, R: Files + AllocGlobal>(
 /// The identifier of the first package that a source describes, in its front or in its catalogue; none without memory.
 fn package_of<R: Files + AllocGlobal>(rt: &R, source: &Source<'_>) -> Option<String> {
     let views = views_of(rt, source)?;
-    let resolved = resolved(rt.alloc(), &views).ok()??;
+    package_in(rt.alloc(), &views)
+}
+
+/// The identifier of the first package that views describe; none without memory.
+fn package_in(alloc: Global, views: &Views) -> Option<String> {
+    let resolved = resolved(alloc, views).ok()??;
     let packages = resolved.packages.as_slice().iter();
     let mut offsets = packages.filter_map(|package| match package.target {
         Target::Found(offset) => Some(offset),
@@ -90,5 +95,5 @@ fn package_of<R: Files + AllocGlobal>(rt: &R, source: &Source<'_>) -> Option<Str
     });
     let note = views.catalogue().clear_at(offsets.next()?)?;
     let uid = Package::read(note.value()?).ok()?.package_uid();
-    hex_text(rt.alloc(), &uid).ok()
+    hex_text(alloc, &uid).ok()
 }

@@ -107,5 +107,6 @@ pub fn views_of<R: Files + AllocGlobal>(rt: &R, source: &Source<'_>) -> Option<V
             from: open_front(rt, source, u64::MAX)?,
         },
     };
-    Some(gather_one(rt.alloc(), part).ok()?.views)
+    let (views, _) = gather_one(rt.alloc(), part).ok()?.into_parts();
+    Some(views)
 }

@@ -14,7 +14,7 @@ use mxf_views::Views;
 const GREATEST_UNIT: u64 = 9_223_372_036_854_775_807;
 
 /// Edit units from a first one up to a last one, that included.
-#[derive(Clone, Copy, Debug, PartialEq, Eq)]
+#[derive(Clone, Copy, PartialEq, Eq)]
 pub struct UnitSpan {
     pub first: u64,
     pub last: u64,

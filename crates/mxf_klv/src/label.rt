@@ -13,7 +13,7 @@ use std::marker::Model;
 ///
 /// Byte 5 says the register and how what follows is coded, byte 8 the version of the register. Labels compare by their
 /// sixteen bytes, the version included.
-#[derive(Clone, Copy, Debug, PartialEq, Eq, PartialOrd, Ord, Hash)]
+#[derive(Clone, Copy, Debug, PartialEq, Eq, PartialOrd, Ord)]
 pub struct Ul {
     /// The twelve bytes after those that each label begins with.
     tail: [u8; 12],

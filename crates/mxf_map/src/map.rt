@@ -54,7 +54,7 @@ pub enum Mark {
 ///
 /// The map goes as far as the file is known to, and beyond each place that a pack names and that is missing. It is cut
 /// into cells of one size, the last of which may be shorter.
-#[derive(Debug, Drop)]
+#[derive(Drop)]
 pub struct Map {
     end: u64,
     held: u64,

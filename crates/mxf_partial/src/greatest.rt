@@ -11,7 +11,7 @@ use mxf_views::SegmentAt;
 use std::alloc::Global;
 
 /// The greatest offset of a stream that a segment gives, in bytes.
-#[derive(Clone, Copy, Debug, PartialEq, Eq, PartialOrd, Ord)]
+#[derive(Clone, Copy, PartialEq, Eq, PartialOrd, Ord)]
 pub(crate) struct GreatestPlace {
     pub body_sid: u32,
     pub offset: u128,

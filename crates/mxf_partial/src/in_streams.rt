@@ -24,7 +24,7 @@ pub(crate) trait InStream {
 }
 
 /// A bound of offsets, in bytes: the sum of two numbers, which may be too great for one.
-#[derive(Clone, Copy, Debug)]
+#[derive(Clone, Copy)]
 pub(crate) struct Bound {
     pub from: u128,
     pub more: u128,

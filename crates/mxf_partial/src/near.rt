@@ -49,7 +49,7 @@ pub(crate) fn add_partitions(
 }
 
 /// The places that are asked for.
-#[derive(Debug, Drop)]
+#[derive(Drop)]
 struct Asked {
     /// Where they stand in the table of named places.
     positions: Cover,
@@ -58,13 +58,23 @@ struct Asked {
 }
 
 /// The tables of places at which partitions may stand, and of streams.
-#[derive(Debug, Drop)]
 struct Near {
     streams: Streams,
     /// The named places.
     named: Vec<PlaceOf>,
     /// The same, and where partitions stand.
     places: Vec<PlaceOf>,
+}
+
+// Written out, a drop is one call wherever the tables are let go.
+impl Drop for Near {
+    fn drop(self) {
+        let Near {
+            streams: _streams,
+            named: _named,
+            places: _places,
+        } = self;
+    }
 }
 
 impl Near {

@@ -13,7 +13,7 @@ use mxf_views::{RipAt, RipView, Views};
 use std::alloc::Global;
 
 /// An entry of the random index pack, by where the partition that it lists stands.
-#[derive(Clone, Copy, Debug, PartialEq, Eq, PartialOrd, Ord)]
+#[derive(Clone, Copy, PartialEq, Eq, PartialOrd, Ord)]
 pub(crate) struct ListedStream {
     /// A file offset, in bytes.
     offset: u64,
@@ -38,7 +38,7 @@ impl InStream for ListedStream {
 }
 
 /// A place at which a partition may stand, with the stream that it is of.
-#[derive(Clone, Copy, Debug, PartialEq, Eq, PartialOrd, Ord)]
+#[derive(Clone, Copy, PartialEq, Eq, PartialOrd, Ord)]
 pub(crate) struct PlaceOf {
     /// The BodySID that is listed for the place; none if no entry lists it, and it may be of any stream.
     pub body_sid: Option<u32>,

@@ -39,7 +39,7 @@ use std::marker::Model;
 ///
 /// Whoever restores the bytes of all orders, hands them in beside the rest, and asks again, comes to a plan without
 /// orders, if what the packs of the file say is right. That is tested, not proved.
-#[derive(Debug, Drop)]
+#[derive(Drop)]
 pub struct UnitPlan {
     orders: Vec<Order>,
     end: Option<u64>,

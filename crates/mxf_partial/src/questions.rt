@@ -26,7 +26,6 @@ pub(crate) struct UnsureRun {
 }
 
 /// Wanted units, and what they ask for, by how they stand. Each unit is looked up once.
-#[derive(Drop)]
 pub(crate) struct Questions {
     units: Vec<EditUnit>,
     partitions: Vec<StreamPlace>,
@@ -35,6 +34,21 @@ pub(crate) struct Questions {
     unindexed: Vec<u64>,
     runs: Vec<Run>,
     unsure: Vec<UnsureRun>,
+}
+
+// Written out, a drop is one call wherever questions are let go.
+impl Drop for Questions {
+    fn drop(self) {
+        let Questions {
+            units: _units,
+            partitions: _partitions,
+            ways: _ways,
+            limits: _limits,
+            unindexed: _unindexed,
+            runs: _runs,
+            unsure: _unsure,
+        } = self;
+    }
 }
 
 impl Model for Questions {

@@ -13,7 +13,7 @@ use mxf_views::{RipView, StreamPlace, Views};
 use std::alloc::Global;
 
 /// Where a part of a stream begins, and where its bytes lie.
-#[derive(Clone, Copy, Debug, PartialEq, Eq, PartialOrd, Ord)]
+#[derive(Clone, Copy, PartialEq, Eq, PartialOrd, Ord)]
 pub(crate) struct PartStart {
     body_sid: u32,
     /// Where it begins in its stream, in bytes.
@@ -41,7 +41,7 @@ impl InStream for PartStart {
 }
 
 /// What says between which file offsets an offset of a stream can lie.
-#[derive(Debug, Drop)]
+#[derive(Drop)]
 pub(crate) struct Streams {
     /// Where the parts of streams begin, in their order.
     starts: Vec<PartStart>,

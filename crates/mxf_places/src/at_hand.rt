@@ -24,10 +24,19 @@ pub struct OffsetRange {
 
 /// The offsets whose bytes the sources of a run give, and those of them at which no source differs from another: the
 /// latter are at hand (this project's profile).
-#[derive(Debug, Drop)]
 pub struct AtHand {
     given: Cover,
     hand: Cover,
+}
+
+// Written out, a drop is one call wherever the bytes at hand are let go.
+impl Drop for AtHand {
+    fn drop(self) {
+        let AtHand {
+            given: _given,
+            hand: _hand,
+        } = self;
+    }
 }
 
 impl Model for AtHand {

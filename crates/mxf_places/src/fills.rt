@@ -20,7 +20,7 @@ struct Fill {
 }
 
 /// For the start of each fill that shares no byte with another packet: where one comes to by going on over fills.
-#[derive(Debug, Drop)]
+#[derive(Drop)]
 pub(crate) struct Fills {
     ends: BTreeMap<u64, u64>,
 }

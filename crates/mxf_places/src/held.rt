@@ -18,12 +18,23 @@ use std::alloc::Global;
 use std::marker::Model;
 
 /// What is held of a file: the offsets that packets cover, those that disputed ones do, and the end of the file.
-#[derive(Debug, Drop)]
 pub struct Holdings<'a> {
     views: &'a Views,
     disputed: Cover,
     fills: Fills,
     end: Option<u64>,
+}
+
+// Written out, a drop is one call wherever holdings are let go.
+impl Drop for Holdings<'_> {
+    fn drop(self) {
+        let Holdings {
+            views: _,
+            disputed: _disputed,
+            fills: _fills,
+            end: _,
+        } = self;
+    }
 }
 
 impl<'a> Model for Holdings<'a> {

@@ -56,7 +56,7 @@ pub fn absorb(
 }
 
 /// The notes of a piece, and what is reported of it. After a fault the notes are those that it counts.
-#[derive(Debug, Drop)]
+#[derive(Drop)]
 pub struct PieceNotes {
     pub notes: Catalogue,
     pub outcome: Result<Report, AbsorbFault>,

@@ -50,10 +50,30 @@ pub const GREATEST_WINDOW: u64 = 33_554_432;
 const GREATEST_SAVED: u64 = 1_073_741_824;
 
 /// The views of what the parts of a run hold together, and what was noted of each piece, in their order.
-#[derive(Debug, Drop)]
 pub struct Gathered {
     pub views: Views,
     pub reports: PieceReports,
+}
+
+// Written out, a drop is one call wherever what was gathered is let go.
+impl Drop for Gathered {
+    fn drop(self) {
+        let Gathered {
+            views: _views,
+            reports: _reports,
+        } = self;
+    }
+}
+
+impl Gathered {
+    /// The views, and what was noted of the pieces.
+    pub fn into_parts(self) -> (Views, PieceReports)
+        ensures views { result.0 ≡ self.views }
+        ensures reports { result.1 ≡ self.reports }
+    {
+        let Gathered { views, reports } = self;
+        (views, reports)
+    }
 }
 
 /// The notes of a piece of which a reader gives the bytes to come, and what is reported of it. No more than `limit`

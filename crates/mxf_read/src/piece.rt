@@ -20,7 +20,6 @@ use std::alloc::Global;
 ///
 /// Of that one it holds no more than the key and the length, and the value if it is kept. A skim passes over the values
 /// of a container's packets: it can be told that bytes pass, and no byte of them counts.
-#[derive(Drop)]
 pub struct Piece {
     alloc: Global,
     scan: Scan,
@@ -34,6 +33,22 @@ pub struct Piece {
     of_nothing: [u8; 32],
 
     ghost digested: { of_nothing ≡ sha256 [] },
+}
+
+// Written out, a drop is one call wherever a piece is let go.
+impl Drop for Piece {
+    fn drop(self) {
+        let Piece {
+            alloc: _,
+            scan: _,
+            notes: _notes,
+            at: _,
+            head: _head,
+            value: _value,
+            stop: _,
+            of_nothing: _,
+        } = self;
+    }
 }
 
 impl Piece {
@@ -190,7 +205,17 @@ impl Piece {
     pub fn into_notes(self) -> Catalogue
         ensures { result ≡ self.notes }
     {
-        self.notes
+        let Piece {
+            alloc: _,
+            scan: _,
+            notes,
+            at: _,
+            head: _head,
+            value: _value,
+            stop: _,
+            of_nothing: _,
+        } = self;
+        notes
     }
 
     /// The next bytes of the piece, however many.

@@ -13,7 +13,7 @@ use std::cmp::Ordering;
 use std::marker::Model;
 
 /// A note and a source that has it.
-#[derive(Debug, Drop)]
+#[derive(Drop)]
 pub(crate) struct Holding<'a> {
     note: &'a Note,
     /// The number of the source, from 1 on.

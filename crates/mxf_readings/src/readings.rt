@@ -31,7 +31,6 @@ pub struct SourceCounts {
 /// a source that is named twice is two.
 ///
 /// It is made in n log n of the notes of all sources, and holds the notes of all sources together beside them.
-#[derive(Debug, Drop)]
 pub struct Readings<'a> {
     contents: &'a [Catalogue],
     all: Catalogue,
@@ -41,6 +40,19 @@ pub struct Readings<'a> {
     sources: Vec<usize>,
     /// The number of a source as often as it is the only one of a note of all, rising.
     alone: Vec<usize>,
+}
+
+// Written out, a drop is one call wherever readings are let go.
+impl Drop for Readings<'_> {
+    fn drop(self) {
+        let Readings {
+            contents: _,
+            all: _all,
+            holdings: _holdings,
+            sources: _sources,
+            alone: _alone,
+        } = self;
+    }
 }
 
 impl<'a> Model for Readings<'a> {

@@ -90,7 +90,7 @@ pub struct DisputedPlace {
 ///
 /// Whoever restores the bytes of all orders, hands each in as a piece at its start, and asks again, comes to a plan
 /// without orders, if the packs of the file tell the truth. That is tested, not proved.
-#[derive(Debug, Drop)]
+#[derive(Drop)]
 pub struct Plan {
     orders: Vec<Order>,
     disputed_places: Vec<DisputedPlace>,

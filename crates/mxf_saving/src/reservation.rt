@@ -31,12 +31,23 @@ pub enum Reservation<'a, R: Files<File = File>> {
 }
 
 /// The place of a regular file.
-#[derive(Drop)]
 pub struct ReservedFile<'a, R: Files<File = File>> {
     path: PathBuf,
     before: Option<Metadata>,
     part: PartFile<'a, R>,
     folder: File,
+}
+
+// Written out, a drop is one call wherever the place is let go.
+impl<R: Files<File = File>> Drop for ReservedFile<'_, R> {
+    fn drop(self) {
+        let ReservedFile {
+            path: _path,
+            before: _before,
+            part: _part,
+            folder: _folder,
+        } = self;
+    }
 }
 
 impl<'a, R: Files<File = File> + AllocGlobal> Reservation<'a, R> {

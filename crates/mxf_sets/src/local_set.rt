@@ -38,7 +38,7 @@ impl<'a> Model for Item<'a> {
 /// that wrote the file), and names others by the identifiers that stand in them. The items stand one after another and
 /// fill the value of the set's packet. Their order says nothing. A tag that is used twice is refused by those who read
 /// the set, not here.
-#[derive(Debug, Drop)]
+#[derive(Drop)]
 pub struct Items<'a> {
     rest: &'a [u8],
 }

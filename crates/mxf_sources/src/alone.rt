@@ -24,7 +24,8 @@ pub fn read_each<'a>(
 ) -> Result<Contents, RunFault<'a>> {
     let last = LastFault::new();
     let opened = open_sources(rt, screen, Scan::Full, sources, &last)?;
-    match gather_each(rt.alloc(), opened.parts) {
+    let (_, parts, _) = opened.into_parts();
+    match gather_each(rt.alloc(), parts) {
         Ok(contents) => Ok(contents),
         Err(fault) => Err(ungathered(&fault, sources, &last)),
     }
@@ -55,7 +56,10 @@ pub fn read_alone<'a>(
     let last = LastFault::new();
     let (part, _) = open_source(rt, screen, Scan::Full, source, &last)?;
     match gather_one(rt.alloc(), part) {
-        Ok(gathered) => Ok(gathered.views.into_catalogue()),
+        Ok(gathered) => {
+            let (views, _) = gathered.into_parts();
+            Ok(views.into_catalogue())
+        }
         Err(fault) => Err(RunFault::of_part(source.path(), fault, last.get())),
     }
 }

@@ -24,11 +24,37 @@ use mxf_watching::Screen;
 use std::alloc::Global;
 
 /// What sources hold together, which of their bytes are at hand, and where they lie.
-#[derive(Drop)]
 pub struct HeldBySources {
     pub gathered: Gathered,
     pub at_hand: AtHand,
     pub extents: Vec<Extent>,
+}
+
+// Written out, a drop is one call wherever what is held is let go.
+impl Drop for HeldBySources {
+    fn drop(self) {
+        let HeldBySources {
+            gathered: _gathered,
+            at_hand: _at_hand,
+            extents: _extents,
+        } = self;
+    }
+}
+
+impl HeldBySources {
+    /// What was gathered, which bytes are at hand, and where they lie.
+    pub fn into_parts(self) -> (Gathered, AtHand, Vec<Extent>)
+        ensures gathered { result.0 ≡ self.gathered }
+        ensures hand { result.1 ≡ self.at_hand }
+        ensures extents { result.2 ≡ self.extents }
+    {
+        let HeldBySources {
+            gathered,
+            at_hand,
+            extents,
+        } = self;
+        (gathered, at_hand, extents)
+    }
 }
 
 /// What the sources hold together, by a reading or a skim. All are opened before the first is read.
@@ -59,11 +85,7 @@ pub fn hold_opened<'r, 'a, F: PassOver + Drop>(
     ensures hand { has_range opened.entry.sources.now ≡ false → IfOk result (λ held. held.at_hand ≡ nothing_at_hand) }
     ensures extents { IfOk result (λ held. held.extents ≡ opened.entry.extents) }
 {
-    let Opened {
-        sources,
-        parts,
-        extents,
-    } = opened;
+    let (sources, parts, extents) = opened.into_parts();
     match gather_by(rt.alloc(), scan, parts) {
         Ok(gathered) => complete(rt, scan, gathered, extents, sources, last),
         Err(fault) => Err(ungathered(&fault, sources, last)),
@@ -101,12 +123,8 @@ pub fn settled<'a>(
     ensures reports { IfOk result (λ s. s.gathered.reports
         ≡ settled_reports sources.now held.gathered.views held.extents.items held.gathered.reports) }
 {
-    let HeldBySources {
-        gathered,
-        at_hand,
-        extents,
-    } = held;
-    let Gathered { views, reports } = gathered;
+    let (gathered, at_hand, extents) = held.into_parts();
+    let (views, reports) = gathered.into_parts();
     let reports = settled_reports(alloc, &views, &extents, reports, sources)?;
     Ok(HeldBySources {
         gathered: Gathered { views, reports },
@@ -155,7 +173,7 @@ fn complete<'r, 'a>(
     ensures pieces { has_range sources.now ≡ false
         → IfOk result (λ held. IsUntouched gathered.views held.gathered.views held.at_hand) }
 {
-    let Gathered { views, reports } = gathered;
+    let (views, reports) = gathered.into_parts();
     let PutTogether { views, at_hand } = completed(rt, scan, views, &extents, sources, last)?;
     let gathered = Gathered { views, reports };
     Ok(HeldBySources {

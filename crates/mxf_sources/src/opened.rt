@@ -15,11 +15,37 @@ use std::fs::{self, File};
 use std::io;
 
 /// Sources that are open: for each its part, and where its bytes lie in the recording, in their order.
-#[derive(Drop)]
-pub struct Opened<'s, 'a, F> {
+pub struct Opened<'s, 'a, F: Drop> {
     pub sources: &'s [Source<'a>],
     pub parts: Vec<Part<F>>,
     pub extents: Vec<Extent>,
+}
+
+// Written out, a drop is one call wherever opened sources are let go.
+impl<F: Drop> Drop for Opened<'_, '_, F> {
+    fn drop(self) {
+        let Opened {
+            sources: _,
+            parts: _parts,
+            extents: _extents,
+        } = self;
+    }
+}
+
+impl<'s, 'a, F: Drop> Opened<'s, 'a, F> {
+    /// The sources, their parts, and where their bytes lie.
+    pub fn into_parts(self) -> (&'s [Source<'a>], Vec<Part<F>>, Vec<Extent>)
+        ensures sources { result.0.now ≡ self.entry.sources.now }
+        ensures parts { result.1.items ≡ self.entry.parts.items }
+        ensures extents { result.2 ≡ self.entry.extents }
+    {
+        let Opened {
+            sources,
+            parts,
+            extents,
+        } = self;
+        (sources, parts, extents)
+    }
 }
 
 /// The sources, opened in their order, to be read or skimmed.

@@ -78,11 +78,7 @@ fn hold_later<'r, 'a, F: Read + Drop>(
     ensures { has_range opened.entry.sources.now ≡ false → AllTell F.remaining opened.entry.parts.items
         → IfOk result (λ later. AreAllOf F.remaining opened.entry.parts.items later.views) }
 {
-    let Opened {
-        sources,
-        parts,
-        extents,
-    } = opened;
+    let (sources, parts, extents) = opened.into_parts();
     match gather_each(rt.alloc(), parts) {
         Ok(contents) => later_of(rt, contents, extents, sources, last),
         Err(fault) => Err(ungathered(&fault, sources, last)),

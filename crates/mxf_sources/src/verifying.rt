@@ -23,9 +23,10 @@ pub fn verify_opened<'v, 'a, F: Read + Drop>(
     ensures { AllTell F.remaining opened.entry.parts.items → IfOk result (λ v. (sources : List Source)
         × AreSourcesOf F.remaining opened.entry.parts.items sources × IsVerification reference.now sources v) }
 {
-    match verify(alloc, reference, opened.parts) {
+    let (sources, parts, _) = opened.into_parts();
+    match verify(alloc, reference, parts) {
         Ok(verification) => Ok(verification),
         Err(VerifyFault::OutOfMemory) => Err(RunFault::OutOfMemory),
-        Err(VerifyFault::Part(fault)) => Err(ungathered(&fault, opened.sources, last)),
+        Err(VerifyFault::Part(fault)) => Err(ungathered(&fault, sources, last)),
     }
 }

@@ -15,7 +15,7 @@ use std::marker::Model;
 const POSITIONS: u128 = 18_446_744_073_709_551_616;
 
 /// The positions from a first one up to an end, and at which place of its list the run stands that has them.
-#[derive(Clone, Copy, Debug)]
+#[derive(Clone, Copy)]
 struct Span {
     first: u64,
     end: u128,
@@ -32,7 +32,7 @@ impl Keyed for Span {
 }
 
 /// Of some spans the one that ends last, at which place its run stands, and where the last of the others ends.
-#[derive(Clone, Copy, Debug)]
+#[derive(Clone, Copy)]
 struct Latest {
     place: usize,
     end: u128,

@@ -19,7 +19,7 @@ const BEFORE: u64 = 127;
 const BEHIND: u64 = 128;
 
 /// What a unit stores.
-#[derive(Clone, Copy, Debug)]
+#[derive(Clone, Copy)]
 enum Stored {
     Nothing,
     /// One position alone.
@@ -31,7 +31,7 @@ enum Stored {
 /// Which position each unit of a range shows: the one that it stores, if that is one alone.
 ///
 /// Positions and units are counted from 0: a position as it is shown, a unit as it is stored.
-#[derive(Debug, Drop)]
+#[derive(Drop)]
 pub struct Shown {
     first: u64,
     /// What each unit from the first one on stores.

@@ -25,10 +25,19 @@ pub struct ShownEnds {
 }
 
 /// Which timecode each unit of a range shows: that of the one position that it stores, by the one run that has it.
-#[derive(Drop)]
 pub struct ShownTimecodes<'a> {
     shown: Shown,
     coverage: Coverage<'a>,
+}
+
+// Written out, a drop is one call wherever timecodes are let go.
+impl Drop for ShownTimecodes<'_> {
+    fn drop(self) {
+        let ShownTimecodes {
+            shown: _shown,
+            coverage: _coverage,
+        } = self;
+    }
 }
 
 impl<'a> Model for ShownTimecodes<'a> {

@@ -14,7 +14,7 @@ use std::marker::Model;
 use uuid::Uuid;
 
 /// A reference of a descriptor, and the descriptor of a part that it leads to.
-#[derive(Debug, Drop)]
+#[derive(Drop)]
 pub struct SubdescriptorAt<'a> {
     /// The instance identifier that the reference names.
     pub uid: Uuid,
@@ -24,7 +24,7 @@ pub struct SubdescriptorAt<'a> {
 }
 
 /// References of a descriptor with the descriptors of parts that they lead to, in order.
-#[derive(Debug, Drop)]
+#[derive(Drop)]
 pub struct Subdescriptors<'a> {
     items: Vec<SubdescriptorAt<'a>>,
 }
@@ -48,7 +48,7 @@ impl<'a> Subdescriptors<'a> {
 }
 
 /// A descriptor that was found.
-#[derive(Debug, Drop)]
+#[derive(Drop)]
 pub struct FoundDescriptor<'a> {
     /// Its record.
     pub descriptor: Descriptor<'a>,
@@ -56,7 +56,7 @@ pub struct FoundDescriptor<'a> {
 }
 
 /// The reference of a package to its descriptor, and the descriptor.
-#[derive(Debug, Drop)]
+#[derive(Drop)]
 pub struct DescriptorAt<'a> {
     /// The instance identifier that the reference names.
     pub uid: Uuid,

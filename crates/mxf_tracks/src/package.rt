@@ -38,7 +38,7 @@ pub enum PackageKind {
 }
 
 /// A package that was found.
-#[derive(Debug, Drop)]
+#[derive(Drop)]
 pub struct FoundPackage<'a> {
     pub kind: PackageKind,
     /// Its record.
@@ -51,7 +51,7 @@ pub struct FoundPackage<'a> {
 }
 
 /// A reference of the storage, and the package that it leads to.
-#[derive(Debug, Drop)]
+#[derive(Drop)]
 pub struct PackageAt<'a> {
     /// The instance identifier that the reference names.
     pub uid: Uuid,
@@ -62,7 +62,7 @@ pub struct PackageAt<'a> {
 
 /// What the header metadata say of a recording: the packages of a copy, each with its tracks, their sequences and
 /// components, and its descriptor.
-#[derive(Debug, Drop)]
+#[derive(Drop)]
 pub struct Tracks<'a> {
     packages: Vec<PackageAt<'a>>,
 }

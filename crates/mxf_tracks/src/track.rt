@@ -32,7 +32,7 @@ pub struct TrackAt<'a> {
 }
 
 /// References of a package with the tracks that they lead to, in order.
-#[derive(Debug, Drop)]
+#[derive(Drop)]
 pub struct TracksOf<'a> {
     items: Vec<TrackAt<'a>>,
 }

@@ -41,7 +41,6 @@ use std::marker::Model;
 
 /// The edit units of the index of an IndexSID: where each lies in the file, and which of its bytes are held (ST 377-1,
 /// Index Table Segment; the standings are this project's profile).
-#[derive(Drop)]
 pub struct Units<'a> {
     holdings: Holdings<'a>,
     at_hand: &'a AtHand,
@@ -53,6 +52,22 @@ pub struct Units<'a> {
     segments: Intervals<SegmentAt<'a>>,
     places: NextPlaces,
     parts: Vec<StreamPart>,
+}
+
+// Written out, a drop is one call wherever units are let go.
+impl Drop for Units<'_> {
+    fn drop(self) {
+        let Units {
+            holdings: _holdings,
+            at_hand: _,
+            known: _known,
+            beside: _beside,
+            index_sid: _,
+            segments: _segments,
+            places: _places,
+            parts: _parts,
+        } = self;
+    }
 }
 
 impl<'a> Model for Units<'a> {

@@ -196,7 +196,6 @@ fn are_covers(a: &Cover, b: &Cover, c: &Cover, d: &Cover)
 }
 
 /// What finds the notes that weren't compared, though some of their bytes came.
-#[derive(Drop)]
 pub(crate) struct Uncompared<'a> {
     verified: OrderedNotes<'a>,
     damaged: OrderedNotes<'a>,
@@ -206,6 +205,19 @@ pub(crate) struct Uncompared<'a> {
     read: Cover,
     /// These ranges.
     reach: Reach,
+}
+
+// Written out, a drop is one call wherever the notes are let go.
+impl Drop for Uncompared<'_> {
+    fn drop(self) {
+        let Uncompared {
+            verified: _verified,
+            damaged: _damaged,
+            headed: _headed,
+            read: _read,
+            reach: _reach,
+        } = self;
+    }
 }
 
 impl<'a> Uncompared<'a> {

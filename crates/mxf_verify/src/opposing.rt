@@ -12,7 +12,7 @@ use std::marker::Model;
 
 /// A catalogue that is asked which notes it opposes: those that it hasn't, and that one of its notes contradicts. Such
 /// a note and that one can't be of one state of a file.
-#[derive(Debug, Drop)]
+#[derive(Drop)]
 pub struct Opposing<'a> {
     catalogue: &'a Catalogue,
     /// Where the notes begin, in bytes, in their order.

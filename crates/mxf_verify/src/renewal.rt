@@ -22,7 +22,7 @@ pub struct DroppedNote<'a> {
 }
 
 /// The notes of an earlier catalogue that a renewal dropped, in their order.
-#[derive(Debug, Drop)]
+#[derive(Drop)]
 pub struct DroppedNotes<'a> {
     items: Vec<DroppedNote<'a>>,
 }
@@ -70,13 +70,23 @@ impl<'a> DroppedNotes<'a> {
 }
 
 /// What a renewal gives: the renewed catalogue, and the notes of the earlier one that were dropped.
-#[derive(Debug, Drop)]
 pub struct Renewed<'a> {
     pub catalogue: Catalogue,
     pub dropped: DroppedNotes<'a>,
     /// More packets of essence are dropped than the later reading has of the earlier ones: it is of another recording,
     /// or has a wrong offset. Who writes a recording rewrites packs, sets and fills in place, and no essence.
     pub is_of_another: bool,
+}
+
+// Written out, a drop is one call wherever what was renewed is let go.
+impl Drop for Renewed<'_> {
+    fn drop(self) {
+        let Renewed {
+            catalogue: _catalogue,
+            dropped: _dropped,
+            is_of_another: _,
+        } = self;
+    }
 }
 
 /// Renews an earlier catalogue by a later reading, whose bytes are the newer ones: those notes of the earlier one stay

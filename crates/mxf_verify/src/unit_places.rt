@@ -29,7 +29,6 @@ pub(crate) struct UnitPlace {
 }
 
 /// The places of edit units, by where they begin and by where they end.
-#[derive(Drop)]
 pub(crate) struct UnitPlaces {
     /// By where they begin.
     firsts: Vec<UnitPlace>,
@@ -39,6 +38,18 @@ pub(crate) struct UnitPlaces {
     lasts: Vec<UnitPlace>,
     /// Beside each, how soon one of those up to it begins.
     backs: Vec<u128>,
+}
+
+// Written out, a drop is one call wherever the places are let go.
+impl Drop for UnitPlaces {
+    fn drop(self) {
+        let UnitPlaces {
+            firsts: _firsts,
+            reaches: _reaches,
+            lasts: _lasts,
+            backs: _backs,
+        } = self;
+    }
 }
 
 impl Model for UnitPlaces {

@@ -41,7 +41,6 @@ pub struct VerifiedCounts {
 
 /// A reference beside sources: which of its notes are the same there, which differ, and what wasn't compared (this
 /// project's profile).
-#[derive(Drop)]
 pub struct Verification<'a> {
     pub(crate) all_packets: usize,
     pub(crate) packets: usize,
@@ -54,6 +53,25 @@ pub struct Verification<'a> {
     pub(crate) unverified: Cover,
     pub(crate) unknown: Cover,
     pub(crate) came: bool,
+}
+
+// Written out, a drop is one call wherever a verification is let go.
+impl Drop for Verification<'_> {
+    fn drop(self) {
+        let Verification {
+            all_packets: _,
+            packets: _,
+            damaged: _,
+            differing: _differing,
+            cut: _cut,
+            held: _,
+            verified: _verified,
+            altered: _altered,
+            unverified: _unverified,
+            unknown: _unknown,
+            came: _,
+        } = self;
+    }
 }
 
 impl<'a> Model for Verification<'a> {

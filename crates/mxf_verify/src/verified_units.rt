@@ -38,10 +38,19 @@ pub struct UnitRun {
 
 /// The edit units from one up to another of an index of the reference, beside sources: how each stands, and which a
 /// packet has a byte of (this project's profile).
-#[derive(Drop)]
 pub struct VerifiedUnits {
     runs: Vec<UnitRun>,
     places: UnitPlaces,
+}
+
+// Written out, a drop is one call wherever verified units are let go.
+impl Drop for VerifiedUnits {
+    fn drop(self) {
+        let VerifiedUnits {
+            runs: _runs,
+            places: _places,
+        } = self;
+    }
 }
 
 impl Model for VerifiedUnits {

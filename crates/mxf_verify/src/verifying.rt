@@ -145,7 +145,10 @@ fn read_saved<R: Read + Drop>(alloc: Global, from: R) -> Result<Catalogue, PartF
     let mut parts = Vec::new(alloc);
     parts.push(Part::Saved { from })?;
     match gather(alloc, parts) {
-        Ok(gathered) => Ok(gathered.views.into_catalogue()),
+        Ok(gathered) => {
+            let (views, _) = gathered.into_parts();
+            Ok(views.into_catalogue())
+        }
         Err(fault) => Err(fault.fault),
     }
 }

@@ -13,7 +13,7 @@ use std::marker::Model;
 ///
 /// They are what is missing from the file, as far as it is known: bytes between the packets that are held, and what a
 /// cut packet lacks up to its end. What lies after the last packet isn't known, and is no gap.
-#[derive(Debug, Drop)]
+#[derive(Drop)]
 pub struct Gaps<'a> {
     /// The gaps of what the notes cover.
     gaps: CoverGaps<'a>,

@@ -114,7 +114,7 @@ pub(crate) fn segment_there(catalogue: &Catalogue, offset: u64) -> Option<Segmen
 }
 
 /// The segments that are left, rising.
-#[derive(Debug, Drop)]
+#[derive(Drop)]
 pub struct Segments<'a> {
     notes: NotesAt<'a, SegmentInNumbers>,
 }

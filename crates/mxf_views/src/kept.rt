@@ -35,7 +35,7 @@ use mxf_catalogue::Catalogue;
 use std::alloc::{AllocError, Global};
 
 /// What the views keep. The file offsets, in bytes, rise; so do the partitions of the copies.
-#[derive(Debug, Drop)]
+#[derive(Drop)]
 pub(crate) struct KeptLists {
     pub partitions: Vec<Partition>,
     pub segments: Vec<SegmentInNumbers>,

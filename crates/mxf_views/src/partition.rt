@@ -116,7 +116,7 @@ pub(crate) fn partition_at(note: &Note) -> Option<PartitionAt<'_>>
 }
 
 /// The partitions that are left, rising.
-#[derive(Debug, Drop)]
+#[derive(Drop)]
 pub struct Partitions<'a> {
     notes: NotesAt<'a, Partition>,
 }

@@ -8,7 +8,7 @@ use mxf_klv::{Keyed, Note};
 use std::marker::Model;
 
 /// The clear notes of a catalogue that are left, at the keys of what is kept of them, which are file offsets.
-#[derive(Debug, Drop)]
+#[derive(Drop)]
 pub struct NotesAt<'a, T: Keyed> {
     catalogue: &'a Catalogue,
     kept: &'a [T],

@@ -119,7 +119,7 @@ impl<'a> RipAt<'a> {
 }
 
 /// The entries that are left, with their standings, in the order of the pack.
-#[derive(Debug, Drop)]
+#[derive(Drop)]
 pub struct Standings<'a> {
     entries: RipEntries<'a>,
     partitions: &'a [Partition],

@@ -47,10 +47,19 @@ use thiserror::Error;
 ///
 /// Each view is a function of the catalogue's content, whichever way its notes came. Views go by clear notes, those
 /// that share no byte with another: what is disputed is shown as such, and relied on nowhere.
-#[derive(Debug, Drop)]
 pub struct Views {
     catalogue: Catalogue,
     kept: KeptLists,
+}
+
+// Written out, a drop is one call wherever views are let go.
+impl Drop for Views {
+    fn drop(self) {
+        let Views {
+            catalogue: _catalogue,
+            kept: _kept,
+        } = self;
+    }
 }
 
 impl Model for Views {
@@ -198,7 +207,11 @@ impl Views {
         ensures catalogue { result ≡ self }
         ensures history { (h : History) → self ≡ content h → result ≡ content (Of h) }
     {
-        self.catalogue
+        let Views {
+            catalogue,
+            kept: _kept,
+        } = self;
+        catalogue
     }
 
     /// The partitions, rising.

@@ -10,7 +10,7 @@ use mxf_klv::Note;
 use std::marker::Model;
 
 /// The clear notes of a catalogue that are left, in their order.
-#[derive(Debug, Drop)]
+#[derive(Drop)]
 pub struct ClearNotes<'a> {
     left: &'a [Note],
 }

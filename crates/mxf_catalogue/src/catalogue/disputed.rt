@@ -38,7 +38,7 @@ impl<'a> Model for Disputed<'a> {
 /// The disputed notes of a catalogue that are left, in their order.
 ///
 /// How a note is disputed is found from its neighbours, by binary search, and from how far the notes before it reach.
-#[derive(Debug, Drop)]
+#[derive(Drop)]
 pub struct DisputedNotes<'a> {
     all: &'a [Note],
     left: &'a [Note],

@@ -8,7 +8,7 @@ use std::cmp::Ordering;
 use std::marker::Model;
 
 /// The notes of a catalogue that are left, in their order.
-#[derive(Debug, Drop)]
+#[derive(Drop)]
 pub struct Notes<'a> {
     undisputed: &'a [Note],
     disputed: &'a [Note],

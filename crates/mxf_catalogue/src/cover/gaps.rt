@@ -7,7 +7,7 @@ use crate::run::Run;
 use std::marker::Model;
 
 /// The maximal ranges of offsets below the greatest end of a cover that it lacks and that are left, rising.
-#[derive(Debug, Drop)]
+#[derive(Drop)]
 pub struct CoverGaps<'a> {
     reached: u64,
     left: &'a [Run],

@@ -6,7 +6,7 @@ use crate::run::Run;
 use std::marker::Model;
 
 /// The maximal runs of a cover that are left, rising.
-#[derive(Debug, Drop)]
+#[derive(Drop)]
 pub struct CoverRuns<'a> {
     left: &'a [Run],
 }

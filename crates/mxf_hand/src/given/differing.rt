@@ -18,7 +18,7 @@ const NEAR: u64 = 512;
 
 /// Offsets, in bytes, from a first to a last. Sources differ at both, and from each offset between at which they differ
 /// it is less than 512 to the next.
-#[derive(Clone, Copy, Debug, PartialEq, Eq)]
+#[derive(Clone, Copy, PartialEq, Eq)]
 pub(crate) struct Difference {
     pub first: u64,
     pub last: u64,
@@ -26,7 +26,7 @@ pub(crate) struct Difference {
 
 /// Offsets at which sources differ, in the order in which they were noted. If one lies near after the last, the two are
 /// one difference.
-#[derive(Debug, Drop)]
+#[derive(Drop)]
 pub(super) struct Differing {
     noted: Vec<Difference>,
 }

@@ -13,7 +13,7 @@ pub struct BytesAt<'a> {
 }
 
 /// Sources whose bytes lie in memory. Each has the number of its place in the list.
-#[derive(Debug, Drop)]
+#[derive(Drop)]
 pub struct InMemory<'a> {
     pub sources: Vec<BytesAt<'a>>,
 }

@@ -19,7 +19,7 @@ use sha2::{Digest, Sha256};
 use std::alloc::Global;
 
 /// What is noted of bytes at hand: their whole packets, and the head of the one that their end cuts.
-#[derive(Debug, Drop)]
+#[derive(Drop)]
 pub struct Reading {
     pub notes: Catalogue,
     pub head: Option<Note>,

@@ -7,7 +7,7 @@ use super::{Kind, Status};
 use crate::label::Ul;
 
 /// A key given in full but for its version: bytes 5 to 7, bytes 9 to 16, and what they mean.
-#[derive(Clone, Copy, Debug, PartialEq, Eq)]
+#[derive(Clone, Copy, PartialEq, Eq)]
 struct Row {
     registry: [u8; 3],
     item: [u8; 8],

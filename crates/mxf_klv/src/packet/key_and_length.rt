@@ -11,7 +11,7 @@ use crate::label::Ul;
 use crate::note::Note;
 
 /// A packet's key and length, and the bytes after them.
-#[derive(Debug, Drop)]
+#[derive(Drop)]
 pub(crate) struct KeyAndLength<'a> {
     key: Ul,
     ber: Ber,

@@ -10,7 +10,7 @@ const REPEATS: u32 = 1024;
 /// How far the writing of one value has come: the bytes that the writer took, and the interruptions so far.
 ///
 /// A value is written by one `Progress` and a [`put`](Progress::put) for each of its parts.
-#[derive(Debug, Drop)]
+#[derive(Drop)]
 pub struct Progress {
     /// The bytes that the writer took.
     pub written: u64,

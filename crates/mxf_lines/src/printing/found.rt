@@ -20,7 +20,7 @@ use std::io::Write;
 use std::marker::Model;
 
 /// A fragment that was looked up: how many notes it has, and the recordings in which it lies best.
-#[derive(Debug, Drop)]
+#[derive(Drop)]
 pub struct Searched {
     pub notes: usize,
     pub ranking: Ranking,

@@ -29,7 +29,6 @@ const MARKS: [Mark; 11] = [
 ];
 
 /// What may lie in a cell of a map of what is held, each as a set of offsets.
-#[derive(Drop)]
 pub(super) struct Layers<'a> {
     holdings: Holdings<'a>,
     at_hand: &'a AtHand,
@@ -40,6 +39,23 @@ pub(super) struct Layers<'a> {
     missing: Cover,
     metadata: Cover,
     index: Cover,
+}
+
+// Written out, a drop is one call wherever layers are let go.
+impl Drop for Layers<'_> {
+    fn drop(self) {
+        let Layers {
+            holdings: _holdings,
+            at_hand: _,
+            headers: _headers,
+            footers: _footers,
+            bodies: _bodies,
+            random_index: _random_index,
+            missing: _missing,
+            metadata: _metadata,
+            index: _index,
+        } = self;
+    }
 }
 
 impl<'a> Model for Layers<'a> {

@@ -1,7 +1,7 @@
 //! The parts of a run.
 
 /// What a run reads.
-#[derive(Debug, Drop)]
+#[derive(Drop)]
 pub enum Part<R> {
     /// The bytes that a reader gives, the first of which lies at `offset` (bytes) in the recording.
     Piece { offset: u64, from: R },

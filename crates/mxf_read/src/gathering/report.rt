@@ -17,7 +17,7 @@ pub struct PieceReport {
 }
 
 /// The reports of pieces, in their order.
-#[derive(Debug, Drop)]
+#[derive(Drop)]
 pub struct PieceReports {
     items: Vec<PieceReport>,
 }

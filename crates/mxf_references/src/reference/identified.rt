@@ -103,13 +103,24 @@ fn find_sorted(sets: &[Identified], uid: &Uuid) -> Found
 /// The sets of the copy of a partition, to be found by their instance identifiers.
 ///
 /// They are sorted once. [`find`](crate::find) answers the same without memory, and goes over all sets each time.
-#[derive(Drop)]
 pub struct CopySets<'a> {
     catalogue: &'a Catalogue,
     partition: u64,
     by_uid: Vec<Identified>,
     /// The file offsets, in bytes, of those that can't be read.
     unreadable: Vec<u64>,
+}
+
+// Written out, a drop is one call wherever the sets are let go.
+impl Drop for CopySets<'_> {
+    fn drop(self) {
+        let CopySets {
+            catalogue: _,
+            partition: _,
+            by_uid: _by_uid,
+            unreadable: _unreadable,
+        } = self;
+    }
 }
 
 impl<'a> Model for CopySets<'a> {

@@ -24,7 +24,6 @@ use uuid::Uuid;
 /// The Preface is the root of the header metadata. It names the identifications, one for each program that wrote the
 /// file, and the content storage, which names the packages: the material that is played and the sources it is from.
 /// Each name comes with what it leads to, in the order of the file.
-#[derive(Debug, Drop)]
 pub struct Resolved {
     /// The file offset of the partition, in bytes.
     pub partition: u64,
@@ -35,6 +34,19 @@ pub struct Resolved {
     pub identifications: Refs,
     /// None if the storage isn't found.
     pub packages: Refs,
+}
+
+// Written out, a drop is one call wherever what is resolved is let go.
+impl Drop for Resolved {
+    fn drop(self) {
+        let Resolved {
+            partition: _,
+            preface: _,
+            storage: _storage,
+            identifications: _identifications,
+            packages: _packages,
+        } = self;
+    }
 }
 
 impl Model for Resolved {

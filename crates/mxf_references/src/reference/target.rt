@@ -64,7 +64,7 @@ impl Wanted {
 }
 
 /// References with what they lead to, in order.
-#[derive(Debug, Drop)]
+#[derive(Drop)]
 pub struct Refs {
     items: Vec<Ref>,
 }

@@ -5,7 +5,7 @@ ghost use Rattle.std.specs.Iterator.{YieldsFirstRef, item_count};
 use std::marker::Model;
 
 /// The items of a batch that are left, in their order. Each has as many bytes as the batch states.
-#[derive(Debug, Drop)]
+#[derive(Drop)]
 pub struct BatchItems<'a> {
     count: u32,
     size: u32,

@@ -31,11 +31,21 @@ pub fn clocks_told(
 }
 
 /// Edit units one after another of what is known, with its clocks.
-#[derive(Drop)]
 pub struct UnitsInRange<'n> {
     pub units: Units<'n>,
     pub range: UnitRange,
     pub clocks: Option<Clocks>,
+}
+
+// Written out, a drop is one call wherever units are let go.
+impl Drop for UnitsInRange<'_> {
+    fn drop(self) {
+        let UnitsInRange {
+            units: _units,
+            range: _range,
+            clocks: _clocks,
+        } = self;
+    }
 }
 
 /// The edit units that are asked for of what is known, if each is told by itself.

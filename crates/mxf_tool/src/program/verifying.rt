@@ -12,7 +12,7 @@ use mxf_places::AtHand;
 use mxf_read::Gathered;
 use mxf_saving::LastFault;
 use mxf_skim::Scan;
-use mxf_sources::{HeldBySources, Opened, hold_opened, open_sources, verify_opened};
+use mxf_sources::{Opened, hold_opened, open_sources, verify_opened};
 use mxf_timed::ShownTimecodes;
 use mxf_units::{UnitRange, Units};
 use mxf_verify::{Verification, VerifiedUnits};
@@ -31,7 +31,8 @@ pub fn print_verified<'a>(
     let last = LastFault::new();
     let reference = open_sources(rt, inputs.telling.screen, Scan::Full, inputs.beside, &last)?;
     let opened = open_sources(rt, inputs.telling.screen, Scan::Full, inputs.sources, &last)?;
-    let HeldBySources { gathered, .. } = hold_opened(rt, Scan::Full, reference, &last)?;
+    let held = hold_opened(rt, Scan::Full, reference, &last)?;
+    let (gathered, _, _) = held.into_parts();
     verify_by(rt, inputs, asked, &gathered, opened, &last)
 }
 

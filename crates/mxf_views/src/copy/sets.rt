@@ -18,7 +18,7 @@ use mxf_sets::{Items, items};
 use std::marker::Model;
 
 /// The notes of the header metadata sets of a copy that are left, rising.
-#[derive(Debug, Drop)]
+#[derive(Drop)]
 pub struct Sets<'a> {
     zone: ClearNotes<'a>,
 }

@@ -12,7 +12,7 @@ use mxf_klv::{Kind, Note};
 
 /// What the views keep of a note: a partition or a segment by what it states in numbers, or the file offset of a random
 /// index pack or of a partition pack that isn't readable.
-#[derive(Debug, Drop)]
+#[derive(Drop)]
 pub(crate) enum Kept {
     Partition(Partition),
     UnreadablePack(u64),

@@ -22,7 +22,7 @@ use std::marker::Model;
 const SPACING: usize = 64;
 
 /// An offset that no clear note lies across, and what the notes below it cover and how many Prefaces are among them.
-#[derive(Clone, Copy, Debug)]
+#[derive(Clone, Copy)]
 pub(crate) struct Mark {
     pub offset: u64,
     pub covered: u64,
@@ -39,7 +39,7 @@ impl Keyed for Mark {
 }
 
 /// The clear notes of a catalogue from a boundary on, with marks among them.
-#[derive(Debug, Drop)]
+#[derive(Drop)]
 pub(super) struct Sums<'a> {
     catalogue: &'a Catalogue,
     boundary: u64,

@@ -8,7 +8,7 @@ use byteorder::{BigEndian, ByteOrder};
 use std::marker::Model;
 
 /// The entries of a random index pack that are left, in their order.
-#[derive(Debug, Drop)]
+#[derive(Drop)]
 pub struct RipEntries<'a> {
     count: usize,
     left: &'a [u8],
