@@ -40,30 +40,24 @@ const HELP: &str = source_help!("Example: mxf_tool check at:0:clip.mxf");
 
 /// The program's command with its subcommands.
 pub fn command<'a>(alloc: Global) -> Result<Command<'a>, AllocError> {
+    let subcommands = subcommands(alloc)?;
     let tool = Command::new(alloc, "mxf_tool")
         .about("Prints and keeps the structure of MXF files, or of parts of them")
         .version("1.3.0-dev")
         .after_help(HELP)
         .subcommand_required(true)
         .arg_required_else_help(true);
-    let tool = with(Ok(tool), content::describe(alloc));
-    let tool = with(tool, content::show(alloc));
-    let tool = with(tool, content::check(alloc));
-    let tool = with(tool, edit_units::locate(alloc));
-    let tool = with(tool, edit_units::units(alloc));
-    let tool = with(tool, plan::plan(alloc));
-    let tool = with(tool, map::map(alloc));
-    let tool = with(tool, beside::verify(alloc));
-    let tool = with(tool, beside::beside(alloc));
-    let tool = with(tool, beside::find(alloc));
-    let tool = with(tool, saving::join(alloc));
-    with(tool, saving::renew(alloc))
+    tool.subcommands(subcommands)
 }
 
-/// The command with a subcommand, if there was memory for both.
-fn with<'a>(
-    command: Result<Command<'a>, AllocError>,
-    subcommand: Result<Command<'a>, AllocError>,
-) -> Result<Command<'a>, AllocError> {
-    command?.subcommand(subcommand?)
+/// The subcommands, in the order of the help.
+fn subcommands<'a>(alloc: Global) -> Result<Vec<Command<'a>>, AllocError> {
+    let mut all = Vec::new(alloc);
+    content::add(alloc, &mut all)?;
+    edit_units::add(alloc, &mut all)?;
+    plan::add(alloc, &mut all)?;
+    map::add(alloc, &mut all)?;
+    beside::add(alloc, &mut all)?;
+    saving::add(alloc, &mut all)?;
+    Ok(all)
 }

@@ -1,8 +1,10 @@
 //! The subcommands that look at sources beside others: `sources`, `verify` and `find`.
 use super::options::{
-    besides, flag, index_of_units, named, option, timecode, with_args, with_sources, with_units,
+    CommandOption, FLAG, FROM, INDEX_OF_UNITS, Rule, Subcommand, TIMECODE, TO, Takes, command_of,
+    put,
 };
-use clap::{Arg, ArgGroup, Command};
+use clap::builder::ValueParser;
+use clap::{ArgGroup, Command};
 use std::alloc::{AllocError, Global};
 
 /// What the help of `sources` ends with.
@@ -54,49 +56,75 @@ Status 0 says that each fragment does.";
 );
 
 /// The subcommand that looks at sources beside each other.
-pub fn beside<'a>(alloc: Global) -> Result<Command<'a>, AllocError> {
-    let about = "Prints which source holds which packet, where sources disagree";
-    with_sources(alloc, named(alloc, "sources", about, SOURCES_HELP))
-}
+const SOURCES: Subcommand = Subcommand {
+    name: "sources",
+    about: "Prints which source holds which packet, where sources disagree",
+    help: SOURCES_HELP,
+    options: &[],
+};
 
 /// The subcommand that compares sources with a reference.
-pub fn verify<'a>(alloc: Global) -> Result<Command<'a>, AllocError> {
-    let about = "Prints whether the sources are as a reference says, packet by packet";
-    let verify = named(alloc, "verify", about, VERIFY_HELP).arg(whole(alloc))?;
-    let verify = with_args(verify, against(alloc), index_of_units(alloc))?;
-    let verify = with_units(alloc, verify)?.arg(timecode(alloc).requires_arg("units")?)?;
-    with_sources(alloc, verify.group(units_asked(alloc)?)?)
-}
+const VERIFY: Subcommand = Subcommand {
+    name: "verify",
+    about: "Prints whether the sources are as a reference says, packet by packet",
+    help: VERIFY_HELP,
+    options: &[WHOLE, AGAINST, INDEX_OF_UNITS, FROM, TO, TIMECODE_OF_UNITS],
+};
 
 /// The subcommand that looks for fragments in recordings.
-pub fn find<'a>(alloc: Global) -> Result<Command<'a>, AllocError> {
-    let about = "Prints which recording has the packets of each source, and where they lie in it";
-    let find = named(alloc, "find", about, FIND_HELP);
-    with_sources(alloc, with_args(find, within(alloc)?, recordings(alloc))?)
+const FIND: Subcommand = Subcommand {
+    name: "find",
+    about: "Prints which recording has the packets of each source, and where they lie in it",
+    help: FIND_HELP,
+    options: &[WITHIN, RECORDINGS],
+};
+
+const WHOLE: CommandOption = CommandOption {
+    name: "whole",
+    help: "Ends with status 1 if a byte is unverified or unknown; of edit units, if one isn't verified",
+    ..FLAG
+};
+
+const AGAINST: CommandOption = CommandOption {
+    name: "against",
+    takes: Takes::Values("SOURCE"),
+    rule: Rule::Required,
+    help: "A source of the reference, as SRC; it may be given more than once",
+};
+
+/// The option that tells the timecodes of the edit units that are asked for.
+const TIMECODE_OF_UNITS: CommandOption = CommandOption {
+    rule: Rule::Requires("units"),
+    ..TIMECODE
+};
+
+const WITHIN: CommandOption = CommandOption {
+    name: "in",
+    takes: Takes::Values("SOURCE"),
+    rule: Rule::RequiredUnless("recordings"),
+    help: "A source that is a recording by itself, as SRC; it may be given more than once",
+};
+
+const RECORDINGS: CommandOption = CommandOption {
+    name: "recordings",
+    takes: Takes::Value("FILE", ValueParser::String),
+    rule: Rule::Optional,
+    help: "A file with further recordings, a source a line; - is standard input",
+};
+
+/// Puts these subcommands behind others.
+pub fn add<'a>(alloc: Global, to: &mut Vec<Command<'a>>) -> Result<(), AllocError> {
+    to.push(verify(alloc)?)?;
+    put(alloc, to, &[SOURCES, FIND])
 }
 
-fn whole<'a>(alloc: Global) -> Arg<'a> {
-    let help =
-        "Ends with status 1 if a byte is unverified or unknown; of edit units, if one isn't verified";
-    flag(alloc, "whole", help)
-}
-
-fn against<'a>(alloc: Global) -> Arg<'a> {
-    let help = "A source of the reference, as SRC; it may be given more than once";
-    besides(alloc, "against", help).required(true)
+/// The subcommand that compares sources with a reference, with the group of the options that ask for edit units.
+fn verify<'a>(alloc: Global) -> Result<Command<'a>, AllocError> {
+    let units = units_asked(alloc)?;
+    command_of(alloc, &VERIFY)?.group(units)
 }
 
 fn units_asked<'a>(alloc: Global) -> Result<ArgGroup<'a>, AllocError> {
     let asking = ArgGroup::new(alloc, "units").multiple(true);
     asking.arg("index")?.arg("from")?.arg("to")
-}
-
-fn within<'a>(alloc: Global) -> Result<Arg<'a>, AllocError> {
-    let help = "A source that is a recording by itself, as SRC; it may be given more than once";
-    besides(alloc, "in", help).required_unless_present("recordings")
-}
-
-fn recordings<'a>(alloc: Global) -> Arg<'a> {
-    let help = "A file with further recordings, a source a line; - is standard input";
-    option(alloc, "recordings", "FILE", help)
 }

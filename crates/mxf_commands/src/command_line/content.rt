@@ -1,6 +1,6 @@
 //! The subcommands that print what the recording is, what sources hold, and what is wrong in it: `describe`, `show` and
 //! `check`.
-use super::options::{named, skim, with_sources};
+use super::options::{SKIM, Subcommand, put};
 use clap::Command;
 use std::alloc::{AllocError, Global};
 
@@ -16,23 +16,30 @@ const CHECK_HELP: &str = source_help!(
 );
 
 /// The subcommand that prints what the recording is.
-pub fn describe<'a>(alloc: Global) -> Result<Command<'a>, AllocError> {
-    let about =
-        "Prints what the recording is: packages, tracks, durations, timecodes, picture and sound";
-    let describe = named(alloc, "describe", about, DESCRIBE_HELP);
-    with_sources(alloc, describe.arg(skim(alloc))?)
-}
+const DESCRIBE: Subcommand = Subcommand {
+    name: "describe",
+    about: "Prints what the recording is: packages, tracks, durations, timecodes, picture and sound",
+    help: DESCRIBE_HELP,
+    options: &[SKIM],
+};
 
 /// The subcommand that prints what sources hold.
-pub fn show<'a>(alloc: Global) -> Result<Command<'a>, AllocError> {
-    let about = "Prints what the sources hold together";
-    let show = named(alloc, "show", about, SHOW_HELP);
-    with_sources(alloc, show.arg(skim(alloc))?)
-}
+const SHOW: Subcommand = Subcommand {
+    name: "show",
+    about: "Prints what the sources hold together",
+    help: SHOW_HELP,
+    options: &[SKIM],
+};
 
 /// The subcommand that prints what is wrong or missing.
-pub fn check<'a>(alloc: Global) -> Result<Command<'a>, AllocError> {
-    let about = "Prints what is wrong or missing in what the sources hold together";
-    let check = named(alloc, "check", about, CHECK_HELP);
-    with_sources(alloc, check.arg(skim(alloc))?)
+const CHECK: Subcommand = Subcommand {
+    name: "check",
+    about: "Prints what is wrong or missing in what the sources hold together",
+    help: CHECK_HELP,
+    options: &[SKIM],
+};
+
+/// Puts these subcommands behind others.
+pub fn add<'a>(alloc: Global, to: &mut Vec<Command<'a>>) -> Result<(), AllocError> {
+    put(alloc, to, &[DESCRIBE, SHOW, CHECK])
 }

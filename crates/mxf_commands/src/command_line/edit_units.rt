@@ -1,8 +1,9 @@
 //! The subcommands that print where edit units lie: `locate` and `units`.
 use super::options::{
-    index_of_units, named, number, skim, timecode, with_args, with_sources, with_units,
+    CommandOption, FROM, INDEX_OF_UNITS, NUMBER, Rule, SKIM, Subcommand, TIMECODE, TO, Takes, put,
 };
-use clap::{Arg, Command, value_parser};
+use clap::Command;
+use clap::builder::ValueParser;
 use std::alloc::{AllocError, Global};
 
 /// What the help of `locate` ends with.
@@ -32,27 +33,36 @@ Examples: mxf_tool units --from 250 --to 274 cat:clip.cat
 );
 
 /// The subcommand that prints where an edit unit begins in its stream.
-pub fn locate<'a>(alloc: Global) -> Result<Command<'a>, AllocError> {
-    let about = "Prints where an edit unit begins in its essence stream";
-    let locate = named(alloc, "locate", about, LOCATE_HELP);
-    let locate = with_args(locate, index(alloc), unit(alloc))?;
-    with_sources(alloc, locate.arg(skim(alloc))?)
-}
+const LOCATE: Subcommand = Subcommand {
+    name: "locate",
+    about: "Prints where an edit unit begins in its essence stream",
+    help: LOCATE_HELP,
+    options: &[INDEX, UNIT, SKIM],
+};
 
 /// The subcommand that prints where edit units lie in the file.
-pub fn units<'a>(alloc: Global) -> Result<Command<'a>, AllocError> {
-    let about = "Prints where edit units lie in the file, and which of them are held";
-    let units = named(alloc, "units", about, UNITS_HELP);
-    let units = with_units(alloc, units.arg(index_of_units(alloc))?)?;
-    with_sources(alloc, with_args(units, timecode(alloc), skim(alloc))?)
-}
+const UNITS: Subcommand = Subcommand {
+    name: "units",
+    about: "Prints where edit units lie in the file, and which of them are held",
+    help: UNITS_HELP,
+    options: &[INDEX_OF_UNITS, FROM, TO, TIMECODE, SKIM],
+};
 
-fn index<'a>(alloc: Global) -> Arg<'a> {
-    let help = "The IndexSID of the index table";
-    number(alloc, "index", value_parser!(u32), help).required(true)
-}
+const INDEX: CommandOption = CommandOption {
+    name: "index",
+    takes: NUMBER,
+    rule: Rule::Required,
+    help: "The IndexSID of the index table",
+};
 
-fn unit<'a>(alloc: Global) -> Arg<'a> {
-    let parser = value_parser!(u64).range(0..=i64::MAX);
-    number(alloc, "unit", parser, "The edit unit, counted from 0").required(true)
+const UNIT: CommandOption = CommandOption {
+    name: "unit",
+    takes: Takes::Value("N", ValueParser::Unsigned(0, 9_223_372_036_854_775_807)),
+    rule: Rule::Required,
+    help: "The edit unit, counted from 0",
+};
+
+/// Puts these subcommands behind others.
+pub fn add<'a>(alloc: Global, to: &mut Vec<Command<'a>>) -> Result<(), AllocError> {
+    put(alloc, to, &[LOCATE, UNITS])
 }

@@ -1,6 +1,7 @@
 //! The subcommand that draws what is held: `map`.
-use super::options::{flag, named, number, skim, with_args, with_sources};
-use clap::{Arg, Command, value_parser};
+use super::options::{CommandOption, FLAG, Rule, SKIM, Subcommand, Takes, put};
+use clap::Command;
+use clap::builder::ValueParser;
 use std::alloc::{AllocError, Global};
 
 /// What the help of `map` ends with.
@@ -17,24 +18,37 @@ disputed, held, hand or missing.";
 );
 
 /// The subcommand that draws what is held.
-pub fn map<'a>(alloc: Global) -> Result<Command<'a>, AllocError> {
-    let about = "Prints what is held of the recording, as a picture";
-    let map = named(alloc, "map", about, MAP_HELP);
-    let map = with_args(map, extents(alloc), skim(alloc))?;
-    with_sources(alloc, with_args(map, columns(alloc), rows(alloc))?)
-}
+const MAP: Subcommand = Subcommand {
+    name: "map",
+    about: "Prints what is held of the recording, as a picture",
+    help: MAP_HELP,
+    options: &[EXTENTS, SKIM, COLUMNS, ROWS],
+};
 
-fn extents<'a>(alloc: Global) -> Arg<'a> {
-    let help = "Prints too from where to where bytes are in dispute, held, at hand or missing";
-    flag(alloc, "extents", help)
-}
+const EXTENTS: CommandOption = CommandOption {
+    name: "extents",
+    help: "Prints too from where to where bytes are in dispute, held, at hand or missing",
+    ..FLAG
+};
 
-fn columns<'a>(alloc: Global) -> Arg<'a> {
-    let help = "How many cells a row has, 1 to 1000; 64 if it isn't given";
-    number(alloc, "columns", value_parser!(u32).range(1..=1000), help)
-}
+const COLUMNS: CommandOption = CommandOption {
+    name: "columns",
+    takes: CELLS,
+    rule: Rule::Optional,
+    help: "How many cells a row has, 1 to 1000; 64 if it isn't given",
+};
 
-fn rows<'a>(alloc: Global) -> Arg<'a> {
-    let help = "How many rows there are at most, 1 to 1000; 16 if it isn't given";
-    number(alloc, "rows", value_parser!(u32).range(1..=1000), help)
+const ROWS: CommandOption = CommandOption {
+    name: "rows",
+    takes: CELLS,
+    rule: Rule::Optional,
+    help: "How many rows there are at most, 1 to 1000; 16 if it isn't given",
+};
+
+/// A number of cells.
+const CELLS: Takes = Takes::Value("N", ValueParser::Signed(1, 1000));
+
+/// Puts the subcommand behind others.
+pub fn add<'a>(alloc: Global, to: &mut Vec<Command<'a>>) -> Result<(), AllocError> {
+    put(alloc, to, &[MAP])
 }

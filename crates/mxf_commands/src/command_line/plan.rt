@@ -1,5 +1,5 @@
 //! The subcommand that prints what to restore: `plan`.
-use super::options::{index_of_units, named, skim, with_args, with_sources, with_units};
+use super::options::{FROM, INDEX_OF_UNITS, SKIM, Subcommand, TO, put};
 use clap::Command;
 use std::alloc::{AllocError, Global};
 
@@ -21,9 +21,14 @@ Examples: mxf_tool plan range:62914560:part.bin cat:earlier.cat
 );
 
 /// The subcommand that prints what to restore.
-pub fn plan<'a>(alloc: Global) -> Result<Command<'a>, AllocError> {
-    let about = "Prints which bytes to restore next, what helps most first";
-    let plan = named(alloc, "plan", about, PLAN_HELP);
-    let plan = with_args(plan, index_of_units(alloc), skim(alloc))?;
-    with_sources(alloc, with_units(alloc, plan)?)
+const PLAN: Subcommand = Subcommand {
+    name: "plan",
+    about: "Prints which bytes to restore next, what helps most first",
+    help: PLAN_HELP,
+    options: &[INDEX_OF_UNITS, SKIM, FROM, TO],
+};
+
+/// Puts the subcommand behind others.
+pub fn add<'a>(alloc: Global, to: &mut Vec<Command<'a>>) -> Result<(), AllocError> {
+    put(alloc, to, &[PLAN])
 }

@@ -1,6 +1,7 @@
 //! The subcommands that save a catalogue: `join` and `renew`.
-use super::options::{besides, flag, named, option, skim, with_args, with_sources};
-use clap::{Arg, Command};
+use super::options::{CommandOption, FLAG, Rule, SKIM, Subcommand, Takes, put};
+use clap::Command;
+use clap::builder::ValueParser;
 use std::alloc::{AllocError, Global};
 
 /// What the help of `join` ends with.
@@ -23,48 +24,54 @@ all the same.";
 );
 
 /// The subcommand that saves what is joined.
-pub fn join<'a>(alloc: Global) -> Result<Command<'a>, AllocError> {
-    let about = "Writes the catalogue of what the sources hold together to a file";
-    let join = with_saving(alloc, named(alloc, "join", about, JOIN_HELP));
-    with_sources(alloc, join?.arg(skim(alloc))?)
-}
+const JOIN: Subcommand = Subcommand {
+    name: "join",
+    about: "Writes the catalogue of what the sources hold together to a file",
+    help: JOIN_HELP,
+    options: &[OUT, STRICT, DRY_RUN, SKIM],
+};
 
 /// The subcommand that saves what is renewed.
-pub fn renew<'a>(alloc: Global) -> Result<Command<'a>, AllocError> {
-    let about = "Writes a catalogue of earlier sources, renewed by newer ones, to a file";
-    let renew = with_saving(alloc, named(alloc, "renew", about, RENEW_HELP));
-    with_sources(alloc, with_args(renew?, old(alloc), drops(alloc))?)
-}
+const RENEW: Subcommand = Subcommand {
+    name: "renew",
+    about: "Writes a catalogue of earlier sources, renewed by newer ones, to a file",
+    help: RENEW_HELP,
+    options: &[OUT, STRICT, DRY_RUN, OLD, DROP],
+};
 
-/// The command with what says where and how a catalogue is saved.
-fn with_saving<'a>(alloc: Global, command: Command<'a>) -> Result<Command<'a>, AllocError> {
-    let command = command.arg(out(alloc))?;
-    with_args(command, strict(alloc), dry_run(alloc))
-}
+const OUT: CommandOption = CommandOption {
+    name: "out",
+    takes: Takes::Value("PATH", ValueParser::String),
+    rule: Rule::Required,
+    help: "The file to write: a catalogue or an empty file there is replaced whole or, at a fault, left as it was",
+};
 
-fn out<'a>(alloc: Global) -> Arg<'a> {
-    let help =
-        "The file to write: a catalogue or an empty file there is replaced whole or, at a fault, left as it was";
-    option(alloc, "out", "PATH", help).required(true)
-}
+const STRICT: CommandOption = CommandOption {
+    name: "strict",
+    help: "Ends with status 1 if a piece ends neither with a packet nor with one that is cut, or packets are in dispute",
+    ..FLAG
+};
 
-fn strict<'a>(alloc: Global) -> Arg<'a> {
-    let help =
-        "Ends with status 1 if a piece ends neither with a packet nor with one that is cut, or packets are in dispute";
-    flag(alloc, "strict", help)
-}
+const DRY_RUN: CommandOption = CommandOption {
+    name: "dry-run",
+    help: "Prints what it would print, and writes nothing",
+    ..FLAG
+};
 
-fn dry_run<'a>(alloc: Global) -> Arg<'a> {
-    let help = "Prints what it would print, and writes nothing";
-    flag(alloc, "dry-run", help)
-}
+const OLD: CommandOption = CommandOption {
+    name: "old",
+    takes: Takes::Values("SOURCE"),
+    rule: Rule::Required,
+    help: "An earlier source, as SRC; it may be given more than once",
+};
 
-fn old<'a>(alloc: Global) -> Arg<'a> {
-    let help = "An earlier source, as SRC; it may be given more than once";
-    besides(alloc, "old", help).required(true)
-}
+const DROP: CommandOption = CommandOption {
+    name: "drop",
+    help: "Saves whatever is dropped, and whatever OFFSET partition packs say",
+    ..FLAG
+};
 
-fn drops<'a>(alloc: Global) -> Arg<'a> {
-    let help = "Saves whatever is dropped, and whatever OFFSET partition packs say";
-    flag(alloc, "drop", help)
+/// Puts these subcommands behind others.
+pub fn add<'a>(alloc: Global, to: &mut Vec<Command<'a>>) -> Result<(), AllocError> {
+    put(alloc, to, &[JOIN, RENEW])
 }
