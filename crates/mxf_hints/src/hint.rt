@@ -1,5 +1,6 @@
 //! What to do about a fault, told in a second line if standard error is a terminal.
 use crate::fault::{RunFault, ToldClock};
+use crate::filled::write_filled;
 use crate::refusal::is_timecode;
 use crate::shift::Shift;
 use crate::sized::sized_source;
@@ -22,49 +23,57 @@ impl fmt::Display for Hint<'_, '_> {
     fn fmt<W: fmt::Write>(&self, f: &mut fmt::Formatter<W>) -> fmt::Result {
         f.write_str("hint: ")?;
         match self.fault {
-            RunFault::OutOfMemory => f.write_str(
-                "join fewer sources at once, and then the catalogues of these joins",
-            ),
-            RunFault::Signed { .. } => f.write_str("write the number without a sign"),
-            RunFault::BadUnitWord { text, .. } => f.write_str(advice_on_unit(*text)),
-            RunFault::BadLastUnit { .. } => {
-                f.write_str(
-                    "name by --from a first unit that isn't above --to, and ask for 1000000 units at most",
-                )
-            }
             RunFault::NoUnitAt { word, clock } => write_clock(f, *word, *clock),
-            RunFault::SeveralUnitsAt { .. } => f.write_str(
-                "it is shown more than once: describe prints the clocks; name edit units by their numbers",
-            ),
-            RunFault::LastBeforeFirst => f.write_str(
-                "name by --to a unit that isn't below that of --from, or a timecode that isn't shown before it",
-            ),
-            RunFault::NoLastUnit => f.write_str(
-                "no segment that is held gives this index a last unit from the first on: name the last by --to, or another index by --index",
-            ),
-            RunFault::TooManyUnits => {
-                f.write_str("ask for 1000000 units at most, by --from and --to")
-            }
-            RunFault::NoIndex => f.write_str(
-                "no index table segment is held: plan says what to restore",
-            ),
-            RunFault::SeveralIndexes { .. } => f.write_str("name one of them by --index"),
             RunFault::BadSource { word } => write_source(f, *word, self.beginning),
-            RunFault::NoSource => f.write_str("name a source as a word, or in a line of the list"),
             RunFault::BadLine { path, .. } => write_list(f, *path, self.beginning),
             RunFault::BadOutput { path, why } => write_refusal(f, *path, *why),
-            RunFault::NothingToKeep { path } => write!(
-                f,
-                "no source has a packet: {path} stays as it was"
-            ),
+            RunFault::NothingToKeep { path } => {
+                write_filled(f, "no source has a packet: {} stays as it was", *path)
+            }
             RunFault::WrongOffset { word, shift } => write_shift(f, word, *shift),
-            RunFault::TwoLists => f.write_str("name one of the two lists by its path"),
-            RunFault::BadUnit => f.write_str("the greatest edit unit is 9223372036854775807"),
             RunFault::Unread { path, cause } => write_unread(f, *path, *cause),
-            RunFault::BadCatalogue { path, .. } => write_form(f, *path, self.beginning),
+            RunFault::BadCatalogue { path, .. } => {
+                write_filled(f, advice_on_catalogue(self.beginning), *path)
+            }
             RunFault::Unwritten { cause } => write_cause(f, "standard output", *cause),
             RunFault::Unsaved { path, fault } => write_unsaved(f, *path, fault),
+            fault => f.write_str(advice_on_fault(fault)),
         }
+    }
+}
+
+/// What to do about a fault whose hint names nothing of the run.
+fn advice_on_fault(fault: &RunFault<'_>) -> &'static str {
+    match fault {
+        RunFault::OutOfMemory =>
+            "join fewer sources at once, and then the catalogues of these joins",
+        RunFault::Signed { .. } => "write the number without a sign",
+        RunFault::BadUnitWord { text, .. } => advice_on_unit(*text),
+        RunFault::BadLastUnit { .. } =>
+            "name by --from a first unit that isn't above --to, and ask for 1000000 units at most",
+        RunFault::SeveralUnitsAt { .. } =>
+            "it is shown more than once: describe prints the clocks; name edit units by their numbers",
+        RunFault::LastBeforeFirst =>
+            "name by --to a unit that isn't below that of --from, or a timecode that isn't shown before it",
+        RunFault::NoLastUnit =>
+            "no segment that is held gives this index a last unit from the first on: name the last by --to, or another index by --index",
+        RunFault::TooManyUnits => "ask for 1000000 units at most, by --from and --to",
+        RunFault::NoIndex => "no index table segment is held: plan says what to restore",
+        RunFault::SeveralIndexes { .. } => "name one of them by --index",
+        RunFault::NoSource => "name a source as a word, or in a line of the list",
+        RunFault::TwoLists => "name one of the two lists by its path",
+        RunFault::BadUnit => "the greatest edit unit is 9223372036854775807",
+        // `fmt` writes the hints on these
+        RunFault::NoUnitAt { .. }
+        | RunFault::BadSource { .. }
+        | RunFault::BadLine { .. }
+        | RunFault::BadOutput { .. }
+        | RunFault::NothingToKeep { .. }
+        | RunFault::WrongOffset { .. }
+        | RunFault::Unread { .. }
+        | RunFault::BadCatalogue { .. }
+        | RunFault::Unwritten { .. }
+        | RunFault::Unsaved { .. } => "",
     }
 }
 
@@ -145,8 +154,7 @@ fn write_shift<W: fmt::Write>(
     word: &Source<'_>,
     shift: Shift,
 ) -> fmt::Result {
-    let right = word.place().and_then(|(offset, _)| shift.right(offset));
-    let Some(right) = right else {
+    let Some(right) = right_of(word, shift) else {
         return f.write_str(
             "its partition packs say that it begins below 0: is there something before its first packet?",
         );
@@ -164,6 +172,12 @@ fn write_shift<W: fmt::Write>(
     }
 }
 
+/// The OFFSET of a source by its partition packs, if it can have it.
+fn right_of(word: &Source<'_>, shift: Shift) -> Option<u64> {
+    let (offset, _) = word.place()?;
+    shift.right(offset)
+}
+
 /// Writes what the word may have been meant for, which names no source.
 fn write_source<W: fmt::Write>(
     f: &mut fmt::Formatter<W>,
@@ -171,28 +185,31 @@ fn write_source<W: fmt::Write>(
     beginning: Option<Beginning>,
 ) -> fmt::Result {
     match (beginning, sized_source(word)) {
-        (Some(Beginning::Label), _) => write!(
+        (Some(Beginning::Label), _) => write_filled(
             f,
-            "{word} begins with a packet: name it at:0:{word}, or at:OFFSET:{word} if it isn't the recording's beginning"
+            "{} begins with a packet: name it at:0:{}, or at:OFFSET:{} if it isn't the recording's beginning",
+            word,
         ),
-        (Some(Beginning::Catalogue), _) => write!(
-            f,
-            "{word} looks like a catalogue: name it cat:{word}"
-        ),
+        (Some(Beginning::Catalogue), _) => {
+            write_filled(f, "{} looks like a catalogue: name it cat:{}", word)
+        }
         (_, Some(slice @ Source::Slice { .. })) => write!(
             f,
             "OFFSET and LENGTH are numbers of bytes: name it {slice}"
         ),
         (_, Some(sized)) => write!(f, "OFFSET is a number of bytes: name it {sized}"),
-        _ if word.as_bytes().starts_with(b"\xef\xbb\xbf") => {
-            f.write_str("the list begins with a byte order mark: save it without one")
-        }
-        _ if word.ends_with("\r") => f.write_str(
-            "the lines of the list end with a carriage return: end them with a line feed alone",
-        ),
-        _ => f.write_str(
-            "a source is at:OFFSET:PATH, range:OFFSET:PATH or slice:OFFSET:LENGTH:PATH, with numbers in decimal digits alone, or cat:PATH",
-        ),
+        _ => f.write_str(advice_on_word(word)),
+    }
+}
+
+/// What a word was meant for that names neither a source nor a file that begins as one.
+fn advice_on_word(word: &str) -> &'static str {
+    if word.as_bytes().starts_with(b"\xef\xbb\xbf") {
+        "the list begins with a byte order mark: save it without one"
+    } else if word.ends_with("\r") {
+        "the lines of the list end with a carriage return: end them with a line feed alone"
+    } else {
+        "a source is at:OFFSET:PATH, range:OFFSET:PATH or slice:OFFSET:LENGTH:PATH, with numbers in decimal digits alone, or cat:PATH"
     }
 }
 
@@ -247,37 +264,26 @@ fn write_cause<W: fmt::Write>(
     path: &str,
     cause: Option<SystemFault>,
 ) -> fmt::Result {
-    match cause {
-        Some(TOO_MANY_FILES) => write!(
-            f,
-            "{path}: {TOO_MANY_FILES}: all sources are open at once, those of a list too; join them in groups, a file each, and then these files; or raise the limit by ulimit -n"
-        ),
-        Some(cause) => write!(f, "{path}: {cause}"),
-        None => write!(f, "{path}: the system gives no cause"),
-    }
+    let Some(cause) = cause else {
+        return write_filled(f, "{}: the system gives no cause", path);
+    };
+    write!(f, "{path}: {cause}")?;
+    f.write_str(match cause {
+        TOO_MANY_FILES =>
+            ": all sources are open at once, those of a list too; join them in groups, a file each, and then these files; or raise the limit by ulimit -n",
+        _ => "",
+    })
 }
 
-/// Writes what the file that was refused as a catalogue looks like.
-fn write_form<W: fmt::Write>(
-    f: &mut fmt::Formatter<W>,
-    path: &str,
-    beginning: Option<Beginning>,
-) -> fmt::Result {
+/// What the file is that was refused as a catalogue. `{}` stands for its path.
+fn advice_on_catalogue(beginning: Option<Beginning>) -> &'static str {
     match beginning {
-        Some(Beginning::Label) => write!(
-            f,
-            "{path} looks like a piece of a recording: name it at:OFFSET:{path}"
-        ),
-        Some(Beginning::Catalogue) => write!(
-            f,
-            "{path} begins as a catalogue: it was damaged or cut, or a newer program wrote it"
-        ),
-        Some(Beginning::Nothing) => write!(f, "{path} is empty"),
-        Some(Beginning::Other) => write!(f, "{path} is no catalogue that join or renew wrote"),
-        None => write!(
-            f,
-            "{path} is no regular file, and gave no catalogue that join or renew wrote"
-        ),
+        Some(Beginning::Label) => "{} looks like a piece of a recording: name it at:OFFSET:{}",
+        Some(Beginning::Catalogue) =>
+            "{} begins as a catalogue: it was damaged or cut, or a newer program wrote it",
+        Some(Beginning::Nothing) => "{} is empty",
+        Some(Beginning::Other) => "{} is no catalogue that join or renew wrote",
+        None => "{} is no regular file, and gave no catalogue that join or renew wrote",
     }
 }
 
@@ -288,13 +294,11 @@ fn write_unsaved<W: fmt::Write>(
     fault: &SaveFault,
 ) -> fmt::Result {
     match fault {
-        SaveFault::Reserved(part) => {
-            let part = part.as_str();
-            write!(
-                f,
-                "another run holds {part} and writes this catalogue: run this one again when it has ended; if none runs, remove that file"
-            )
-        }
+        SaveFault::Reserved(part) => write_filled(
+            f,
+            "another run holds {} and writes this catalogue: run this one again when it has ended; if none runs, remove that file",
+            part.as_str(),
+        ),
         SaveFault::Write(cause) => write_cause(f, path, *cause),
         SaveFault::OutOfMemory | SaveFault::Refused(_) | SaveFault::NothingToKeep => {
             f.write_str("nothing was written")

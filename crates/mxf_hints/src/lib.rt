@@ -22,6 +22,7 @@ mod contents;
 mod disputing;
 mod exit;
 mod fault;
+mod filled;
 mod found;
 mod front;
 mod hint;

@@ -1,4 +1,5 @@
 //! What to do about arguments that `clap` refused, told on a terminal.
+use crate::filled::write_filled;
 use mxf_saving::begins_with_scheme;
 use std::fmt;
 
@@ -30,8 +31,8 @@ impl<'a> RefusalHint<'a> {
                 return Some(RefusalHint::Recording(command));
             }
         }
-        let is_saving = arguments.iter().any(|word| is_saving(word));
-        let is_locating = arguments.iter().any(|word| word.as_str() == "locate");
+        let is_saving = has_word(arguments, "join") || has_word(arguments, "renew");
+        let is_locating = has_word(arguments, "locate");
         let mut before = "";
         for argument in arguments {
             let argument = argument.as_str();
@@ -52,11 +53,48 @@ impl<'a> RefusalHint<'a> {
         }
         None
     }
+
+    /// Its line, and the word for which `{}` stands in it.
+    fn text(self) -> (&'static str, &'a str) {
+        match self {
+            RefusalHint::Out => (
+                "hint: name the file to write by --out; '--' before it would make it a source",
+                "",
+            ),
+            RefusalHint::Short(word) => (
+                "hint: options are words with two dashes, so {} is none; '--' before it would make it a source",
+                word,
+            ),
+            RefusalHint::Timecode(word) => (
+                "hint: an edit unit is counted from 0: which one shows {} says: mxf_tool units --from {} --to {}, with SRC",
+                word,
+            ),
+            RefusalHint::Units => ("hint: name edit units by --from and --to", ""),
+            RefusalHint::Info => (
+                "hint: what a recording is says: mxf_tool describe at:0:FILE",
+                "",
+            ),
+            RefusalHint::Recording(word) if begins_with_scheme(word) => {
+                ("hint: what a recording is says: mxf_tool describe {}", word)
+            }
+            RefusalHint::Recording(word) => {
+                (
+                    "hint: what a recording is says: mxf_tool describe at:0:{}",
+                    word,
+                )
+            }
+        }
+    }
 }
 
-/// Whether the word is a command that saves a catalogue.
-fn is_saving(word: &str) -> bool {
-    word == "join" || word == "renew"
+/// Whether the word is one of the arguments.
+fn has_word(arguments: &[String], word: &str) -> bool {
+    for argument in arguments {
+        if argument.as_str() == word {
+            return true;
+        }
+    }
+    false
 }
 
 /// Whether the word may be a path: it has a dot or a slash, as no command has, and is no option.
@@ -71,40 +109,20 @@ fn is_short(word: &str) -> bool {
 
 impl fmt::Display for RefusalHint<'_> {
     fn fmt<W: fmt::Write>(&self, f: &mut fmt::Formatter<W>) -> fmt::Result {
-        match self {
-            RefusalHint::Out => f.write_str(
-                "hint: name the file to write by --out; '--' before it would make it a source",
-            ),
-            RefusalHint::Short(word) => write!(
-                f,
-                "hint: options are words with two dashes, so {word} is none; '--' before it would make it a source"
-            ),
-            RefusalHint::Units => f.write_str("hint: name edit units by --from and --to"),
-            RefusalHint::Info => {
-                f.write_str("hint: what a recording is says: mxf_tool describe at:0:FILE")
-            }
-            RefusalHint::Recording(word) if begins_with_scheme(*word) => {
-                write!(
-                    f,
-                    "hint: what a recording is says: mxf_tool describe {word}"
-                )
-            }
-            RefusalHint::Recording(word) => {
-                write!(
-                    f,
-                    "hint: what a recording is says: mxf_tool describe at:0:{word}"
-                )
-            }
-            RefusalHint::Timecode(text) => write!(
-                f,
-                "hint: an edit unit is counted from 0: which one shows {text} says: mxf_tool units --from {text} --to {text}, with SRC"
-            ),
-        }
+        let (text, word) = self.text();
+        write_filled(f, text, word)
     }
 }
 
 /// Whether the text is a timecode, as `10:00:00:00` or `10:00:00;00`, or one that was shortened, as `10:00`.
 pub fn is_timecode(text: &str) -> bool {
-    let is_of_one = text.bytes().all(|byte| byte.is_ascii_digit() || byte == b':' || byte == b';');
-    is_of_one && (1..=3).contains(&text.bytes().filter(|byte| !byte.is_ascii_digit()).count())
+    let mut marks = 0u64;
+    for byte in text.bytes() {
+        match byte {
+            b'0'..=b'9' => {}
+            b':' | b';' => marks = marks.saturating_add(1),
+            _ => return false,
+        }
+    }
+    (1..=3).contains(&marks)
 }

@@ -1,4 +1,5 @@
 //! Telling of pieces, ranges and slices that end before their bytes do, or have none.
+use crate::filled::write_filled;
 use crate::front::Front;
 use crate::telling::tell_on_screen;
 use mxf_klv::Stop;
@@ -37,50 +38,67 @@ struct FrontHint<'a> {
 impl fmt::Display for FrontHint<'_> {
     fn fmt<W: fmt::Write>(&self, f: &mut fmt::Formatter<W>) -> fmt::Result {
         let path = self.source.path();
-        match (self.front, self.source) {
-            (Front::Empty, _) => write!(f, "hint: {path} is empty"),
-            (Front::Catalogue, _) => write!(
-                f,
-                "hint: {path} looks like a catalogue: name it cat:{path}"
-            ),
-            (
-                Front::RunIn(bytes),
-                Source::Piece { offset: 0, .. } | Source::Slice { offset: 0, .. },
-            ) => {
+        match self.front {
+            Front::Empty => write_filled(f, "hint: {} is empty", path),
+            Front::Catalogue => {
+                write_filled(f, "hint: {} looks like a catalogue: name it cat:{}", path)
+            }
+            Front::RunIn(bytes) if begins_at_0(self.source) => {
                 let first = bytes.saturating_add(1);
                 write!(
                     f,
                     "hint: {path} has {bytes} bytes before its first packet: name it at:0:<(tail -c +{first} '{path}')"
                 )
             }
-            (Front::Nothing, Source::Piece { offset: 0, .. }) => write!(
-                f,
-                "hint: no packet begins in {path}, or its first {GREATEST_WINDOW} bytes: it is no MXF file, or begins inside a longer packet"
-            ),
-            (Front::Midst, Source::Piece { offset: 0, .. }) => write!(
-                f,
-                "hint: {path} doesn't begin at a packet: if its front is damaged, name it range:0:{path}; if it begins inside a packet, OFFSET isn't 0"
-            ),
-            (Front::RunIn(_) | Front::Midst, Source::Piece { offset, .. }) => write!(
-                f,
-                "hint: {path} doesn't begin at a packet: if it begins inside one, name it range:{offset}:{path}"
-            ),
-            (Front::RunIn(_) | Front::Midst, Source::Slice { offset, .. }) => write!(
-                f,
-                "hint: no packet begins at byte {offset} of {path}: name a slice from the beginning of a packet on"
-            ),
-            (_, Source::Slice { .. }) => {
-                let source = self.source;
-                write!(
-                    f,
-                    "hint: no packet begins in {source}, or its first {GREATEST_WINDOW} bytes"
-                )
-            }
-            _ => write!(
-                f,
-                "hint: no packet begins in {path}, or its first {GREATEST_WINDOW} bytes"
-            ),
+            Front::RunIn(_) | Front::Midst => write_midst(f, self.source),
+            Front::Nothing => write_nothing(f, self.source),
         }
+    }
+}
+
+/// Whether the source is a piece or slice from byte 0 on.
+fn begins_at_0(source: Source<'_>) -> bool {
+    matches!(
+        source,
+        Source::Piece { offset: 0, .. } | Source::Slice { offset: 0, .. }
+    )
+}
+
+/// Writes what to do about a source that doesn't begin at a packet.
+fn write_midst<W: fmt::Write>(f: &mut fmt::Formatter<W>, source: Source<'_>) -> fmt::Result {
+    match source {
+        Source::Piece { offset: 0, path } => write_filled(
+            f,
+            "hint: {} doesn't begin at a packet: if its front is damaged, name it range:0:{}; if it begins inside a packet, OFFSET isn't 0",
+            path,
+        ),
+        Source::Piece { offset, path } => write!(
+            f,
+            "hint: {path} doesn't begin at a packet: if it begins inside one, name it range:{offset}:{path}"
+        ),
+        Source::Slice { offset, path, .. } => write!(
+            f,
+            "hint: no packet begins at byte {offset} of {path}: name a slice from the beginning of a packet on"
+        ),
+        _ => write_nothing(f, source),
+    }
+}
+
+/// Writes that no packet begins in a source.
+fn write_nothing<W: fmt::Write>(f: &mut fmt::Formatter<W>, source: Source<'_>) -> fmt::Result {
+    match source {
+        Source::Piece { offset: 0, path } => write!(
+            f,
+            "hint: no packet begins in {path}, or its first {GREATEST_WINDOW} bytes: it is no MXF file, or begins inside a longer packet"
+        ),
+        Source::Slice { .. } => write!(
+            f,
+            "hint: no packet begins in {source}, or its first {GREATEST_WINDOW} bytes"
+        ),
+        Source::Piece { path, .. } | Source::Range { path, .. } | Source::Saved { path } => write!(
+            f,
+            "hint: no packet begins in {path}, or its first {GREATEST_WINDOW} bytes"
+        ),
     }
 }
 
@@ -131,16 +149,14 @@ pub fn tell_foreign<R: Files + Eprint + AllocGlobal>(
             continue;
         }
         let front = Front::of(rt, &source);
-        match (front, source) {
-            (Front::Nothing | Front::Empty | Front::Catalogue, _)
-            | (
-                Front::RunIn(_),
-                Source::Piece { offset: 0, .. } | Source::Slice { offset: 0, .. },
-            ) => {
-                tell_on_screen(rt, &FrontHint { source, front })?;
-                is_told = true;
-            }
-            _ => {}
+        let is_foreign = match front {
+            Front::Nothing | Front::Empty | Front::Catalogue => true,
+            Front::RunIn(_) => begins_at_0(source),
+            Front::Midst => false,
+        };
+        if is_foreign {
+            tell_on_screen(rt, &FrontHint { source, front })?;
+            is_told = true;
         }
     }
     Ok(is_told)
