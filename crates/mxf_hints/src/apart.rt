@@ -41,19 +41,27 @@ pub fn tell_unsettled<R: Eprint + AllocGlobal>(rt: &R, views: &Views) -> Result<
 
 /// Tells of the first two header partitions, if there are two. Whether there are.
 fn tell_headers<R: Eprint + AllocGlobal>(rt: &R, views: &Views) -> Result<bool, AllocError> {
-    let partitions = views.partitions_in_numbers().iter();
-    let mut headers = partitions.filter(|partition| partition.part == PackPart::Header);
-    match (headers.next(), headers.next()) {
-        (Some(first), Some(second)) => {
-            let (first, second) = (first.offset, second.offset);
-            let line = format!(in rt.alloc();
-                "hint: header partitions begin at {first} and at {second}: a recording has one, so the bytes from {second} on are of another"
-            )?;
-            tell_on_screen(rt, &line.as_str())?;
-            Ok(true)
+    let Some((first, second)) = two_headers(views) else {
+        return Ok(false);
+    };
+    let line = format!(in rt.alloc();
+        "hint: header partitions begin at {first} and at {second}: a recording has one, so the bytes from {second} on are of another"
+    )?;
+    tell_on_screen(rt, &line.as_str())?;
+    Ok(true)
+}
+
+/// Where the first two header partitions begin, if there are two.
+fn two_headers(views: &Views) -> Option<(u64, u64)> {
+    let mut first = None;
+    for partition in views.partitions_in_numbers() {
+        match (partition.part, first) {
+            (PackPart::Header, None) => first = Some(partition.offset),
+            (PackPart::Header, Some(first)) => return Some((first, partition.offset)),
+            _ => {}
         }
-        _ => Ok(false),
     }
+    None
 }
 
 /// Where a source belongs by the sources beside it. It prints as its line.
@@ -110,7 +118,7 @@ fn tell_places<R: Eprint + AllocGlobal>(
     };
     for source in sources {
         let source = *source;
-        if source.place().is_some_and(|(offset, _)| offset >= end) {
+        if matches!(source.place(), Some((offset, _)) if offset >= end) {
             tell_on_screen(rt, &Misplaced::Behind { source, end })?;
         }
     }
@@ -120,10 +128,7 @@ fn tell_places<R: Eprint + AllocGlobal>(
 /// Where the only random index pack ends, if it can be read. It is the last packet of a recording.
 fn stated_end(views: &Views) -> Option<u64> {
     match views.rip() {
-        RipView::One(rip) => views
-            .catalogue()
-            .clear_at(rip.offset())
-            .map(|note| note.end()),
+        RipView::One(rip) => Some(views.catalogue().clear_at(rip.offset())?.end()),
         _ => None,
     }
 }
@@ -141,10 +146,12 @@ fn cuts_of(
     reports: &[PieceReport],
     catalogue: &Catalogue,
 ) -> Result<Vec<Cut>, AllocError> {
-    let cuts = reports
-        .iter()
-        .filter_map(|report| cut_of(report, catalogue));
-    let mut cuts: Vec<Cut> = cuts.collect(alloc)?;
+    let mut cuts = Vec::new(alloc);
+    for report in reports {
+        if let Some(cut) = cut_of(report, catalogue) {
+            cuts.push(cut)?;
+        }
+    }
     cuts.sort_unstable_by_key(|cut| cut.start);
     Ok(cuts)
 }
@@ -154,13 +161,9 @@ fn cut_of(report: &PieceReport, catalogue: &Catalogue) -> Option<Cut> {
     let Stop::Truncated(start) = report.report.stop else {
         return None;
     };
-    let head = catalogue
-        .undisputed_at(start)
-        .filter(|note| note.is_head())?;
-    Some(Cut {
-        start,
-        end: head.end(),
-    })
+    let note = catalogue.undisputed_at(start)?;
+    let end = note.end();
+    note.is_head().then_some(Cut { start, end })
 }
 
 /// The range, if a packet that is cut before its first byte ends within it, and its first packet begins above that end.
@@ -170,7 +173,10 @@ fn range_beside<'a>(
     report: &PieceReport,
     cuts: &[Cut],
 ) -> Option<Misplaced<'a>> {
-    let (offset, _) = source.place().filter(|_| source.is_range())?;
+    if !source.is_range() {
+        return None;
+    }
+    let (offset, _) = source.place()?;
     let begun = cuts.partition_point(|cut| cut.start < offset);
     let end = cuts[..begun].last()?.end;
     let first = report.offset;

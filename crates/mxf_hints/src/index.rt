@@ -66,7 +66,7 @@ fn missing_index(
     index: u32,
 ) -> Result<Option<MissingIndex>, OutOfMemory> {
     let held = index_sids(alloc, views)?;
-    if held.iter().any(|index_sid| *index_sid == index) {
+    if held.contains(&index) {
         return Ok(None);
     }
     let named = named_index_sids(alloc, views)?;

@@ -65,7 +65,7 @@ pub fn is_contradicted(views: &Views) -> bool {
 fn is_any_disputed_elsewhere(catalogue: &Catalogue) -> bool {
     for disputed in catalogue.disputed() {
         let note = disputed.note;
-        if stated_offset(note).is_some_and(|stated| stated != note.offset()) {
+        if matches!(stated_offset(note), Some(stated) if stated != note.offset()) {
             return true;
         }
     }

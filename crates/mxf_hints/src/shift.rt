@@ -22,10 +22,10 @@ impl Shift {
     /// The right OFFSET, by the one that is named, if a source can have it.
     pub fn right(self, named: u64) -> Option<u64> {
         let right = match self {
-            Shift::High(bytes) => named.checked_sub(bytes),
-            Shift::Low(bytes) => named.checked_add(bytes),
+            Shift::High(bytes) => named.checked_sub(bytes)?,
+            Shift::Low(bytes) => named.checked_add(bytes)?,
         };
-        right.filter(|right| *right <= MAX)
+        (right <= MAX).then_some(right)
     }
 }
 

@@ -47,7 +47,8 @@ fn bytes_of(size: &str) -> Option<u64> {
     for (letter, bytes) in UNITS {
         if let Some(digits) = size.strip_suffix(letter) {
             let number: u64 = digits.parse().ok()?;
-            return number.checked_mul(bytes).filter(|offset| *offset <= MAX);
+            let offset = number.checked_mul(bytes)?;
+            return (offset <= MAX).then_some(offset);
         }
     }
     None
