@@ -67,18 +67,13 @@ pub fn run(rt: &HostRuntime, screen: Screen) -> Exit {
         Ok(arguments) => arguments,
         Err(_) => return tell(rt, telling, &RunFault::OutOfMemory),
     };
-    run_on(rt, screen, arguments.as_slice())
-}
-
-/// Runs the program on these arguments.
-fn run_on(rt: &HostRuntime, screen: Screen, arguments: &[String]) -> Exit {
-    let telling = Telling::of(screen, Hints::among(arguments));
+    let telling = Telling::of(screen, Hints::among(arguments.as_slice()));
     let Ok(command) = command(rt.alloc()) else {
         return tell(rt, telling, &RunFault::OutOfMemory);
     };
-    match command.try_get_matches_from(arguments) {
+    match command.try_get_matches_from(arguments.as_slice()) {
         Ok(matches) => matched(rt, screen, &matches),
-        Err(refusal) => refused(rt, telling, arguments, &refusal),
+        Err(refusal) => refused(rt, telling, arguments.as_slice(), &refusal),
     }
 }
 
@@ -157,20 +152,11 @@ fn refused_with(rt: &HostRuntime, telling: Telling, arguments: &[String]) -> Exi
 
 /// Does what is asked for, and reports a fault.
 fn perform(rt: &HostRuntime, telling: Telling, request: &Request<'_, '_>) -> Exit {
-    match read_lists(rt, request.named.list, request.beside.list) {
-        Ok(lists) => perform_with(rt, telling, request, &lists),
-        Err(fault) => tell(rt, telling, &fault),
-    }
-}
-
-/// Does what is asked for if the lists have these bytes, and reports a fault.
-fn perform_with(
-    rt: &HostRuntime,
-    telling: Telling,
-    request: &Request<'_, '_>,
-    lists: &Lists,
-) -> Exit {
-    match perform_named(rt, telling, request, lists) {
+    let lists = match read_lists(rt, request.named.list, request.beside.list) {
+        Ok(lists) => lists,
+        Err(fault) => return tell(rt, telling, &fault),
+    };
+    match perform_named(rt, telling, request, &lists) {
         Ok(exit) => exit,
         Err(fault) => tell(rt, telling, &fault),
     }
@@ -192,16 +178,7 @@ fn perform_named<'a, 'b: 'a>(
         beside: &beside,
         sources: &sources,
     };
-    perform_on(rt, inputs, request.task)
-}
-
-/// Does what is asked for.
-fn perform_on<'a>(
-    rt: &HostRuntime,
-    inputs: Inputs<'_, 'a>,
-    task: Task<'a>,
-) -> Result<Exit, RunFault<'a>> {
-    match task {
+    match request.task {
         Task::Tell(told) => print_told(rt, inputs, told),
         Task::Sources => print_beside(rt, inputs),
         Task::Find => print_found_in(rt, inputs),
@@ -211,57 +188,26 @@ fn perform_on<'a>(
     }
 }
 
-/// Prints what is asked for of what the sources hold together.
+/// Prints what is asked for of what the sources hold together, with the stops as ends that what is held makes up for; what
+/// `show` prints has them as they were. If hints are told, it tells what of the sources doesn't go together, and if a
+/// skim was checked, that essence wasn't read.
 fn print_told<'a>(
     rt: &HostRuntime,
     inputs: Inputs<'_, 'a>,
     asked: Told<'a>,
 ) -> Result<Exit, RunFault<'a>> {
-    let held = held_for(rt, inputs, asked)?;
-    let exit = print_held(rt, inputs, asked, &held)?;
-    match asked {
-        Told::Answer(Ask::Check) => told_skim(rt, inputs, exit),
-        _ => Ok(exit),
-    }
-}
-
-/// What the sources hold together, with the stops as ends that what is held makes up for; what `show` prints has them as
-/// they were.
-fn held_for<'a>(
-    rt: &HostRuntime,
-    inputs: Inputs<'_, 'a>,
-    asked: Told<'a>,
-) -> Result<HeldBySources, RunFault<'a>> {
     let held = hold_sources(rt, inputs.telling.screen, inputs.scan, inputs.sources)?;
-    match asked {
-        Told::Answer(Ask::Show { .. }) => Ok(held),
-        _ => settled(rt.alloc(), held, inputs.sources),
-    }
-}
-
-/// Ends a run that checked: if hints are told, it tells of a skim that essence wasn't read.
-fn told_skim<'a>(
-    rt: &HostRuntime,
-    inputs: Inputs<'_, 'a>,
-    exit: Exit,
-) -> Result<Exit, RunFault<'a>> {
-    let is_told = inputs.telling.has_hints && inputs.scan == Scan::Skim;
-    if is_told && tell_on_screen(rt, &SKIM_HINT).is_err() {
+    let held = match asked {
+        Told::Answer(Ask::Show { .. }) => held,
+        _ => settled(rt.alloc(), held, inputs.sources)?,
+    };
+    let exit = print_asked(rt, inputs, asked, &held)?;
+    let exit = told_held(rt, inputs, &held, false, exit)?;
+    let is_skim_checked = inputs.scan == Scan::Skim && matches!(asked, Told::Answer(Ask::Check));
+    if is_skim_checked && inputs.telling.has_hints && tell_on_screen(rt, &SKIM_HINT).is_err() {
         return Err(RunFault::OutOfMemory);
     }
     Ok(exit)
-}
-
-/// Prints what is asked for of what is held of the sources, and if hints are told, what of the sources doesn't go
-/// together.
-fn print_held<'a>(
-    rt: &HostRuntime,
-    inputs: Inputs<'_, 'a>,
-    asked: Told<'a>,
-    held: &HeldBySources,
-) -> Result<Exit, RunFault<'a>> {
-    let exit = print_asked(rt, inputs, asked, held)?;
-    told_held(rt, inputs, held, false, exit)
 }
 
 /// Prints what is asked for of what is held of the sources.
@@ -286,28 +232,28 @@ fn print_asked<'a>(
     }
 }
 
-/// Writes the catalogue of what the sources hold together, and prints how many notes it has.
+/// Writes the catalogue of what the sources hold together, and prints how many notes it has. Its place is held before the
+/// first source is opened.
 fn print_joined<'a>(
     rt: &HostRuntime,
     inputs: Inputs<'_, 'a>,
     saving: Saving<'a>,
 ) -> Result<Exit, RunFault<'a>> {
-    let held = join(rt, inputs, saving)?;
-    print_saved(rt, inputs, saving.is_strict, &held)
-}
-
-/// Prints how many notes the catalogue has that was saved of what is held of the sources.
-fn print_saved<'a>(
-    rt: &HostRuntime,
-    inputs: Inputs<'_, 'a>,
-    is_strict: bool,
-    held: &HeldBySources,
-) -> Result<Exit, RunFault<'a>> {
-    let exit = print_answer(rt, Printed::Answer(Ask::Join, held), inputs.form)?;
-    let Gathered { views, reports } = &held.gathered;
-    let exit = exit.of_join(is_strict, reports.as_slice());
-    let exit = exit.of_disputes(is_strict, views.catalogue().disputed().count());
-    told_held(rt, inputs, held, true, exit)
+    allow_output(rt, saving.out, inputs.sources)?;
+    let place = match Reservation::take(rt, saving.out, saving.is_dry) {
+        Ok(place) => place,
+        Err(fault) => return Err(unsaved(saving.out, fault)),
+    };
+    let held = hold_sources(rt, inputs.telling.screen, inputs.scan, inputs.sources)?;
+    let held = settled(rt.alloc(), held, inputs.sources)?;
+    let catalogue = held.gathered.views.catalogue();
+    if let Err(fault) = save(rt, inputs.scan, catalogue, place) {
+        return Err(unsaved(saving.out, fault));
+    }
+    let exit = print_answer(rt, Printed::Answer(Ask::Join, &held), inputs.form)?;
+    let exit = exit.of_join(saving.is_strict, held.gathered.reports.as_slice());
+    let exit = exit.of_disputes(saving.is_strict, catalogue.disputed().count());
+    told_held(rt, inputs, &held, true, exit)
 }
 
 /// Ends a run of which this is held: if hints are told, it tells of pieces that weren't noted whole, and what of the
@@ -328,19 +274,6 @@ fn told_held<'a>(
     told(rt, has_hints, inputs.sources, reports, with_stops, exit)
 }
 
-/// Writes the catalogue of what the sources hold together. Its place is held before the first source is opened.
-fn join<'a>(
-    rt: &HostRuntime,
-    inputs: Inputs<'_, 'a>,
-    saving: Saving<'a>,
-) -> Result<HeldBySources, RunFault<'a>> {
-    allow_output(rt, saving.out, inputs.sources)?;
-    match Reservation::take(rt, saving.out, saving.is_dry) {
-        Ok(place) => join_at(rt, inputs, saving.out, place),
-        Err(fault) => Err(unsaved(saving.out, fault)),
-    }
-}
-
 /// Refuses `out` where no catalogue is saved, with these sources.
 fn allow_output<'a>(
     rt: &HostRuntime,
@@ -351,21 +284,6 @@ fn allow_output<'a>(
         Ok(None) => Ok(()),
         Ok(Some(why)) => Err(RunFault::BadOutput { path: out, why }),
         Err(fault) => Err(unsaved(out, SaveFault::from(fault))),
-    }
-}
-
-/// Writes the catalogue of what the sources hold together to a place that is held.
-fn join_at<'a, 'r>(
-    rt: &'r HostRuntime,
-    inputs: Inputs<'_, 'a>,
-    out: &'a str,
-    place: Reservation<'r, HostRuntime>,
-) -> Result<HeldBySources, RunFault<'a>> {
-    let held = hold_sources(rt, inputs.telling.screen, inputs.scan, inputs.sources)?;
-    let held = settled(rt.alloc(), held, inputs.sources)?;
-    match save(rt, inputs.scan, held.gathered.views.catalogue(), place) {
-        Ok(()) => Ok(held),
-        Err(fault) => Err(unsaved(out, fault)),
     }
 }
 

@@ -2,7 +2,7 @@
 use super::{Inputs, Printed, print_answer, told};
 use mxf_catalogue::Catalogue;
 use mxf_forms::Form;
-use mxf_hints::{Contents, Exit, RunFault};
+use mxf_hints::{Exit, RunFault};
 use mxf_readings::Readings;
 use mxf_sources::{names_of, read_each};
 
@@ -12,17 +12,7 @@ pub fn print_beside<'a>(rt: &HostRuntime, inputs: Inputs<'_, 'a>) -> Result<Exit
         return Err(RunFault::OutOfMemory);
     };
     let read = read_each(rt, inputs.telling.screen, inputs.sources)?;
-    print_read(rt, inputs, &names, &read)
-}
-
-/// Prints what was read of each source with these names.
-fn print_read<'a>(
-    rt: &HostRuntime,
-    inputs: Inputs<'_, 'a>,
-    names: &[String],
-    read: &Contents,
-) -> Result<Exit, RunFault<'a>> {
-    let exit = print_contents(rt, inputs.form, names, &read.contents)?;
+    let exit = print_contents(rt, inputs.form, &names, &read.contents)?;
     told(
         rt,
         inputs.telling.has_hints,

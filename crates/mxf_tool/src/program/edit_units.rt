@@ -81,7 +81,8 @@ pub fn print_units<'a>(
 }
 
 /// Prints what to restore for the edit units that are asked for. If no unit is known by the timecode, since no copy of
-/// the header metadata is finished, that is what tells of one.
+/// the header metadata is finished, that is what tells of one. If hints are told, it tells that units aren't there while
+/// packets of the only source are disputed.
 pub fn print_unit_plan<'a>(
     rt: &HostRuntime,
     inputs: Inputs<'_, 'a>,
@@ -90,39 +91,21 @@ pub fn print_unit_plan<'a>(
 ) -> Result<Exit, RunFault<'a>> {
     let views = &held.gathered.views;
     let clocks = clocks_told(rt.alloc(), views, asked.with_timecodes)?;
-    match found_units(rt, views, &held.at_hand, &clocks, asked) {
-        Ok(found) => print_plan_of(rt, inputs, asked, views, &found),
-        Err(fault) => print_plan_without(rt, inputs, held, fault),
-    }
-}
-
-/// Prints what to restore for the edit units that were found, and tells of what is disputed if there is something.
-fn print_plan_of<'a>(
-    rt: &HostRuntime,
-    inputs: Inputs<'_, 'a>,
-    asked: IndexedUnits<'a>,
-    views: &Views,
-    found: &FoundUnits<'_>,
-) -> Result<Exit, RunFault<'a>> {
-    let exit = print_plan_for(rt, inputs, asked, &found.units, found.span)?;
+    let FoundUnits { units, span } = match found_units(rt, views, &held.at_hand, &clocks, asked) {
+        Ok(found) => found,
+        Err(fault) if waits_for_metadata(views, &fault) => {
+            return print_metadata_plan(rt, inputs, held, fault);
+        }
+        Err(fault) => return Err(fault),
+    };
+    let exit = print_plan_for(rt, inputs, asked, &units, span)?;
+    let is_one = inputs.sources.len() == 1;
     if let Exit::Found = exit {
-        told_unsettled(rt, inputs, views)?;
+        if is_one && inputs.telling.has_hints && tell_unsettled(rt, views).is_err() {
+            return Err(RunFault::OutOfMemory);
+        }
     }
     Ok(exit)
-}
-
-/// Prints what to restore of header metadata, if no edit unit was found and they may tell of one.
-fn print_plan_without<'a>(
-    rt: &HostRuntime,
-    inputs: Inputs<'_, 'a>,
-    held: &HeldBySources,
-    fault: RunFault<'a>,
-) -> Result<Exit, RunFault<'a>> {
-    if waits_for_metadata(&held.gathered.views, &fault) {
-        print_metadata_plan(rt, inputs, held, fault)
-    } else {
-        Err(fault)
-    }
 }
 
 /// Prints what to restore for the edit units from a first one up to a last one. By a timecode they may be more than are
@@ -166,17 +149,4 @@ fn print_metadata_plan<'a>(
         return Err(fault);
     }
     print_answer(rt, Printed::MetadataPlan(&plan), inputs.form)
-}
-
-/// If hints are told, it tells that units aren't there while packets of the only source are disputed.
-fn told_unsettled<'a>(
-    rt: &HostRuntime,
-    inputs: Inputs<'_, 'a>,
-    views: &Views,
-) -> Result<(), RunFault<'a>> {
-    let is_one = inputs.sources.len() == 1;
-    if inputs.telling.has_hints && is_one && tell_unsettled(rt, views).is_err() {
-        return Err(RunFault::OutOfMemory);
-    }
-    Ok(())
 }

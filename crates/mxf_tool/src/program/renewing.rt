@@ -25,26 +25,10 @@ pub fn print_renewal<'a>(
         return Err(RunFault::OutOfMemory);
     };
     allow_output(rt, out, &all)?;
-    match Reservation::take(rt, out, is_dry) {
-        Ok(place) => renew_at(rt, inputs, renewing, place),
-        Err(fault) => Err(unsaved(out, fault)),
-    }
-}
-
-/// The earlier sources and the later ones.
-fn all_sources<'a>(alloc: Global, inputs: Inputs<'_, 'a>) -> Result<Vec<Source<'a>>, AllocError> {
-    let mut all = Vec::from_slice(alloc, inputs.beside)?;
-    all.extend_from_slice(inputs.sources)?;
-    Ok(all)
-}
-
-/// Writes the renewed catalogue to a place that is held, and prints what was dropped.
-fn renew_at<'a, 'r>(
-    rt: &'r HostRuntime,
-    inputs: Inputs<'_, 'a>,
-    renewing: Renewing<'a>,
-    place: Reservation<'r, HostRuntime>,
-) -> Result<Exit, RunFault<'a>> {
+    let place = match Reservation::take(rt, out, is_dry) {
+        Ok(place) => place,
+        Err(fault) => return Err(unsaved(out, fault)),
+    };
     let Sides { earlier, later } = hold_both(
         rt,
         inputs.telling.screen,
@@ -52,6 +36,13 @@ fn renew_at<'a, 'r>(
         inputs.sources,
     )?;
     renew_by(rt, inputs, renewing, place, &earlier, later)
+}
+
+/// The earlier sources and the later ones.
+fn all_sources<'a>(alloc: Global, inputs: Inputs<'_, 'a>) -> Result<Vec<Source<'a>>, AllocError> {
+    let mut all = Vec::from_slice(alloc, inputs.beside)?;
+    all.extend_from_slice(inputs.sources)?;
+    Ok(all)
 }
 
 /// Writes what the earlier sources hold, renewed by what the later ones do, and prints what was dropped.
@@ -73,7 +64,9 @@ fn renew_by<'a, 'r>(
         && (is_contradicted(&earlier.gathered.views) || is_contradicted(&views));
     let newer = views.into_catalogue();
     let exit = save_renewed(rt, inputs, renewing, place, earlier, newer)?;
-    told_offsets(rt, inputs, is_wrong)?;
+    if is_wrong && tell_both_offsets(rt, inputs).is_err() {
+        return Err(RunFault::OutOfMemory);
+    }
     let is_strict = renewing.saving.is_strict;
     told_both(rt, inputs, is_strict, earlier, reports.as_slice(), exit)
 }
@@ -97,18 +90,6 @@ fn judge_offsets<'a>(
             }
             _ => {}
         }
-    }
-    Ok(())
-}
-
-/// Tells of each earlier and later source that begins at another offset by its partition packs, if one may.
-fn told_offsets<'a>(
-    rt: &HostRuntime,
-    inputs: Inputs<'_, '_>,
-    is_wrong: bool,
-) -> Result<(), RunFault<'a>> {
-    if is_wrong && tell_both_offsets(rt, inputs).is_err() {
-        return Err(RunFault::OutOfMemory);
     }
     Ok(())
 }
