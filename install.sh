@@ -46,17 +46,17 @@ elif [ -z "$program" ] && ! program=$("$top/packaging/program" $kind); then
 fi
 put() { install -D -m "$1" "$2" "$prefix/$3" && printf '%s\n' "$prefix/$3"; }
 if [ $kind = checked ]; then
-  put 755 "$program" lib/mxf-tool/mxf_tool.checked
+  put 755 "$program" lib/mxf-tool/checked/mxf_tool
   put 755 "$top/packaging/run_checked" lib/mxf-tool/run_checked
   parts=$(cd "$prefix/lib/mxf-tool" && pwd)
   starter=$(mktemp)
   quoted=\'${parts//\'/\'\\\'\'}
-  printf '%s\n' '#!/bin/sh' '# Runs the checked program, which is unproved.' "exec $quoted/run_checked' $quoted/mxf_tool.checked' \"\$@\"" >"$starter"
+  printf '%s\n' '#!/bin/sh' '# Runs the checked program, which is unproved.' "exec $quoted/run_checked' $quoted/checked/mxf_tool' \"\$@\"" >"$starter"
   put 755 "$starter" bin/mxf_tool
   rm "$starter"
 else
   put 755 "$program" bin/mxf_tool
-  rm -f "$prefix/lib/mxf-tool/mxf_tool.checked" "$prefix/lib/mxf-tool/run_checked"
+  rm -rf "$prefix/lib/mxf-tool/checked" "$prefix/lib/mxf-tool/run_checked"
 fi
 for name in mxf_report mxf_archive; do put 755 "$scripts/$name" "bin/$name"; done
 for file in "$scripts"/archive/*.py; do put 644 "$file" "lib/mxf-tool/archive/${file##*/}"; done

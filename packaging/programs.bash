@@ -2,11 +2,12 @@
 # The two programs of mxf_tool that can be built here, for scripts that source this file: where they lie, whether they are
 # current, and how they are made. `top` is the folder of the repository.
 # - proved: what the kit's gate has proved and built.
-# - checked: the same source with run-time checks, unproved. The kit's `rt try` compiles it so.
+# - checked: the same source with run-time checks, unproved. The kit's `rt try` compiles it so. Its file has the same name,
+#   which stands in what it says of wrong words.
 readonly CANNOT_BUILD=69
 readonly OTHER_KIT=76
 folder=$top/crates/mxf_tool/out
-declare -A program=([proved]=$folder/mxf_tool [checked]=$folder/mxf_tool.checked)
+declare -A program=([proved]=$folder/mxf_tool [checked]=$folder/checked/mxf_tool)
 builder=$top/packaging/build_program
 
 tell() { echo "mxf_tool: $1" >&2; }
@@ -69,8 +70,8 @@ build() {
 ensure() {
   local status
   ! is_current "$1" || return 0
-  if ! { mkdir -p "$folder" && exec 9>"${program[$1]}.lock"; } 2>/dev/null; then
-    tell "nothing can be written to $folder"
+  if ! { mkdir -p "${program[$1]%/*}" && exec 9>"${program[$1]}.lock"; } 2>/dev/null; then
+    tell "nothing can be written to ${program[$1]%/*}"
     return "$CANNOT_BUILD"
   fi
   if ! flock -n 9; then

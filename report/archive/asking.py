@@ -191,7 +191,7 @@ class Tool:
         crates = os.path.join(os.path.dirname(os.path.realpath(self.program)), "crates")
         if os.path.isdir(crates):
             is_checked = self.version().endswith(" checked")
-            built = os.path.join(crates, "mxf_tool", "out", "mxf_tool.checked" if is_checked else "mxf_tool")
+            built = os.path.join(crates, "mxf_tool", "out", *["checked"] * is_checked, "mxf_tool")
             self.program = built if os.path.isfile(built) else self.program
 
     def version(self) -> str:
