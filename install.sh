@@ -1,26 +1,31 @@
 #!/usr/bin/env bash
 # Installs the program, mxf_report and mxf_archive, their man pages, their completions for bash, the guides and the example
 # of an archive:
-# install.sh [--from FOLDER] [PREFIX], by default below /usr/local. With --from they are those of a folder that
-# packaging/release made, whose sums are checked; the kit isn't needed then. Without it the program is proved and built
-# first if it isn't yet. What stands there under these names is replaced.
+# install.sh [--from FOLDER | --checked] [PREFIX], by default below /usr/local. With --from they are those of a folder that
+# packaging/release made, whose sums are checked; the kit isn't needed then. Without it the proved program has to be
+# built. --checked installs the unproved one with run-time checks, which is made first if need be; its version line ends
+# in `checked`. What stands there under these names is replaced.
 set -eu
 unset CDPATH
 top=$(cd "$(dirname "${BASH_SOURCE[0]}")" && pwd)
 from=
+kind=proved
 if [ "${1-}" = --from ] && [ $# -gt 1 ]; then
   from=$2
   shift 2
+elif [ "${1-}" = --checked ]; then
+  kind=checked
+  shift
 fi
 prefix=${1:-/usr/local}
-program=${MXF_TOOL:-$top/crates/mxf_tool/out/mxf_tool}
+program=${MXF_TOOL-}
 scripts=$top/report
 example=$top/examples/archive
 pages=$top/docs
 completions=$top/completions
 
 if [ $# -gt 1 ] || [ -z "$prefix" ] || [ "${prefix#-}" != "$prefix" ]; then
-  echo "usage: install.sh [--from FOLDER] [PREFIX]" >&2
+  echo "usage: install.sh [--from FOLDER | --checked] [PREFIX]" >&2
   exit 2
 fi
 if [ -n "$from" ]; then
@@ -35,11 +40,24 @@ if [ -n "$from" ]; then
   example=$from/examples/archive
   pages=$from
   completions=$from
-elif [ -z "${MXF_TOOL-}" ]; then
-  "$top/mxf_tool" --version >/dev/null
+elif [ -z "$program" ] && ! program=$("$top/packaging/program" $kind); then
+  [ $kind = checked ] || echo "install.sh: --checked installs the unproved program, in minutes" >&2
+  exit 1
 fi
 put() { install -D -m "$1" "$2" "$prefix/$3" && printf '%s\n' "$prefix/$3"; }
-put 755 "$program" bin/mxf_tool
+if [ $kind = checked ]; then
+  put 755 "$program" lib/mxf-tool/checked/mxf_tool
+  put 755 "$top/packaging/run_checked" lib/mxf-tool/run_checked
+  parts=$(cd "$prefix/lib/mxf-tool" && pwd)
+  starter=$(mktemp)
+  quoted=\'${parts//\'/\'\\\'\'}
+  printf '%s\n' '#!/bin/sh' '# Runs the checked program, which is unproved.' "exec $quoted/run_checked' $quoted/checked/mxf_tool' \"\$@\"" >"$starter"
+  put 755 "$starter" bin/mxf_tool
+  rm "$starter"
+else
+  put 755 "$program" bin/mxf_tool
+  rm -rf "$prefix/lib/mxf-tool/checked" "$prefix/lib/mxf-tool/run_checked"
+fi
 for name in mxf_report mxf_archive; do put 755 "$scripts/$name" "bin/$name"; done
 for file in "$scripts"/archive/*.py; do put 644 "$file" "lib/mxf-tool/archive/${file##*/}"; done
 # Who may not write there would compile the parts at each start.

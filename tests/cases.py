@@ -3,8 +3,6 @@
 
     tests/cases.py PROGRAM [WORD]    all cases, or those whose name has the WORD; the last line is 'N passed, M failed'
     tests/cases.py --bytes NAME      the bytes of the cases of that name, a field a line, or of a worked file
-    tests/cases.py --lay FOLDER [WORD]    lays there, for `rt try --cases`, the worked files and the examples with what is
-                                     wanted of them, and the cases of one piece whose name has the WORD
 
 Before, the worked files are compared with the bytes in tests/worked and with those that stand in crates of tests, and
 each form of a printed line (forms.txt) has to be wanted by a case.
@@ -443,44 +441,10 @@ def print_bytes(name, files):
             offset += len(data)
 
 
-def asked_of_files():
-    """What is asked of the worked files and the examples: a name, the bytes, the words and the answer of each."""
-    for path in sorted([*WORKED.glob("*.bin"), *EXAMPLES.glob("*.mxf")]):
-        for name in ("show", "check"):
-            answer = path.with_suffix(f".{name}.txt")
-            if answer.exists():
-                yield f"{path.stem}-{name}", path.read_bytes(), [name, "at:0:/dev/stdin"], answer.read_text()
-
-
-def asked_of_one_piece(files, word):
-    """The same of the cases of one piece whose name has the word, if the whole answer is wanted."""
-    for number, case in enumerate(all_cases(files)):
-        if word not in case.name or len(case.pieces) != 1 or case.pieces[0][2] != "at" or case.at_hand:
-            continue
-        offset, laid, _ = case.pieces[0]
-        for place, command in enumerate(commands_of(case)):
-            if command.name != "join" and not command.chosen and not any(".." in line for line in command.lines):
-                words = [command.name, *command.form, *command.arguments, f"at:{offset}:/dev/stdin"]
-                answer = "".join(f"{line}\n" for line in command.lines)
-                name = re.sub("[^0-9A-Za-z]+", "-", case.name)[:100]
-                yield f"{name}-{number}-{place}-{command.name}", bytes_of(laid), words, answer
-
-
-def lay_all(folder, words, files):
-    """Lays what is asked for `rt try --cases`: of the files, and of the cases whose name has one of the words."""
-    for name, data, words, answer in itertools.chain(asked_of_files(), *(asked_of_one_piece(files, word) for word in words)):
-        path = pathlib.Path(folder, name)
-        path.write_bytes(data)
-        pathlib.Path(f"{path}.args").write_text("\n".join(words))
-        pathlib.Path(f"{path}.stdout").write_text(answer)
-
-
 def main():
     files = all_files()
     if len(sys.argv) == 3 and sys.argv[1] == "--bytes":
         print_bytes(sys.argv[2], files)
-    elif len(sys.argv) in (3, 4) and sys.argv[1] == "--lay":
-        lay_all(sys.argv[2], sys.argv[3:], files)
     elif len(sys.argv) in (2, 3):
         sys.exit(0 if run_all(sys.argv[1], (sys.argv + [""])[2], files) else 1)
     else:

@@ -190,8 +190,8 @@ class Tool:
         self.first.begin()
         crates = os.path.join(os.path.dirname(os.path.realpath(self.program)), "crates")
         if os.path.isdir(crates):
-            self.version()
-            built = os.path.join(crates, "mxf_tool", "out", "mxf_tool")
+            is_checked = self.version().endswith(" checked")
+            built = os.path.join(crates, "mxf_tool", "out", *["checked"] * is_checked, "mxf_tool")
             self.program = built if os.path.isfile(built) else self.program
 
     def version(self) -> str:

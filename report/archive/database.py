@@ -53,19 +53,33 @@ def faults_of(path: str, status: int) -> Iterator[None]:
         raise OwnFault(status, f"{words}: {path}: {fault}") from fault
 
 
+@contextlib.contextmanager
+def one_state(connection: Connection) -> Iterator[None]:
+    """All answers are of one state of the database, also outside a transaction."""
+    if connection.in_transaction:
+        yield
+        return
+    connection.execute("BEGIN")
+    try:
+        yield
+    finally:
+        connection.execute("ROLLBACK")
+
+
 def version_of(connection: Connection, path: str) -> int:
     """The version of the schema; 0 of a file that has nothing. Any other is none of this program's."""
-    application = connection.execute("PRAGMA application_id").fetchone()[0]
-    version = connection.execute("PRAGMA user_version").fetchone()[0]
-    if application == schema.APPLICATION and version > schema.VERSION:
+    # Another program may be making the tables.
+    with one_state(connection):
+        application = connection.execute("PRAGMA application_id").fetchone()[0]
+        version = connection.execute("PRAGMA user_version").fetchone()[0]
+        is_ours = application == schema.APPLICATION and version > 0
+        is_empty = not (is_ours or application or version or connection.execute("SELECT count(*) FROM sqlite_master").fetchone()[0])
+    if is_ours and version > schema.VERSION:
         said = f"it is of version {version}, and this program knows version {schema.VERSION}"
         raise OwnFault(DATA, f"bad database: {path}: {said}")
-    if application == schema.APPLICATION and version > 0:
-        return version
-    tables = connection.execute("SELECT count(*) FROM sqlite_master").fetchone()[0]
-    if application or version or tables:
+    if not is_ours and not is_empty:
         raise OwnFault(DATA, f"bad database: {path}: it isn't one of mxf_archive")
-    return 0
+    return version if is_ours else 0
 
 
 @contextlib.contextmanager
