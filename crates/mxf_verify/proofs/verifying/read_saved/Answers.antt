@@ -9,4 +9,4 @@ returns-in-Ok-clause-run g c t =
     c.in_ok-push.ensures.items ∙ ap (λ l. l ++ Saved c.args.from ∷ []) c.new-parts.ensures.items in
     let run = c.in-Ok.ensures.run (subst (AllTell g.R.Read.remaining) (sym one) (t, tt)) in
     subst (λ l. IsTheRun (HandedBy g.R.Read.remaining l) c.into_catalogue.result) one
-    (subst (IsTheRun (HandedBy g.R.Read.remaining c.push.new.self.items)) (sym (c.into_catalogue.ensures.catalogue ∙ c.into_parts.ensures.views)) run)
+    (subst (IsTheRun (HandedBy g.R.Read.remaining c.push.new.self.items)) (sym (c.into_catalogue.ensures.catalogue ∙ c.into_parts-views.ensures.views)) run)
