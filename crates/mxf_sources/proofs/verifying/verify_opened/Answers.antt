@@ -9,4 +9,5 @@ pub returns-in-Ok : goal.returns-in-Ok
 returns-in-Ok g c =
     let left = g.F.Read.remaining in
     subst (λ l. AllTell left l → (sources : List Source) × AreSourcesOf left l sources
-    × IsVerification c.args.reference.now sources c.in-Ok.verification) c.into_parts-sources.ensures.parts c.in-Ok.ensures.verified
+    × IsVerification c.args.reference.now sources c.in-Ok.verification) c.into_parts-parts.ensures.parts
+    c.in-Ok.ensures.verified
