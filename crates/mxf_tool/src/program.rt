@@ -67,13 +67,18 @@ pub fn run(rt: &HostRuntime, screen: Screen) -> Exit {
         Ok(arguments) => arguments,
         Err(_) => return tell(rt, telling, &RunFault::OutOfMemory),
     };
-    let telling = Telling::of(screen, Hints::among(arguments.as_slice()));
+    run_on(rt, screen, arguments.as_slice())
+}
+
+/// Runs the program on these arguments.
+fn run_on(rt: &HostRuntime, screen: Screen, arguments: &[String]) -> Exit {
+    let telling = Telling::of(screen, Hints::among(arguments));
     let Ok(command) = command(rt.alloc()) else {
         return tell(rt, telling, &RunFault::OutOfMemory);
     };
-    match command.try_get_matches_from(arguments.as_slice()) {
+    match command.try_get_matches_from(arguments) {
         Ok(matches) => matched(rt, screen, &matches),
-        Err(refusal) => refused(rt, telling, arguments.as_slice(), &refusal),
+        Err(refusal) => refused(rt, telling, arguments, &refusal),
     }
 }
 
@@ -152,11 +157,20 @@ fn refused_with(rt: &HostRuntime, telling: Telling, arguments: &[String]) -> Exi
 
 /// Does what is asked for, and reports a fault.
 fn perform(rt: &HostRuntime, telling: Telling, request: &Request<'_, '_>) -> Exit {
-    let lists = match read_lists(rt, request.named.list, request.beside.list) {
-        Ok(lists) => lists,
-        Err(fault) => return tell(rt, telling, &fault),
-    };
-    match perform_named(rt, telling, request, &lists) {
+    match read_lists(rt, request.named.list, request.beside.list) {
+        Ok(lists) => perform_with(rt, telling, request, &lists),
+        Err(fault) => tell(rt, telling, &fault),
+    }
+}
+
+/// Does what is asked for if the lists have these bytes, and reports a fault.
+fn perform_with(
+    rt: &HostRuntime,
+    telling: Telling,
+    request: &Request<'_, '_>,
+    lists: &Lists,
+) -> Exit {
+    match perform_named(rt, telling, request, lists) {
         Ok(exit) => exit,
         Err(fault) => tell(rt, telling, &fault),
     }
@@ -178,7 +192,16 @@ fn perform_named<'a, 'b: 'a>(
         beside: &beside,
         sources: &sources,
     };
-    match request.task {
+    perform_on(rt, inputs, request.task)
+}
+
+/// Does what is asked for.
+fn perform_on<'a>(
+    rt: &HostRuntime,
+    inputs: Inputs<'_, 'a>,
+    task: Task<'a>,
+) -> Result<Exit, RunFault<'a>> {
+    match task {
         Task::Tell(told) => print_told(rt, inputs, told),
         Task::Sources => print_beside(rt, inputs),
         Task::Find => print_found_in(rt, inputs),

@@ -4,7 +4,7 @@ ghost use Rattle.mxf_tool.specs.Verifying.{AreToldOf, open_of};
 
 use super::edit_units::{UnitsInRange, units_in_range};
 use super::{Inputs, Printed, print_answer, told};
-use mxf_asked::Verifying;
+use mxf_asked::{IndexedUnits, Verifying};
 use mxf_hints::{Exit, RunFault, tell_foreign, tell_offsets, tell_on_screen};
 use mxf_klv::OutOfMemory;
 use mxf_lines::{Verified, timecodes_shown};
@@ -12,12 +12,14 @@ use mxf_places::AtHand;
 use mxf_read::Gathered;
 use mxf_saving::LastFault;
 use mxf_skim::Scan;
-use mxf_sources::{hold_opened, open_sources, verify_opened};
+use mxf_sources::{Opened, hold_opened, open_sources, verify_opened};
 use mxf_timed::ShownTimecodes;
 use mxf_units::{UnitRange, Units};
 use mxf_verify::{Verification, VerifiedUnits};
+use mxf_views::Views;
 use std::alloc::{AllocError, Global};
 use std::fmt;
+use std::io::Read;
 
 /// Prints how the sources stand to what those of the reference hold together. All are opened before the first is read,
 /// those of the reference first, and are read in that order.
@@ -31,21 +33,55 @@ pub fn print_verified<'a>(
     let opened = open_sources(rt, inputs.telling.screen, Scan::Full, inputs.sources, &last)?;
     let held = hold_opened(rt, Scan::Full, reference, &last)?;
     let (gathered, _, _) = held.into_parts();
+    verify_by(rt, inputs, asked, &gathered, opened, &last)
+}
+
+/// Prints how the sources stand that were opened to what was gathered of the reference. The edit units that are asked for
+/// are known before the first source is read.
+fn verify_by<'a, F: Read + Drop>(
+    rt: &HostRuntime,
+    inputs: Inputs<'_, 'a>,
+    asked: Verifying<'a>,
+    gathered: &Gathered,
+    opened: Opened<'_, 'a, F>,
+    last: &LastFault,
+) -> Result<Exit, RunFault<'a>> {
     let at_hand = AtHand::nothing(rt.alloc());
-    // The edit units that are asked for are known before the first source is read.
-    let wanted = match asked.units {
-        Some(units) => Some(units_in_range(rt, &gathered.views, &at_hand, units)?),
-        None => None,
-    };
-    let verification = verify_opened(rt.alloc(), gathered.views.catalogue(), opened, &last)?;
-    let told = match &wanted {
-        Some(wanted) => told_units(rt.alloc(), &verification, wanted)?,
+    let wanted = wanted_units(rt, &gathered.views, &at_hand, asked.units)?;
+    let verification = verify_opened(rt.alloc(), gathered.views.catalogue(), opened, last)?;
+    print_with_units(rt, inputs, asked.is_whole, gathered, &verification, &wanted)
+}
+
+/// The edit units of the reference that are asked for, if some are.
+fn wanted_units<'n, 'a>(
+    rt: &HostRuntime,
+    views: &'n Views,
+    at_hand: &'n AtHand,
+    asked: Option<IndexedUnits<'a>>,
+) -> Result<Option<UnitsInRange<'n>>, RunFault<'a>> {
+    match asked {
+        Some(asked) => Ok(Some(units_in_range(rt, views, at_hand, asked)?)),
+        None => Ok(None),
+    }
+}
+
+/// Prints what was verified of the reference, and how the edit units stand that are asked for.
+fn print_with_units<'a>(
+    rt: &HostRuntime,
+    inputs: Inputs<'_, 'a>,
+    is_whole: bool,
+    gathered: &Gathered,
+    verification: &Verification<'_>,
+    wanted: &Option<UnitsInRange<'_>>,
+) -> Result<Exit, RunFault<'a>> {
+    let told = match wanted {
+        Some(wanted) => told_units(rt.alloc(), verification, wanted)?,
         None => ToldUnits {
             units: None,
             shown: None,
         },
     };
-    print_by(rt, inputs, asked.is_whole, &gathered, &verification, &told)
+    print_by(rt, inputs, is_whole, gathered, verification, &told)
 }
 
 /// What is told of edit units of the reference, if some are asked for: how they stand, and which timecodes they show.
