@@ -15,8 +15,6 @@ import base64
 import collections
 import hashlib
 import html.parser
-import importlib.machinery
-import importlib.util
 import itertools
 import json
 import math
@@ -28,6 +26,12 @@ import sys
 import clocks
 
 TOP = pathlib.Path(__file__).resolve().parent.parent
+sys.dont_write_bytecode = True
+sys.path.append(str(TOP / "report"))
+
+from mxf import bounds, drawings, verdicts  # noqa: E402 (sys.path is set above)
+from mxf import guide as words_of_pages  # noqa: E402
+
 EMPTY = {"meta", "br", "hr", "img", "input", "link", "base", "source", "track", "wbr", "area", "col", "embed"}
 LOADING = {
     "script", "iframe", "object", "embed", "link", "img", "base", "form", "audio", "video", "image", "use", "foreignobject",
@@ -142,15 +146,6 @@ def page_of(path):
     return Page(pathlib.Path(path).read_bytes().decode("utf-8"))
 
 
-def report():
-    """The report program, as a module."""
-    loader = importlib.machinery.SourceFileLoader("mxf_report", str(TOP / "report" / "mxf_report"))
-    module = importlib.util.module_from_spec(importlib.util.spec_from_loader("mxf_report", loader))
-    sys.dont_write_bytecode = True
-    loader.exec_module(module)
-    return module
-
-
 class Told:
     """What the program prints of the sources."""
 
@@ -185,10 +180,9 @@ def differences_of_rows(page, caption, want, section=None):
 
 def differences_of_bar(page, told):
     """How the bar differs from the map: its runs, one after another, have its characters."""
-    module = report()
     head, *rows = told.lines("map", "--columns", "1000", "--rows", "1")
     marks = "".join(row["cells"] for row in rows)
-    words = {said: mark for mark, (_, said) in module.MARKS.items()}
+    words = {said: mark for mark, (_, said) in words_of_pages.MARKS.items()}
     bar, place = "", 0
     for title in page.titles["recording"]:
         begin, last, said = re.fullmatch(r"Bytes (\d+) to (\d+): ([^(]*?)(?: \(.*\))?", title).groups()
@@ -235,7 +229,7 @@ def differences_of_recording(page, told):
     entries = [cells(line, "offset", "body-sid", "standing") for line in told.lines("show", name="rip-entry")]
     yield from differences_of_rows(page, "What the random index pack lists", entries, "partitions")
     drawn = [title for title in page.titles["partitions"] if re.match(r"[HBF] at ", title)]
-    if len(drawn) != min(len(partitions), report().NODES):
+    if len(drawn) != min(len(partitions), bounds.NODES):
         yield f"{len(drawn)} partitions are drawn, of {len(partitions)}"
 
 
@@ -554,18 +548,19 @@ def first_words(heading, text):
 
 def differences_of_words():
     """How the words of the report differ from those of the documents."""
-    module = report()
+    pages = words_of_pages
+    fills = {fill for fill, *_ in (*pages.MARKS.values(), *pages.STANDINGS.values())}
     text = (TOP / "docs" / "FORMATS.md").read_text(encoding="utf-8")
     stops = [stop.split(" ")[0] for stop in first_words("STOP", text)]
     standings = {*first_words("STANDING, the first that fits", text), *first_words("WORD, the first that fits", text)}
     pairs = (
-        ("findings", module.FINDINGS, guide()),
-        ("words of a verdict", list(module.FRAMES), guide_verdicts()),
-        ("characters of a map", set(module.MARKS), set(first_words("Character", text))),
-        ("reasons", set(module.REASONS), set(first_words("REASON", text))),
-        ("stops", set(module.STOPS), set(stops)),
-        ("standings", set(module.STANDINGS), standings),
-        ("kinds of fill", {fill for fill, *_ in (*module.MARKS.values(), *module.STANDINGS.values())} - set(module.FILLS), set()),
+        ("findings", pages.FINDINGS, guide()),
+        ("words of a verdict", [verdict.words for verdict in verdicts.OF_RECORDING], guide_verdicts()),
+        ("characters of a map", set(pages.MARKS), set(first_words("Character", text))),
+        ("reasons", set(pages.REASONS), set(first_words("REASON", text))),
+        ("stops", set(pages.STOPS), set(stops)),
+        ("standings", set(pages.STANDINGS), standings),
+        ("kinds of fill", fills - set(drawings.FILLS), set()),
     )
     for name, have, want in pairs:
         if have != want:

@@ -1,0 +1,1 @@
+"""The parts of mxf_report, which writes pages of recordings."""
