@@ -1,8 +1,11 @@
-"""The commands that ask mxf_tool of a recording. What they need beside it is loaded while it works."""
+"""The commands that ask mxf_tool of a recording."""
+from __future__ import annotations
+
 import os
 
-from archive import asking, gathering
+from archive import asking, database, gathering, printing, storing
 from archive.faults import NO_PROGRAM, USAGE, OwnFault
+from archive.rows import recordings_of
 from archive.words import Words
 
 
@@ -19,13 +22,8 @@ def gathering_of(words: Words) -> gathering.Gathering:
 def add(words: Words) -> int:
     """Puts a recording into the database. All is asked before that is written to."""
     with gathering_of(words) as asked:
-        from archive import database, printing
-
         database.check_place(words.database, is_soon=bool(asked.calls))
         asked.read()
-        from archive import storing
-        from archive.rows import recordings_of
-
         lines = asked.gather()
     try:
         (recording,) = recordings_of(lines, asked.tool.program)
@@ -40,7 +38,5 @@ def add(words: Words) -> int:
 def lines(words: Words) -> int:
     """Prints the lines of a recording, which load takes."""
     with gathering_of(words) as asked:
-        from archive import printing
-
         printing.print_objects(asked.gather())
     return 0

@@ -3,9 +3,10 @@ from __future__ import annotations
 
 from collections.abc import Sequence
 from itertools import chain
+from sqlite3 import Connection, Row
+from typing import Any
 
 from archive import moments, schema
-from archive.database import Connection, Row
 from archive.faults import USAGE, OwnFault
 from archive.printing import number_or_none
 
@@ -74,7 +75,7 @@ SELECT r.name AS recording, o.start, o."end", o.reason, o.is_inside
 FROM recordings r JOIN orders o ON o.recording = r.id WHERE r.is_missing = 1 ORDER BY r.name
 """
 
-Answer = tuple[list[str], list[tuple]]
+Answer = tuple[list[str], list[tuple[Any, ...]]]
 
 
 def answer_of(connection: Connection, question: str, values: Sequence[object] | dict[str, str] = ()) -> Answer:
@@ -111,7 +112,7 @@ def before(days: int) -> str:
     return moments.text_of(moments.now() - days * moments.DAY) or "0"
 
 
-def shown(connection: Connection, identity: int) -> list[tuple[str, list[str], list[tuple]]]:
+def shown(connection: Connection, identity: int) -> list[tuple[str, list[str], list[tuple[Any, ...]]]]:
     """All of a recording: each table that has something of it."""
     parts = [(table, *answer_of(connection, question, (identity,))) for table, question in SHOWN.items()]
     return [part for part in parts if part[2]]
@@ -122,7 +123,8 @@ def identity_of(connection: Connection, name: str) -> int:
     row = connection.execute("SELECT id FROM recordings WHERE name = ?", (name,)).fetchone()
     if row is None:
         raise OwnFault(USAGE, f"no recording: {name}")
-    return row["id"]
+    identity: int = row["id"]
+    return identity
 
 
 class Stretch:
@@ -140,10 +142,10 @@ class Stretch:
 
     def add(self, order: Stretch) -> None:
         """Restores an order with it."""
-        self.end = None if None in (self.end, order.end) else max(self.end, order.end)
+        self.end = None if self.end is None or order.end is None else max(self.end, order.end)
         self.reasons.update(order.reasons)
 
-    def row(self) -> tuple:
+    def row(self) -> tuple[Any, ...]:
         """The row that is printed."""
         length = None if self.end is None else self.end - self.start
         return self.recording, self.start, self.end, length, ",".join(self.reasons), self.form

@@ -2,6 +2,7 @@
 from __future__ import annotations
 
 import contextlib
+import hashlib
 import io
 import os
 import stat
@@ -129,27 +130,14 @@ def open_file(path: str) -> io.BufferedReader:
 
 def sha256_of(path: str) -> str:
     """The SHA-256 of a file."""
+    digest = hashlib.sha256()
     try:
         with open_file(path) as file:
-            digest = new_digest(os.fstat(file.fileno()).st_size)
             for block in iter(lambda: file.read(BLOCK), b""):
                 digest.update(block)
     except OSError as fault:
         raise OwnFault(READ, f"read fault: {path}") from fault
     return digest.hexdigest()
-
-
-def new_digest(size: int) -> object:
-    """A SHA-256 for so many bytes. To load hashlib takes as long as several calls of mxf_tool, so for few bytes the part of
-    Python is taken that it falls back on, as its own module random does; some versions have it by another name."""
-    if size <= BLOCK:
-        with contextlib.suppress(ImportError):
-            from _sha256 import sha256
-
-            return sha256()
-    import hashlib
-
-    return hashlib.sha256()
 
 
 def is_identifier(text: bytes) -> bool:

@@ -1,28 +1,23 @@
 """Calls of a program, of which several may go on side by side."""
 from __future__ import annotations
 
-import contextlib
 import os
-import select
+import signal
+import subprocess
 import sys
+import tempfile
 from collections.abc import Iterator
+from types import TracebackType
+from typing import IO
 
 from archive.faults import NO_PROGRAM, OwnFault
-
-try:
-    # Of this Python's module signal is made, which takes as long to load as a call of mxf_tool.
-    from _signal import SIG_DFL, SIGHUP, SIGPIPE, SIGTERM, SIGXFSZ, getsignal, signal
-except ImportError:
-    from signal import SIG_DFL, SIGHUP, SIGPIPE, SIGTERM, SIGXFSZ, getsignal, signal
-
-BLOCK = 1 << 16  # bytes that are read at once, as many as a pipe has
 
 
 def end_by_signals() -> None:
     """Lets a signal that ends this program end its calls too, and remove what they wrote, as an interrupt does."""
-    for number in (SIGHUP, SIGTERM):
-        if getsignal(number) == SIG_DFL:
-            signal(number, lambda number, _: sys.exit(128 + number))
+    for number in (signal.SIGHUP, signal.SIGTERM):
+        if signal.getsignal(number) == signal.SIG_DFL:
+            signal.signal(number, lambda number, _: sys.exit(128 + number))
 
 
 class Call:
@@ -34,82 +29,55 @@ class Call:
         self.words = words
         self.given = given
         self.is_kept = is_kept
-        self.process: int | None = None
-        self.streams: list[int] = []  # standard output, and what is said of faults if that is kept
+        self.process: subprocess.Popen[bytes] | None = None
+        self.faults: IO[bytes] | None = None  # what the program says of them, if that is kept
         self.said = b""
         self.status = 0
 
-    def begin(self) -> None:
-        """Starts the program, if that wasn't done."""
-        if self.process is not None:
-            return
-        with contextlib.ExitStack() as opened:
-            actions = [self.input_of(opened)]
-            for place in (1, 2) if self.is_kept else (1,):
-                stream, end = os.pipe()
-                self.streams.append(stream)
-                opened.callback(os.close, end)
-                actions.append((os.POSIX_SPAWN_DUP2, end, place))
-            try:
-                # The module subprocess, with the modules that it loads, takes as long as several calls of mxf_tool.
-                # Python passes over these two signals, and what it calls doesn't.
-                named = {"file_actions": actions, "setsigdef": (SIGPIPE, SIGXFSZ)}
-                self.process = os.posix_spawnp(self.words[0], self.words, os.environ, **named)
-            except OSError as fault:
-                raise OwnFault(NO_PROGRAM, f"{self.words[0]} can't be run: {fault.strerror}") from fault
+    def begin(self) -> subprocess.Popen[bytes]:
+        """Starts the program, if that wasn't done. What it is given and what it says of faults are files without a name, so
+        neither program waits for the other."""
+        if self.process is None:
+            self.faults = tempfile.TemporaryFile() if self.is_kept else None
+            with tempfile.TemporaryFile() if self.given else open(os.devnull, "rb") as given:
+                if self.given:
+                    given.write(self.given)
+                    given.seek(0)
+                self.process = self.started(given)
+        return self.process
 
-    def input_of(self, opened: contextlib.ExitStack) -> tuple:
-        """What gives the program its standard input: the list that it is handed, or nothing."""
-        if not self.given:
-            return os.POSIX_SPAWN_OPEN, 0, os.devnull, os.O_RDONLY, 0
-        import tempfile
-
-        file = opened.enter_context(tempfile.TemporaryFile())
-        file.write(self.given)
-        file.seek(0)
-        return os.POSIX_SPAWN_DUP2, file.fileno(), 0
+    def started(self, given: IO[bytes]) -> subprocess.Popen[bytes]:
+        """The program, which reads this file."""
+        try:
+            return subprocess.Popen(self.words, stdin=given, stdout=subprocess.PIPE, stderr=self.faults)
+        except OSError as fault:
+            raise OwnFault(NO_PROGRAM, f"{self.words[0]} can't be run: {fault.strerror}") from fault
 
     def texts(self) -> Iterator[bytes]:
         """The lines that it prints, without their ends. After the last one its status is known, and what it said."""
-        self.begin()
-        rest = b""
-        for block in self.blocks():
-            *texts, rest = (rest + block).split(b"\n")
-            yield from texts
-        if rest:
-            yield rest
+        printed = self.begin().stdout
+        assert printed is not None  # it is a pipe
+        for line in printed:
+            yield line[:-1] if line.endswith(b"\n") else line
         self.end()
-
-    def blocks(self) -> Iterator[bytes]:
-        """What it prints, as it comes. What it says of faults is taken beside that, so it waits for nobody."""
-        reading = set(self.streams)
-        waiting = select.poll()
-        for stream in reading:
-            waiting.register(stream, select.POLLIN)
-        while reading:
-            for stream, _ in waiting.poll():
-                block = os.read(stream, BLOCK)
-                if not block:
-                    waiting.unregister(stream)
-                    reading.remove(stream)
-                elif stream == self.streams[0]:
-                    yield block
-                else:
-                    self.said += block
 
     def end(self) -> None:
         """Waits until the program has ended. What it prints from now on nobody reads, as it is told."""
-        for stream in self.streams:
-            os.close(stream)
-        self.streams = []
         if self.process is not None:
-            self.status = os.waitstatus_to_exitcode(os.waitpid(self.process, 0)[1])
+            with self.process:
+                pass  # its end closes standard output and waits
+            self.status = self.process.returncode
             self.process = None
+        if self.faults is not None:
+            self.faults.seek(0)
+            self.said = self.faults.read()
+            self.faults.close()
+            self.faults = None
 
-    def __enter__(self) -> "Call":
+    def __enter__(self) -> Call:
         return self
 
-    def __exit__(self, fault: type | None, *_: object) -> None:
-        if fault is not None and self.process is not None:
-            os.kill(self.process, SIGTERM)
+    def __exit__(self, kind: type[BaseException] | None, fault: BaseException | None, trace: TracebackType | None) -> None:
+        if kind is not None and self.process is not None:
+            self.process.terminate()
         self.end()

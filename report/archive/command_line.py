@@ -1,10 +1,20 @@
 """How mxf_archive is run by its words."""
+from __future__ import annotations
+
 import errno
+import io
 import os
 import sys
+from collections.abc import Callable, Sequence
 
+from archive import adding, finding, listing, loading, matching, verifying
 from archive.faults import OUTPUT, USAGE, OwnFault, ToolFault, tell, tell_own
-from archive.words import WordFault, Words, read_words, usage_of
+from archive.words import WordFault, Words, read_words
+
+RUN: dict[str, Callable[[Words], int]] = {
+    "add": adding.add, "list": listing.list, "find": finding.find, "show": listing.show, "orders": listing.orders,
+    "verify": verifying.verify, "match": matching.match, "lines": adding.lines, "load": loading.load,
+}  # fmt: skip
 
 
 def told(fault: OwnFault) -> int:
@@ -13,20 +23,17 @@ def told(fault: OwnFault) -> int:
     return fault.status
 
 
-def misunderstood(fault: WordFault) -> int:
-    """Says which words aren't understood, and answers the status of that."""
-    program = f"mxf_archive {fault.command}" if fault.command else "mxf_archive"
-    tell(f"{usage_of(fault.command)}{program}: error: {fault}\n".encode("utf-8", "replace"))
-    return USAGE
-
-
-def run(words: Words) -> int:
-    """Runs a command, and answers its status. Only the parts that it needs are loaded."""
+def run(given: Sequence[str]) -> int:
+    """Runs the command that the words name, and answers its status."""
     try:
-        module, function = words.run
-        # The module importlib does the same, and takes longer to load than such a part.
-        part = getattr(__import__(f"archive.{module}"), module)
-        return getattr(part, function)(words)
+        words = read_words(given)
+    except SystemExit:
+        return 0  # help was asked for, and is printed
+    except WordFault as fault:
+        tell(str(fault).encode("utf-8", "replace"))
+        return USAGE
+    try:
+        return RUN[words.command](words)
     except ToolFault as fault:
         tell(fault.message)
         return fault.status
@@ -46,21 +53,17 @@ def open_streams() -> None:
     sys.stderr = sys.stderr or open(2, "w", encoding="utf-8", closefd=False)
     if is_closed:
         raise OSError(errno.EBADF, os.strerror(errno.EBADF))
-    sys.stdout.reconfigure(encoding="utf-8", newline="", write_through=False)
+    if isinstance(sys.stdout, io.TextIOWrapper):
+        sys.stdout.reconfigure(encoding="utf-8", newline="", write_through=False)
 
 
 def main() -> int:
     """Runs the program, and answers its status. All that it prints is written then."""
     try:
         open_streams()
-        words = read_words(sys.argv[1:])
-        if isinstance(words, str):
-            sys.stdout.write(words)
-        status = 0 if isinstance(words, str) else run(words)
+        status = run(sys.argv[1:])
         sys.stdout.flush()
         return status
-    except WordFault as fault:
-        return misunderstood(fault)
     except OSError as fault:
         # Nothing that is left for a closed standard output may be written at the end.
         os.dup2(os.open(os.devnull, os.O_WRONLY), 1)

@@ -1,19 +1,16 @@
 """The database file: opening it, its version, waiting for other writers, and transactions."""
+from __future__ import annotations
+
 import contextlib
 import os
+import pathlib
+import sqlite3
 import time
 from collections.abc import Iterator
+from sqlite3 import Connection, Row
 
 from archive import schema
 from archive.faults import DATA, NO_PROGRAM, READ, UNWRITTEN, OwnFault, tell_own
-
-try:
-    # Of this Python's module sqlite3 is made, which loads datetime too.
-    import _sqlite3 as sqlite3
-except ImportError:
-    import sqlite3
-
-Connection, Row = sqlite3.Connection, sqlite3.Row
 
 PATIENCE = 1  # seconds after which it is said that another writer is waited for
 LONGEST = 600  # seconds that are waited at most
@@ -21,19 +18,14 @@ LONGEST = 600  # seconds that are waited at most
 
 def check_library() -> None:
     """Sees that the library of SQLite knows what the schema needs."""
-    if tuple(map(int, sqlite3.sqlite_version.split("."))) < schema.SQLITE:
+    if sqlite3.sqlite_version_info < schema.SQLITE:
         least = ".".join(str(part) for part in schema.SQLITE[:2])
         raise OwnFault(NO_PROGRAM, f"SQLite {least} is needed, and this Python has {sqlite3.sqlite_version}")
 
 
-# Bytes of a path that stand for themselves in an address.
-PLAIN = frozenset(b"abcdefghijklmnopqrstuvwxyzABCDEFGHIJKLMNOPQRSTUVWXYZ0123456789/._-")
-
-
 def address_of(path: str, mode: str) -> str:
     """The address of a database file, opened in this mode."""
-    path_bytes = os.fsencode(os.path.abspath(path))
-    return "file://" + "".join(chr(byte) if byte in PLAIN else f"%{byte:02X}" for byte in path_bytes) + f"?mode={mode}"
+    return f"{pathlib.PurePath(os.path.abspath(path)).as_uri()}?mode={mode}"
 
 
 def is_locked(fault: sqlite3.Error) -> bool:
@@ -71,7 +63,7 @@ def version_of(connection: Connection, path: str) -> int:
     # Another program may be making the tables.
     with one_state(connection):
         application = connection.execute("PRAGMA application_id").fetchone()[0]
-        version = connection.execute("PRAGMA user_version").fetchone()[0]
+        version: int = connection.execute("PRAGMA user_version").fetchone()[0]
         is_ours = application == schema.APPLICATION and version > 0
         is_empty = not (is_ours or application or version or connection.execute("SELECT count(*) FROM sqlite_master").fetchone()[0])
     if is_ours and version > schema.VERSION:

@@ -4,10 +4,10 @@ from __future__ import annotations
 import functools
 from collections.abc import Collection, Sequence
 from itertools import chain, groupby
+from sqlite3 import Connection, Row
 
 from archive import database, printing, timecodes
 from archive.answering import answer_of
-from archive.database import Connection, Row
 from archive.schema import FOUND, FOUND_AS
 from archive.texts import words_of
 from archive.words import Words
@@ -105,7 +105,7 @@ def found_by_words(connection: Connection, words: Sequence[str]) -> list[tuple[s
     asked, rest = words[: OTHERS + 1], words[OTHERS + 1 :]
     values = [value for word in asked for value in (word, word + AFTER_ALL)]
     rows = answer_of(connection, BY_WORD + AND_BY_WORD * (len(asked) - 1), values)[1]
-    return [row for row in rows if has_all(text_of(row[1]), rest)] if rest else rows
+    return [(recording, line) for recording, line in rows if not rest or has_all(text_of(line), rest)]
 
 
 def has_all(text: str, beginnings: Sequence[str]) -> bool:

@@ -7,6 +7,8 @@ from __future__ import annotations
 
 import contextlib
 import os
+import tempfile
+from types import TracebackType
 
 from archive import moments
 from archive.asking import Source, Sources, Tool, is_identifier, origin_of, sha256_of, source_of
@@ -28,8 +30,8 @@ TOO_MANY, NO_LAST = "too many units", "no last unit"
 
 class Gathering:
     """The lines of a recording, as they come: by its sources, or by a catalogue in their place, and whether essence is passed
-    over. A small catalogue is asked by five calls at once, which begin with the block; what this program needs beside them
-    is loaded meanwhile. Files are looked at before they are read."""
+    over. A small catalogue is asked by five calls at once, which begin with the block. Files are looked at before they are
+    read."""
 
     def __init__(self, name: str, sources: Sources, catalogue: str | None, is_skim: bool) -> None:
         self.name, self.sources, self.catalogue, self.is_skim = name, sources, catalogue, is_skim
@@ -50,13 +52,14 @@ class Gathering:
             self.begin(sources)
         return self
 
-    def __exit__(self, *fault: object) -> None:
+    def __exit__(self, kind: type[BaseException] | None, fault: BaseException | None, trace: TracebackType | None) -> None:
         self.tool.close()
-        self.opened.__exit__(*fault)
+        self.opened.__exit__(kind, fault, trace)
 
-    def read(self) -> None:
-        """Asks for all but edit units, in the order in which a reader of the lines needs it. Meanwhile the catalogues are
-        digested, and edit units are counted from when it is known of which indexes."""
+    def read(self) -> Sources:
+        """Asks for all but edit units, in the order in which a reader of the lines needs it, and answers the sources that
+        were asked. Meanwhile the catalogues are digested, and edit units are counted from when it is known of which
+        indexes."""
         self.lines.append({
             "line": "recording", "format": FORMAT, "name": self.name, "gathered": self.gathered,
             "program": self.tool.version(), "skim": self.is_skim,
@@ -77,14 +80,14 @@ class Gathering:
             self.lines.append({"line": "asked", "command": command})
             self.lines += said
         self.asked = sources
+        return sources
 
     def gather(self) -> list[Line]:
         """All lines of the recording, as soon as edit units are counted."""
-        if self.asked is None:
-            self.read()
+        sources = self.read() if self.asked is None else self.asked
         for index_sid, call in self.units.items():
             self.lines.append({"line": "asked", "command": "units", "index-sid": index_sid})
-            self.lines.append(self.units_of(index_sid, call))
+            self.lines.append(self.units_of(index_sid, call, sources))
         self.lines.append({"line": "recorded", "name": self.name, "lines": len(self.lines) + 1})
         return self.lines
 
@@ -101,8 +104,6 @@ class Gathering:
     def joined(self) -> Sources:
         """The catalogue that the sources are joined to, so that they are read once. Which of them is damaged it doesn't
         tell, so that is asked for if the join says that there may be one."""
-        import tempfile
-
         folder = self.opened.enter_context(tempfile.TemporaryDirectory(prefix="mxf_archive."))
         joined = os.path.join(folder, "joined")
         self.tool.ask(["join", "--strict", "--out", joined], self.sources)
@@ -146,7 +147,7 @@ class Gathering:
         """The words that ask how many edit units of an index are held."""
         return ["units", "--index", str(index_sid), *span, *self.skimming()]
 
-    def units_of(self, index_sid: int, call: Call) -> Line:
+    def units_of(self, index_sid: int, call: Call, sources: Sources) -> Line:
         """The last line of units, or why there is none. If the index doesn't say its last unit, the header metadata
         may."""
         said = self.counted(call)
@@ -157,7 +158,7 @@ class Gathering:
             return said
         if last >= UNITS:
             return uncounted(TOO_MANY)
-        return self.counted(self.tool.call(self.units_words(index_sid, "--from", "0", "--to", str(last)), self.asked))
+        return self.counted(self.tool.call(self.units_words(index_sid, "--from", "0", "--to", str(last)), sources))
 
     def counted(self, call: Call) -> Line:
         """The last line of a call of units, or why there is none."""

@@ -1,6 +1,10 @@
 """The command that puts recordings into the database by lines that were printed."""
+from __future__ import annotations
+
+import sqlite3
+from sqlite3 import Connection
+
 from archive import database, storing
-from archive.database import Connection, sqlite3
 from archive.faults import DATA, READ, OwnFault, tell_own
 from archive.json_lines import Line, line_of
 from archive.rows import Recording, recordings_of

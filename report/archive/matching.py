@@ -1,11 +1,15 @@
 """The command that finds of which recording fragments are, by their identifiers and their packets."""
+from __future__ import annotations
+
 import os
-from collections import namedtuple
+import tempfile
 from collections.abc import Iterable
+from sqlite3 import Connection
+from typing import Any, NamedTuple
 
 from archive import asking, database, printing
-from archive.database import Connection
 from archive.faults import USAGE, OwnFault, tell_own
+from archive.json_lines import Line
 from archive.words import Words
 
 # By which identifiers candidates are found: those of packages and modifications, and if none has one, those of any set,
@@ -22,10 +26,11 @@ WHERE r.id = ? ORDER BY s.number
 HEADS = ("fragment", "recording", "offset", "packets", "all_packets", "heads")
 
 
-class Candidate(namedtuple("Candidate", "recording path")):
+class Candidate(NamedTuple):
     """A catalogue of a recording."""
 
-    __slots__ = ()
+    recording: str
+    path: str
 
 
 def match(words: Words) -> int:
@@ -70,11 +75,9 @@ def catalogues_of(connection: Connection, recording: int) -> list[Candidate]:
     return there
 
 
-def found_in(tool: asking.Tool, candidates: list[Candidate], sources: asking.Sources) -> list[asking.Line]:
+def found_in(tool: asking.Tool, candidates: list[Candidate], sources: asking.Sources) -> list[Line]:
     """What `find` prints of the fragments in the candidates, whose numbers are their places. A path with a newline stands
     in no list, so such candidates come first."""
-    import tempfile
-
     candidates.sort(key=lambda one: "\n" not in one.path)
     named = [part for one in candidates if "\n" in one.path for part in ("--in", f"cat:{one.path}")]
     with tempfile.NamedTemporaryFile(prefix="mxf_archive.") as file:
@@ -83,7 +86,7 @@ def found_in(tool: asking.Tool, candidates: list[Candidate], sources: asking.Sou
         return tool.ask(["find", *named, "--recordings", file.name], sources)
 
 
-def row_of(line: dict, fragments: list[str], candidates: list[Candidate]) -> tuple:
+def row_of(line: Line, fragments: list[str], candidates: list[Candidate]) -> tuple[Any, ...]:
     """The row of a fragment in a recording, or of one that is in none."""
     fragment = fragments[line["fragment"] - 1]
     if line["line"] == "unknown":

@@ -4,6 +4,8 @@ from __future__ import annotations
 import os
 import time
 
+from archive.json_lines import Line
+
 DAY = 24 * 60 * 60  # seconds
 TIMES = range(-62_135_596_800, 253_402_300_800)  # from the first second of the year 1 to the last of 9999
 
@@ -21,7 +23,7 @@ def text_of(seconds: float) -> str | None:
     return "{:04}-{:02}-{:02}T{:02}:{:02}:{:02}Z".format(*time.gmtime(int(seconds)))
 
 
-def text_of_stamp(line: dict) -> str | None:
+def text_of_stamp(line: Line) -> str | None:
     """A timestamp of header metadata, as it is stored; None of one that is all zeros, which says that none is known."""
     names = ("year", "month", "day", "hour", "minute", "second", "quarter")
     year, month, day, hour, minute, second, quarter = (line[name] for name in names)

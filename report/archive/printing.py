@@ -1,9 +1,13 @@
-"""Answers as a table for people, as CSV or as JSON. What a form alone needs is loaded for it."""
+"""Answers as a table for people, as CSV or as JSON."""
 from __future__ import annotations
 
+import csv
 import sys
 from collections.abc import Iterable, Iterator, Sequence
 from itertools import chain, islice, repeat
+from typing import Any
+
+from archive.json_lines import texts_of
 
 # Characters of control, line ends of Unicode, and marks of direction: a terminal may obey them. Each is shown as ?.
 CONTROL = dict.fromkeys((*range(0x20), *range(0x7F, 0xA0), *range(0x2028, 0x202F), *range(0x2066, 0x206A)), "?")
@@ -11,7 +15,8 @@ ASCII = bytes(ord("?") if code in CONTROL else code for code in range(256))  # e
 
 BLOCK = 500  # lines that are printed at once. Memory that is used again takes less time than new memory.
 
-Cells = Sequence  # the values of a row or a column
+Cells = Sequence[Any]  # the values of a row or a column
+Part = tuple[str, Sequence[str], Sequence[Cells]]  # a table with its name: its heads and its rows
 
 
 def cell(value: object) -> str:
@@ -74,27 +79,19 @@ def print_table(heads: Sequence[str], rows: Iterable[Cells]) -> None:
 
 def print_csv(heads: Sequence[str], rows: Iterable[Cells]) -> None:
     """Prints CSV by RFC 4180, with a line of heads. A value that there isn't is empty."""
-    import csv
-
     writer = csv.writer(sys.stdout)
     writer.writerow(heads)
     writer.writerows(rows)
 
 
-def print_json(heads: Sequence[str], rows: Iterable[tuple]) -> None:
+def print_json(heads: Sequence[str], rows: Iterable[Cells]) -> None:
     """Prints a JSON object a line, with a member for each column."""
-    from archive.json_lines import json_of, texts_of
-
-    line = "{" + ",".join(f"{json_of(head)}:%s" for head in heads) + "}\n"
-    sys.stdout.writelines(map(line.__mod__, zip(*map(texts_of, zip(*rows)))))
+    print_objects(dict(zip(heads, row)) for row in rows)
 
 
 def print_objects(lines: Iterable[object]) -> None:
     """Prints JSON objects, each on a line of its own."""
-    import json
-
-    encoder = json.JSONEncoder(ensure_ascii=False, separators=(",", ":"))
-    sys.stdout.writelines(f"{line}\n" for line in map(encoder.encode, lines))
+    sys.stdout.writelines(f"{line}\n" for line in texts_of(lines))
 
 
 FORMS = {"table": print_table, "csv": print_csv, "json": print_json}
@@ -113,7 +110,7 @@ def print_made(form: str, texts: Cells) -> None:
         print_texts(texts, "\r\n" if form == "csv" else "\n")
 
 
-def print_parts(form: str, parts: list[object]) -> None:
+def print_parts(form: str, parts: Sequence[Part]) -> None:
     """Prints tables one after another: each a name, its heads and its rows. In JSON each object says its table first; in
     CSV a line has the table, the number of the row, a head and a value."""
     if form == "csv":
@@ -129,6 +126,6 @@ def print_parts(form: str, parts: list[object]) -> None:
             print_table(heads, rows)
 
 
-def number_or_none(value: object) -> int | None:
+def number_or_none(value: int | str | None) -> int | None:
     """A number of the database, which stands as text if it is large."""
     return None if value is None else int(value)

@@ -2,7 +2,8 @@
 from __future__ import annotations
 
 import collections
-from collections.abc import Iterable, Iterator
+from collections.abc import Callable, Iterable, Iterator
+from typing import Any
 
 from archive import moments, spans
 from archive.asking import identifier_of
@@ -10,7 +11,7 @@ from archive.faults import DATA, OwnFault
 from archive.gathering import FORMAT
 from archive.json_lines import Line
 
-Row = dict  # the values of a row, by the names of its columns
+Row = dict[str, Any]  # the values of a row, by the names of its columns
 
 GREATEST = 2**63 - 1  # of an INTEGER of SQLite
 
@@ -48,8 +49,8 @@ class Recording:
         self.index_sid: int | None = None
         self.packages: dict[str, int] = {}  # the number of each by its identifier
         self.essence: Line = {}
-        self.texts: dict[object, None] = {}
-        self.identifiers: dict[object, None] = {}
+        self.texts: dict[tuple[str, str], None] = {}
+        self.identifiers: dict[tuple[str, bytes], None] = {}
         self.add_text("recording", self.name)
 
     def take(self, line: Line) -> None:
@@ -297,7 +298,9 @@ class Recording:
 
     def main(self) -> Row | None:
         """The package that stands for the recording: the first material package, or else one with a container, or any."""
-        ranks = (lambda one: one["kind"] == "material", lambda one: one["body_sid"] is not None, lambda one: True)
+        ranks: tuple[Callable[[Row], bool], ...] = (
+            lambda one: bool(one["kind"] == "material"), lambda one: one["body_sid"] is not None, lambda one: True
+        )  # fmt: skip
         return next((one for is_so in ranks for one in self.rows["packages"] if is_so(one)), None)
 
 

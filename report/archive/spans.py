@@ -3,6 +3,7 @@ from __future__ import annotations
 
 from collections.abc import Iterator
 
+from archive.json_lines import Line
 from archive.timecodes import HOURS, Counting
 
 
@@ -13,7 +14,7 @@ class Span:
     def __init__(self, first: str, count: int, counting: Counting, is_open: bool) -> None:
         self.first, self.count, self.counting, self.is_open = first, count, counting, is_open
 
-    def hours(self) -> Iterator[dict]:
+    def hours(self) -> Iterator[Line]:
         """What of them lies in each hour of a day, as rows of the table hours. A day is all that there is."""
         counting, day = self.counting, self.counting.day()
         begin, first = counting.number(self.first), int(self.first[:2])
@@ -42,7 +43,7 @@ class Rate:
         return whole + (2 * rest + whole % 2 > self.below)
 
 
-def span_of_clock(line: dict, rate: Rate | None) -> Span:
+def span_of_clock(line: Line, rate: Rate | None) -> Span:
     """The timecodes of a run of a clock. At this rate its positions follow one another, if that is known: a run that is
     longer than a day has all timecodes. One without an end has all from the first one up to midnight, as far as is known."""
     counting = Counting(line["base"], ";" in line["first"])
@@ -54,7 +55,7 @@ def span_of_clock(line: dict, rate: Rate | None) -> Span:
     return Span(line["first"], count, counting, False)
 
 
-def span_of_component(line: dict, rate: Rate | None) -> Span | None:
+def span_of_component(line: Line, rate: Rate | None) -> Span | None:
     """The timecodes of a timecode component in a track of this rate; None if it says none."""
     if line["at"] is None or not line["base"]:
         return None

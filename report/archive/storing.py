@@ -1,8 +1,10 @@
 """What is written to the database: recordings, and what comes of verifying them."""
 from __future__ import annotations
 
+from sqlite3 import Connection
+
 from archive import moments, schema
-from archive.database import Connection
+from archive.answering import identity_of
 from archive.json_lines import Line
 from archive.rows import UNREADABLE, Recording, Row, number_of
 from archive.texts import words_of
@@ -32,7 +34,7 @@ def last_gathered(connection: Connection, name: str) -> str:
     found = connection.execute(
         "SELECT s.gathered FROM recordings r JOIN states s ON s.recording = r.id AND s.number = r.state WHERE r.name = ?", (name,)
     ).fetchone()
-    return found["gathered"] if found else ""
+    return str(found["gathered"]) if found else ""
 
 
 def store(connection: Connection, recording: Recording) -> bool:
@@ -43,7 +45,7 @@ def store(connection: Connection, recording: Recording) -> bool:
             "INSERT INTO recordings (name, state, is_missing, is_damaged, is_disputed, is_changed, verified)"
             " VALUES (?, 0, 0, 0, 0, 0, '')", (recording.name,)
         )  # fmt: skip
-    identity = is_known(connection, recording.name)
+    identity = identity_of(connection, recording.name)
     if known is not None:
         for table in schema.REPLACED:
             connection.execute(f"DELETE FROM {table} WHERE recording = ?", (identity,))
@@ -88,7 +90,7 @@ def settle(connection: Connection, identity: int) -> None:
     connection.execute(f"{schema.LISTED} WHERE id = ?", (identity,))
 
 
-def store_verification(connection: Connection, identity: int, told: dict, lines: list[Line],
+def store_verification(connection: Connection, identity: int, told: dict[str, str], lines: list[Line],
                        words: list[str]) -> None:  # fmt: skip
     """Adds what `verify` says: when and against what, its counts, and what differs. Its sources stand with their words."""
     number = connection.execute(
