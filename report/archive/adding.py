@@ -23,7 +23,6 @@ def add(words: Words) -> int:
     """Puts a recording into the database. All is asked before that is written to."""
     with gathering_of(words) as asked:
         database.check_place(words.database, is_soon=bool(asked.calls))
-        asked.read()
         lines = asked.gather()
     try:
         (recording,) = recordings_of(lines, asked.tool.program)

@@ -39,7 +39,6 @@ class Gathering:
         self.lines: list[Line] = []
         self.calls: list[Call] = []
         self.units: dict[int, Call] = {}
-        self.asked: Sources | None = None  # the sources that all was asked of, once that is done
         self.opened = contextlib.ExitStack()
         self.gathered = moments.text_of(moments.now())
         self.origins = [origin_of(number, source_of(word)) for number, word in enumerate(sources.each(), 1)]
@@ -79,12 +78,11 @@ class Gathering:
             said = self.tool.said_by(call, lambda text: not text.startswith(b'{"line":"row"'))
             self.lines.append({"line": "asked", "command": command})
             self.lines += said
-        self.asked = sources
         return sources
 
     def gather(self) -> list[Line]:
         """All lines of the recording, as soon as edit units are counted."""
-        sources = self.read() if self.asked is None else self.asked
+        sources = self.read()
         for index_sid, call in self.units.items():
             self.lines.append({"line": "asked", "command": "units", "index-sid": index_sid})
             self.lines.append(self.units_of(index_sid, call, sources))

@@ -90,8 +90,9 @@ def settle(connection: Connection, identity: int) -> None:
     connection.execute(f"{schema.LISTED} WHERE id = ?", (identity,))
 
 
-def store_verification(connection: Connection, identity: int, told: dict[str, str], lines: list[Line],
-                       words: list[str]) -> None:  # fmt: skip
+def store_verification(
+    connection: Connection, identity: int, told: dict[str, str], lines: list[Line], words: list[str]
+) -> None:  # fmt: skip
     """Adds what `verify` says: when and against what, its counts, and what differs. Its sources stand with their words."""
     number = connection.execute(
         "SELECT coalesce(max(number), 0) + 1 FROM verifications WHERE recording = ?", (identity,)

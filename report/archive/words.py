@@ -13,8 +13,8 @@ EPILOG = (
     "as of mxf_tool. MXF_TOOL names another program. mxf_archive COMMAND --help tells the words of a command."
 )
 
-# Stands before a word behind --, which is no option whatever it looks like. Python's parse_intermixed_args forgets -- before
-# 3.13. No word of a call has a zero character.
+# Stands before a word behind --, which is no option whatever it looks like: Python's parse_intermixed_args forgets a -- ahead
+# of all words that are no options. No word of a call has a zero character.
 BEHIND = "\0"
 
 
