@@ -240,7 +240,7 @@ def parts(count, first):
 def tried_all(program, count, first):
     """What was tried, as many parts at a time as there are processors. Of many files it reports each twentieth part."""
     found, wanted = [], list(parts(count, first))
-    with concurrent.futures.ProcessPoolExecutor(os.cpu_count()) as pool:
+    with concurrent.futures.ProcessPoolExecutor(len(os.sched_getaffinity(0))) as pool:
         for done in concurrent.futures.as_completed([pool.submit(tried, program, *part) for part in wanted]):
             found.append(done.result())
             if count > 1000 and len(found) * 20 // len(wanted) > (len(found) - 1) * 20 // len(wanted):

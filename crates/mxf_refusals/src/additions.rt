@@ -2,6 +2,7 @@
 use crate::files::ESSENCE_KEY;
 use mxf_catalogue::{Catalogue, Change, Cover};
 use mxf_klv::{Note, OutOfMemory, Ul};
+use mxf_read::absorb;
 use mxf_views::Views;
 use std::alloc::Global;
 
@@ -11,21 +12,54 @@ pub(crate) fn essence(offset: u64, length: u64) -> Option<Note> {
     Note::digested(offset, Ul::from_bytes(ESSENCE_KEY)?, 1, length, [0; 32])
 }
 
-/// Whether what is asked of new views holds. A test that makes no views of its own has nothing to drop.
-pub(crate) fn in_views<F: FnOnce(Global, &mut Views) -> bool>(alloc: Global, holds: F) -> bool
-    requires { F.IsAlwaysCallable holds }
+/// Whether what is asked holds, even if one growth is refused: if memory runs out, it is asked once more.
+pub(crate) fn holds<F: Fn(Global) -> Result<bool, OutOfMemory>>(alloc: Global, asked: F) -> bool
+    requires { F.IsAlwaysCallable asked }
 {
-    holds(alloc, &mut Views::new(alloc))
+    match asked(alloc) {
+        Err(OutOfMemory) => asked(alloc) == Ok(true),
+        answer => answer == Ok(true),
+    }
 }
 
-/// Whether what is asked of a new catalogue holds.
-pub(crate) fn in_catalogue<F: FnOnce(Global, &mut Catalogue) -> bool>(
+/// The catalogue of essence packets, each by its offset and the length of its value.
+pub(crate) fn catalogue_of(
     alloc: Global,
-    holds: F,
-) -> bool
-    requires { F.IsAlwaysCallable holds }
-{
-    holds(alloc, &mut Catalogue::new(alloc))
+    packets: &[(u64, u64)],
+) -> Result<Catalogue, OutOfMemory> {
+    let mut all = Catalogue::new(alloc);
+    for &(offset, length) in packets {
+        let note = essence(offset, length).ok_or(OutOfMemory)?;
+        if all.add(note).is_err() {
+            return Err(OutOfMemory);
+        }
+    }
+    Ok(all)
+}
+
+/// The views of essence packets, each by its offset and the length of its value.
+pub(crate) fn views_of_packets(
+    alloc: Global,
+    packets: &[(u64, u64)],
+) -> Result<Views, OutOfMemory> {
+    match Views::of(alloc, catalogue_of(alloc, packets)?) {
+        Ok(views) => Ok(views),
+        Err(_) => Err(OutOfMemory),
+    }
+}
+
+/// The views of pieces, each by the offset of its first byte.
+pub(crate) fn views_of_pieces(
+    alloc: Global,
+    pieces: &[(u64, &[u8])],
+) -> Result<Views, OutOfMemory> {
+    let mut views = Views::new(alloc);
+    for &(offset, bytes) in pieces {
+        if absorb(alloc, &mut views, offset, bytes).is_err() {
+            return Err(OutOfMemory);
+        }
+    }
+    Ok(views)
 }
 
 /// Adds a note, even if one growth is refused. Whether it is added.

@@ -1,5 +1,4 @@
 //! Pieces, whole and cut: out of memory, the packets that were counted are held, and the rest can be absorbed.
-use crate::additions::in_views;
 use crate::files::M;
 use mxf_catalogue::Run;
 use mxf_read::{AbsorbFault, ReadTicks, Report, Stop, absorb, absorb_from};
@@ -111,8 +110,9 @@ fn read(
 }
 
 /// Notes M at hand. Whether it is held.
-fn note_m(alloc: Global, views: &mut Views) -> bool {
-    note(alloc, views, &M, WHOLE, &PLACES) && holds_m(views)
+fn note_m(alloc: Global) -> bool {
+    let mut views = Views::new(alloc);
+    note(alloc, &mut views, &M, WHOLE, &PLACES) && holds_m(&views)
 }
 
 /// Notes M over its front. Whether it is held, even if memory ran out at one of its places, and the rest was noted.
@@ -135,30 +135,33 @@ fn note_over_front(alloc: Global, views: &mut Views) -> bool {
 
 /// Notes M's first 128 bytes at hand, and then M. Whether they are held: when memory runs out, no packet is, or that
 /// ahead of the head.
-fn note_front(alloc: Global, views: &mut Views) -> bool {
-    note(alloc, views, &M[..128], CUT, &PLACES[..2])
-        && holds_the_cut(views)
-        && note_over_front(alloc, views)
+fn note_front(alloc: Global) -> bool {
+    let mut views = Views::new(alloc);
+    note(alloc, &mut views, &M[..128], CUT, &PLACES[..2])
+        && holds_the_cut(&views)
+        && note_over_front(alloc, &mut views)
 }
 
 #[test]
 fn a_piece_at_hand(rt: HostRuntime) {
     let alloc = rt.alloc();
-    assert!(rt; in_views(alloc, note_m) && in_views(alloc, note_front));
+    assert!(rt; note_m(alloc) && note_front(alloc));
 }
 
 /// Notes M of a reader. Whether it is held.
-fn read_m(alloc: Global, views: &mut Views) -> bool {
-    read(alloc, views, &M, WHOLE, &PLACES) && holds_m(views)
+fn read_m(alloc: Global) -> bool {
+    let mut views = Views::new(alloc);
+    read(alloc, &mut views, &M, WHOLE, &PLACES) && holds_m(&views)
 }
 
 /// The same of M's first 128 bytes.
-fn read_front(alloc: Global, views: &mut Views) -> bool {
-    read(alloc, views, &M[..128], CUT, &PLACES[..2]) && holds_the_cut(views)
+fn read_front(alloc: Global) -> bool {
+    let mut views = Views::new(alloc);
+    read(alloc, &mut views, &M[..128], CUT, &PLACES[..2]) && holds_the_cut(&views)
 }
 
 #[test]
 fn a_piece_of_a_reader(rt: HostRuntime) {
     let alloc = rt.alloc();
-    assert!(rt; in_views(alloc, read_m) && in_views(alloc, read_front));
+    assert!(rt; read_m(alloc) && read_front(alloc));
 }

@@ -1,14 +1,11 @@
 //! Tracks of the preferred copy, and its sets by their identifiers.
-use crate::additions::in_views;
+use crate::additions::{holds, views_of_pieces};
 use crate::files::TRACKED;
-use crate::units::add_piece;
-use crate::values::resolved_in;
 use mxf_klv::OutOfMemory;
-use mxf_references::{CopySets, Found, Resolved};
+use mxf_references::{CopySets, Found, resolved};
 use mxf_tracks::{
     Container, DescriptorAt, FoundPackage, PackageAt, Target, TrackAt, Tracks, preferred_tracks,
 };
-use mxf_views::Views;
 use std::alloc::Global;
 use uuid::Uuid;
 
@@ -47,88 +44,33 @@ fn are_found(packages: &[PackageAt<'_>]) -> Option<bool> {
     Some(package.target == Target::Found(280) && again && is_followed(package.found.as_ref()?)?)
 }
 
-/// The tracks of the preferred copy, even if one growth is refused.
-fn preferred_in(alloc: Global, views: &Views) -> Result<Tracks<'_>, OutOfMemory> {
-    match preferred_tracks(alloc, views) {
-        Ok(tracks) => Ok(tracks),
-        Err(OutOfMemory) => preferred_tracks(alloc, views),
-    }
-}
-
-/// Whether these are the tracks of the preferred copy.
-fn are_preferred(alloc: Global, views: &Views) -> bool {
-    match preferred_in(alloc, views) {
-        Ok(tracks) => are_found(tracks.packages()) == Some(true),
-        Err(OutOfMemory) => false,
-    }
-}
-
-/// The tracks of the packages that are resolved, even if one growth is refused.
-fn tracks_of<'a>(
-    alloc: Global,
-    views: &'a Views,
-    resolved: &Resolved,
-) -> Result<Tracks<'a>, OutOfMemory> {
-    match Tracks::of(alloc, views, resolved) {
-        Ok(tracks) => Ok(tracks),
-        Err(OutOfMemory) => Tracks::of(alloc, views, resolved),
-    }
-}
-
-/// Whether these are the tracks of the packages that are resolved.
-fn are_of_resolved(alloc: Global, views: &Views, resolved: &Resolved) -> bool {
-    match tracks_of(alloc, views, resolved) {
-        Ok(tracks) => are_found(tracks.packages()) == Some(true),
-        Err(OutOfMemory) => false,
-    }
-}
-
-/// Whether packages are resolved, and these are their tracks.
-fn are_resolved(alloc: Global, views: &Views) -> bool {
-    match resolved_in(alloc, views) {
-        Ok(Some(resolved)) => are_of_resolved(alloc, views, &resolved),
-        Ok(None) | Err(OutOfMemory) => false,
-    }
-}
-
-/// Notes a piece with tracks. Whether they are found.
-fn note_and_walk(alloc: Global, views: &mut Views) -> bool {
-    add_piece(alloc, views, 0, &TRACKED)
-        && are_preferred(alloc, views)
-        && are_resolved(alloc, views)
+/// Whether these are the tracks of the preferred copy, and those of the packages that are resolved.
+fn tracks_are_found(alloc: Global) -> Result<bool, OutOfMemory> {
+    let views = views_of_pieces(alloc, &[(0, &TRACKED)])?;
+    let preferred = preferred_tracks(alloc, &views)?;
+    let Some(resolved) = resolved(alloc, &views)? else {
+        return Ok(false);
+    };
+    let tracks = Tracks::of(alloc, &views, &resolved)?;
+    let are_preferred = are_found(preferred.packages()) == Some(true);
+    Ok(are_preferred && are_found(tracks.packages()) == Some(true))
 }
 
 #[test]
 fn tracks(rt: HostRuntime) {
-    assert!(rt; in_views(rt.alloc(), note_and_walk));
-}
-
-/// The sets of the copy, even if one growth is refused.
-fn sets_of(alloc: Global, views: &Views) -> Result<CopySets<'_>, OutOfMemory> {
-    match CopySets::of(alloc, views, 0) {
-        Ok(sets) => Ok(sets),
-        Err(OutOfMemory) => CopySets::of(alloc, views, 0),
-    }
+    assert!(rt; holds(rt.alloc(), tracks_are_found));
 }
 
 /// Whether the track is found by its identifier, and no set by another one.
-fn are_identified(alloc: Global, views: &Views) -> bool {
-    match sets_of(alloc, views) {
-        Ok(sets) => {
-            sets.find(&Uuid::from_bytes([0x44; 16])) == Found::One(404)
-                && sets.find(&Uuid::from_bytes([0xAA; 16])) == Found::Absent
-                && sets.note_at(404).is_some()
-        }
-        Err(OutOfMemory) => false,
-    }
-}
-
-/// Notes the piece. Whether its sets are found by their identifiers.
-fn note_and_look_up(alloc: Global, views: &mut Views) -> bool {
-    add_piece(alloc, views, 0, &TRACKED) && are_identified(alloc, views)
+fn sets_are_identified(alloc: Global) -> Result<bool, OutOfMemory> {
+    let views = views_of_pieces(alloc, &[(0, &TRACKED)])?;
+    let sets = CopySets::of(alloc, &views, 0)?;
+    let track = sets.find(&Uuid::from_bytes([0x44; 16])) == Found::One(404);
+    let none = sets.find(&Uuid::from_bytes([0xAA; 16])) == Found::Absent;
+    Ok(track && none && sets.note_at(404).is_some())
 }
 
 #[test]
 fn sets_by_their_identifiers(rt: HostRuntime) {
-    assert!(rt; in_views(rt.alloc(), note_and_look_up));
+    assert!(rt; holds(rt.alloc(), sets_are_identified));
 }

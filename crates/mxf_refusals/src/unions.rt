@@ -1,7 +1,7 @@
 //! Catalogues that are joined, merged and read: what was handed stands, or comes back.
 ghost use Rattle.std.specs.Prelude.{◌<◌, ◌≤◌};
 
-use crate::additions::{add, in_catalogue};
+use crate::additions::{add, holds};
 use crate::files::{M, M_OF_VERSION_1};
 use mxf_catalogue::{Catalogue, Cover, FileFault, Semilattice};
 use mxf_klv::{Encode, Note, OutOfMemory, Packet, cut_head, read_packet};
@@ -78,44 +78,21 @@ fn merge_to(
 }
 
 /// Whether a join with the packets around a head, which stand, and a merge into them, leave the whole.
-fn head_gives_way(
-    alloc: Global,
-    around: &mut Catalogue,
-    before: &Catalogue,
-    middle: &Catalogue,
-    whole: &Catalogue,
-) -> bool {
-    joins_to(alloc, middle, around, whole)
-        && around.same(before)
-        && merge_to(around, of_m(alloc, &[108]), before, middle, whole)
-}
-
-/// Whether they do, of catalogues that are filled here.
-fn union_is_whole(
-    alloc: Global,
-    around: &mut Catalogue,
-    before: &mut Catalogue,
-    middle: &mut Catalogue,
-    whole: &mut Catalogue,
-) -> bool {
-    add_around(alloc, around)
-        && add_around(alloc, before)
-        && add_of_m(alloc, middle, &[108])
-        && add_of_m(alloc, whole, &[0, 108, 216])
-        && head_gives_way(alloc, around, before, middle, whole)
+fn a_head_gives_way(alloc: Global) -> bool {
+    let mut around = Catalogue::new(alloc);
+    let mut before = Catalogue::new(alloc);
+    let middle = of_m(alloc, &[108]);
+    let whole = of_m(alloc, &[0, 108, 216]);
+    add_around(alloc, &mut around)
+        && add_around(alloc, &mut before)
+        && joins_to(alloc, &middle, &around, &whole)
+        && around.same(&before)
+        && merge_to(&mut around, of_m(alloc, &[108]), &before, &middle, &whole)
 }
 
 #[test]
 fn a_join_and_a_merge_of_catalogues(rt: HostRuntime) {
-    let alloc = rt.alloc();
-    let whole = union_is_whole(
-        alloc,
-        &mut Catalogue::new(alloc),
-        &mut Catalogue::new(alloc),
-        &mut Catalogue::new(alloc),
-        &mut Catalogue::new(alloc),
-    );
-    assert!(rt; whole);
+    assert!(rt; a_head_gives_way(rt.alloc()));
 }
 
 /// The catalogue of a file, even if one growth is refused.
@@ -153,11 +130,12 @@ fn save(alloc: Global, all: &Catalogue, size: usize) -> bool {
 }
 
 /// Saves that of M's first packet and a head, and reads that of version 1 when M's other packets were added.
-fn save_and_read(alloc: Global, all: &mut Catalogue) -> bool {
-    add_cut_m(alloc, all)
-        && save(alloc, all, 172)
-        && add_of_m(alloc, all, &[108, 216])
-        && is_read_as(alloc, &M_OF_VERSION_1, all)
+fn save_and_read(alloc: Global) -> bool {
+    let mut all = Catalogue::new(alloc);
+    add_cut_m(alloc, &mut all)
+        && save(alloc, &all, 172)
+        && add_of_m(alloc, &mut all, &[108, 216])
+        && is_read_as(alloc, &M_OF_VERSION_1, &all)
 }
 
 /// Whether a file of version 1 that is cut is refused, even if one growth is refused.
@@ -171,69 +149,42 @@ fn cut_is_refused(alloc: Global) -> bool {
 #[test]
 fn catalogues_that_are_read(rt: HostRuntime) {
     let alloc = rt.alloc();
-    assert!(rt; in_catalogue(alloc, save_and_read) && cut_is_refused(alloc));
+    assert!(rt; save_and_read(alloc) && cut_is_refused(alloc));
 }
 
-/// Merges the packets of M at these offsets into views, even if one growth is refused. Whether they are merged.
-fn merge_of_m(alloc: Global, views: &mut Views, offsets: &[usize]) -> bool {
-    match views.merge(of_m(alloc, offsets)) {
-        Ok(()) => true,
-        Err(fault) => views.merge(fault.other).is_ok(),
-    }
-}
-
-/// The join of views, even if one growth is refused.
-fn join_of_views(alloc: Global, front: &Views, back: &Views) -> Result<Views, OutOfMemory> {
-    match Views::join(alloc, front, back) {
-        Ok(joined) => Ok(joined),
-        Err(OutOfMemory) => Views::join(alloc, front, back),
+/// The views of M's packets at these offsets.
+fn views_of_m(alloc: Global, offsets: &[usize]) -> Result<Views, OutOfMemory> {
+    match Views::of(alloc, of_m(alloc, offsets)) {
+        Ok(views) => Ok(views),
+        Err(_) => Err(OutOfMemory),
     }
 }
 
 /// Whether the views of a front and of what follows it are joined to those of the whole.
-fn views_join_to(alloc: Global, front: &Views, back: &Views, whole: &Catalogue) -> bool {
-    match join_of_views(alloc, front, back) {
-        Ok(joined) => joined.catalogue().same(whole),
-        Err(OutOfMemory) => false,
-    }
+fn views_are_joined(alloc: Global) -> Result<bool, OutOfMemory> {
+    let front = views_of_m(alloc, &[0])?;
+    let back = views_of_m(alloc, &[108, 216])?;
+    let joined = Views::join(alloc, &front, &back)?;
+    Ok(joined.catalogue().same(&of_m(alloc, &[0, 108, 216])))
 }
 
-/// Merges two notes into the views of one. Whether these are then those of the whole; if they are refused, all
-/// stand.
-fn merge_into_views(front: &mut Views, back: Catalogue, whole: &Catalogue) -> bool {
-    match front.merge(back) {
-        Ok(()) => front.catalogue().same(whole),
+/// Whether a front into whose views two notes are merged is the whole; if they are refused, all stand.
+fn notes_are_merged(alloc: Global) -> Result<bool, OutOfMemory> {
+    let whole = of_m(alloc, &[0, 108, 216]);
+    let mut front = views_of_m(alloc, &[0])?;
+    match front.merge(of_m(alloc, &[108, 216])) {
+        Ok(()) => Ok(front.catalogue().same(&whole)),
         Err(fault) => {
             let kept = front.catalogue().len() == 1 && fault.other.len() == 2;
-            front.merge(fault.other).is_ok() && front.catalogue().same(whole) && kept
+            Ok(front.merge(fault.other).is_ok() && front.catalogue().same(&whole) && kept)
         }
     }
-}
-
-/// Fills views with M's first packet and with the two after it, and joins them.
-fn join_views(alloc: Global, front: &mut Views, back: &mut Views, whole: &mut Catalogue) -> bool {
-    merge_of_m(alloc, front, &[0])
-        && merge_of_m(alloc, back, &[108, 216])
-        && add_of_m(alloc, whole, &[0, 108, 216])
-        && views_join_to(alloc, front, back, whole)
-}
-
-/// Joins them, and then merges them.
-fn unite_views(alloc: Global, front: &mut Views, mut back: Views, whole: &mut Catalogue) -> bool {
-    let joined = join_views(alloc, front, &mut back, whole);
-    joined && merge_into_views(front, back.into_catalogue(), whole)
 }
 
 #[test]
 fn a_join_and_a_merge_of_views(rt: HostRuntime) {
     let alloc = rt.alloc();
-    let united = unite_views(
-        alloc,
-        &mut Views::new(alloc),
-        Views::new(alloc),
-        &mut Catalogue::new(alloc),
-    );
-    assert!(rt; united);
+    assert!(rt; holds(alloc, views_are_joined) && holds(alloc, notes_are_merged));
 }
 
 /// Adds a run to a cover, even if one growth is refused. Whether it is added.
@@ -247,29 +198,17 @@ fn add_run(cover: &mut Cover, start: u64, end: u64) -> bool
     }
 }
 
-/// The join of covers, even if one growth is refused.
-fn join_of_covers(alloc: Global, front: &Cover, back: &Cover) -> Result<Cover, OutOfMemory> {
-    match Cover::join(alloc, front, back) {
-        Ok(joined) => Ok(joined),
-        Err(OutOfMemory) => Cover::join(alloc, front, back),
-    }
-}
-
-/// Joins covers of one run each. Whether the join has two runs, and they stand.
-fn join_covers(alloc: Global, front: &mut Cover, back: &mut Cover) -> bool {
-    let added = add_run(front, 0, 30) && add_run(back, 40, 50);
-    match join_of_covers(alloc, front, back) {
-        Ok(joined) => {
-            let counted = joined.runs().count() == 2 && joined.gaps().count() == 1;
-            added && counted && front.runs().count() == 1
-        }
-        Err(OutOfMemory) => false,
-    }
+/// Whether the join of covers of one run each has two runs, and they stand.
+fn covers_are_joined(alloc: Global) -> Result<bool, OutOfMemory> {
+    let mut front = Cover::new(alloc);
+    let mut back = Cover::new(alloc);
+    let added = add_run(&mut front, 0, 30) && add_run(&mut back, 40, 50);
+    let joined = Cover::join(alloc, &front, &back)?;
+    let counted = joined.runs().count() == 2 && joined.gaps().count() == 1;
+    Ok(added && counted && front.runs().count() == 1)
 }
 
 #[test]
 fn a_join_of_covers(rt: HostRuntime) {
-    let alloc = rt.alloc();
-    let joined = join_covers(alloc, &mut Cover::new(alloc), &mut Cover::new(alloc));
-    assert!(rt; joined);
+    assert!(rt; holds(rt.alloc(), covers_are_joined));
 }

@@ -1,5 +1,5 @@
 //! What takes no memory: it answers while every growth is refused.
-use crate::additions::{essence, in_views};
+use crate::additions::essence;
 use crate::files::{M, R, SEGMENT};
 use mxf_catalogue::{Catalogue, Change};
 use mxf_klv::{Encode, Held, Note, OutOfMemory, cut_head, read_packet};
@@ -75,19 +75,20 @@ fn repeat_footer(alloc: Global, views: &mut Views, note: Note) -> bool {
 }
 
 /// The same, if M can be noted.
-fn note_and_repeat(alloc: Global, views: &mut Views) -> bool {
-    if absorb(alloc, views, 0, &M).is_err() {
+fn note_and_repeat(alloc: Global) -> bool {
+    let mut views = Views::new(alloc);
+    if absorb(alloc, &mut views, 0, &M).is_err() {
         return true;
     }
     match footer(alloc) {
-        Some(note) => repeat_footer(alloc, views, note),
+        Some(note) => repeat_footer(alloc, &mut views, note),
         None => true,
     }
 }
 
 #[test]
 fn without_memory_held_notes_are_added_and_written(rt: HostRuntime) {
-    assert!(rt; in_views(rt.alloc(), note_and_repeat));
+    assert!(rt; note_and_repeat(rt.alloc()));
 }
 
 /// Whether M's header is held, and the head of its footer, which claims the bytes up to 216.
@@ -122,19 +123,20 @@ fn make_head(alloc: Global, views: &mut Views, head: &Note) -> bool {
 }
 
 /// The same, if the bytes up to it can be noted.
-fn add_head(alloc: Global, views: &mut Views) -> bool {
-    if absorb(alloc, views, 0, &M[..128]).is_err() {
+fn add_head(alloc: Global) -> bool {
+    let mut views = Views::new(alloc);
+    if absorb(alloc, &mut views, 0, &M[..128]).is_err() {
         return true;
     }
     match cut_head(108, &M[108..128]) {
-        Some(head) => make_head(alloc, views, &head),
+        Some(head) => make_head(alloc, &mut views, &head),
         None => false,
     }
 }
 
 #[test]
 fn without_memory_heads_are_made_and_a_held_one_is_added(rt: HostRuntime) {
-    assert!(rt; in_views(rt.alloc(), add_head));
+    assert!(rt; add_head(rt.alloc()));
 }
 
 /// Whether units of a segment are located.
@@ -169,15 +171,16 @@ fn has_its_copy(views: &Views) -> Option<bool> {
 }
 
 /// Whether these are found in R and a segment after it, if both can be noted.
-fn note_and_ask(alloc: Global, views: &mut Views) -> bool {
-    absorb(alloc, views, 0, &R).is_err()
-        || absorb(alloc, views, 374, &SEGMENT).is_err()
-        || (locates_units(views)
-            && has_its_sets(views) == Some(true)
-            && has_its_copy(views) == Some(true))
+fn note_and_ask(alloc: Global) -> bool {
+    let mut views = Views::new(alloc);
+    absorb(alloc, &mut views, 0, &R).is_err()
+        || absorb(alloc, &mut views, 374, &SEGMENT).is_err()
+        || (locates_units(&views)
+            && has_its_sets(&views) == Some(true)
+            && has_its_copy(&views) == Some(true))
 }
 
 #[test]
 fn without_memory_views_are_asked(rt: HostRuntime) {
-    assert!(rt; in_views(rt.alloc(), note_and_ask));
+    assert!(rt; note_and_ask(rt.alloc()));
 }
