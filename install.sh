@@ -59,9 +59,10 @@ else
   rm -rf "$prefix/lib/mxf-tool/checked" "$prefix/lib/mxf-tool/run_checked"
 fi
 for name in mxf_report mxf_archive; do put 755 "$scripts/$name" "bin/$name"; done
-for file in "$scripts"/archive/*.py "$scripts"/mxf/*.{py,css,js}; do put 644 "$file" "lib/mxf-tool/${file#"$scripts"/}"; done
+while IFS= read -r file; do put 644 "$scripts/$file" "lib/mxf-tool/$file"; done < <(
+  cd "$scripts" && find mxf -type f ! -path '*/__pycache__/*' | LC_ALL=C sort)
 # Who may not write there would compile the parts at each start.
-/usr/bin/python3 -m compileall -q "$prefix"/lib/mxf-tool/{archive,mxf} ||
+/usr/bin/python3 -m compileall -q "$prefix/lib/mxf-tool/mxf" ||
   echo "install.sh: the parts of mxf_report and mxf_archive aren't compiled" >&2
 for name in mxf_tool mxf_report mxf_archive; do
   put 644 "$pages/$name.1" "share/man/man1/$name.1"

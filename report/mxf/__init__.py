@@ -1,1 +1,1 @@
-"""The parts of mxf_report, which writes pages of recordings."""
+"""The parts of the programs in Python, which ask mxf_tool and never read a recording themselves."""

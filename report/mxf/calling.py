@@ -13,11 +13,11 @@ import tempfile
 from collections.abc import Iterator
 from typing import IO, NamedTuple
 
-from mxf.bounds import HINTS
 from mxf.faults import NO_PROGRAM, OwnFault, ToolFault
 from mxf.lines import Line, lines_of
 
 HINT = "hint: "  # before each hint
+HINTS = 20  # that are kept
 
 # The hint that a check read no essence, which the page says by itself.
 UNREAD = "essence wasn't read"

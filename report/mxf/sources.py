@@ -7,7 +7,7 @@ import pathlib
 import re
 import stat
 
-from mxf.asked import Words
+from mxf.report.asked import Words
 from mxf.calling import Sources
 from mxf.faults import READ, USAGE, OwnFault
 

@@ -1,0 +1,137 @@
+"""The command that finds recordings by words of a name, the end of an identifier, or a timecode."""
+from __future__ import annotations
+
+import functools
+from collections.abc import Collection, Sequence
+from itertools import chain, groupby
+from sqlite3 import Connection, Row
+
+from mxf.archive import database, printing, timecodes
+from mxf.archive.answering import answer_of
+from mxf.archive.schema import FOUND, FOUND_AS
+from mxf.archive.texts import words_of
+from mxf.archive.words import Words
+
+BY_UMID = """
+SELECT r.name, 'package', p.uid
+FROM packages p JOIN recordings r ON r.id = p.recording WHERE substr(p.uid, -16) = ?
+UNION
+SELECT r.name, 'clip', c.of_uid
+FROM clips c JOIN recordings r ON r.id = c.recording WHERE substr(c.of_uid, -16) = ?
+"""
+
+BY_TIMECODE = """
+SELECT r.name AS recording, h.clock, h.first, h.last, h.base, h.is_drop, c.index_sid, c.first AS clock_first,
+  c.last AS clock_last, t.track, t.at, p.kind, p.uid
+FROM hours h JOIN recordings r ON r.id = h.recording
+  LEFT JOIN clocks c ON c.recording = h.recording AND c.number = h.clock
+  LEFT JOIN timecodes t ON t.recording = h.recording AND t.number = h.timecode
+  LEFT JOIN packages p ON p.recording = h.recording AND p.number = t.package
+WHERE h.hour = ? AND h.first < ?
+ORDER BY r.name, h.number
+"""
+
+# Texts with a word that begins so, as often as they have one: from this beginning up to what comes after all such words.
+BY_WORD = "SELECT found_in, found_line FROM words WHERE word >= ? AND word < ?"
+# Those that have another one too. SQLite bounds how many values a question has, so it is asked for so many others.
+AND_BY_WORD = " AND EXISTS (SELECT 1 FROM words o WHERE o.text = words.text AND o.word >= ? AND o.word < ?)"
+OTHERS = 50
+AFTER_ALL = "\U0010ffff"
+
+# How many digits an identifier has that is asked for, what may stand before them, and what between them beside spaces.
+UMID_DIGITS = range(16, 65)
+UMID_PREFIXES = ("urn:smpte:umid:", "0x")
+UMID_SIGNS = dict.fromkeys(map(ord, "-.{}"))
+
+HEADS = ("recording", "what", "text")
+
+Found = Collection[tuple[str, str]]  # recordings, and of each by FOUND what has a word, and that text
+
+
+def find(words: Words) -> int:
+    """Prints what has all of the words; status 1 if nothing has."""
+    with database.reading(words.database) as connection:
+        rows = found(connection, words.word)
+    if words.form == "table":
+        width = max(map(len, chain(HEADS[:1], (recording for recording, _ in rows))))
+        printing.print_laid_out(f"%-{width}s  %s", (HEADS[0], FOUND % HEADS[1:]), rows)
+    else:
+        printing.print_answer(
+            words.form, HEADS, [(recording, line[:FOUND_AS].rstrip(), text_of(line)) for recording, line in rows]
+        )
+    return 0 if rows else 1
+
+
+def found(connection: Connection, words: Sequence[str]) -> Found:
+    """What is found by all of these words, each once."""
+    parts = [found_by(connection, word) for word in words]
+    if len(parts) > 1:
+        recordings = set.intersection(*({recording for recording, _ in part} for part in parts))
+        parts = [[row for row in part if row[0] in recordings] for part in parts]
+    return [row for row, _ in groupby(sorted(chain.from_iterable(parts)))]
+
+
+def text_of(line: str) -> str:
+    """The text of a line by FOUND."""
+    return line[FOUND_AS + 2 :]
+
+
+def found_by(connection: Connection, word: str) -> Found:
+    """What is found by one word: a timecode, the end of an identifier, or words of a name."""
+    if timecodes.is_timecode(word):
+        return found_by_timecode(connection, word)
+    return found_by_words(connection, words_of(word)) + found_by_umid(connection, digits_of(word))
+
+
+def digits_of(word: str) -> str:
+    """What a word may have of the digits of an identifier."""
+    word = word.lower()
+    prefix = next(filter(word.startswith, UMID_PREFIXES), "")
+    return "".join(word.removeprefix(prefix).translate(UMID_SIGNS).split())
+
+
+def found_by_umid(connection: Connection, digits: str) -> list[tuple[str, str]]:
+    """Packages with an identifier that ends so, and clips that show one."""
+    if len(digits) not in UMID_DIGITS or not set(digits) <= set("0123456789abcdef"):
+        return []
+    rows = answer_of(connection, BY_UMID, (digits[-16:], digits[-16:]))[1]
+    return [(recording, FOUND % (what, uid)) for recording, what, uid in rows if uid.endswith(digits)]
+
+
+def found_by_words(connection: Connection, words: Sequence[str]) -> list[tuple[str, str]]:
+    """Texts that have, for each of the words, one that begins with it. The longest words are asked first, since few texts may
+    have them."""
+    if not words:
+        return []
+    words = sorted(dict.fromkeys(words), key=len, reverse=True)
+    asked, rest = words[: OTHERS + 1], words[OTHERS + 1 :]
+    values = [value for word in asked for value in (word, word + AFTER_ALL)]
+    rows = answer_of(connection, BY_WORD + AND_BY_WORD * (len(asked) - 1), values)[1]
+    return [(recording, line) for recording, line in rows if not rest or has_all(text_of(line), rest)]
+
+
+def has_all(text: str, beginnings: Sequence[str]) -> bool:
+    """Whether a text has, for each beginning, a word that begins so."""
+    words = words_of(text)
+    return all(any(word.startswith(beginning) for word in words) for beginning in beginnings)
+
+
+def found_by_timecode(connection: Connection, timecode: str) -> Found:
+    """The clocks that have a timecode; of recordings of which none has, the timecode components of packages that have it."""
+    after = f"{timecode[:8]}:{AFTER_ALL}"
+    has_label = functools.cache(lambda base, is_drop: timecodes.Counting(base, bool(is_drop)).has(timecode))
+    rows = [row for row in connection.execute(BY_TIMECODE, (int(timecode[:2]), after))
+            if timecodes.is_within(timecode, row["first"], row["last"]) and has_label(row["base"], row["is_drop"])]  # fmt: skip
+    clocked = {row["recording"] for row in rows if row["clock"] is not None}
+    return {
+        (row["recording"], FOUND % told_by(row))
+        for row in rows
+        if row["clock"] is not None or row["recording"] not in clocked
+    }
+
+
+def told_by(row: Row) -> tuple[str, str]:
+    """Which clock has a timecode, and from which to which it goes; or which track of a package, and from which on."""
+    if row["clock"] is not None:
+        return "clock", f"index {row['index_sid']}, {row['clock_first']} to {row['clock_last'] or '-'}"
+    return "timecode", f"{row['kind']} package {row['uid'][-16:]}, track {row['track']}, from {row['at']}"

@@ -1,0 +1,126 @@
+"""What is written to the database: recordings, and what comes of verifying them."""
+from __future__ import annotations
+
+from sqlite3 import Connection
+
+from mxf.archive import moments, schema
+from mxf.archive.answering import identity_of
+from mxf.archive.json_lines import Line
+from mxf.archive.rows import UNREADABLE, Recording, Row, number_of
+from mxf.archive.texts import words_of
+
+# The counts of a state by which it is said to have changed.
+COUNTS = ("packets", "held", "missing", "findings", "disputes", "orders")
+
+
+def insert(connection: Connection, table: str, recording: int, rows: list[Row]) -> None:
+    """Adds rows of a recording to a table."""
+    if rows:
+        names = list(rows[0])
+        columns = ", ".join(f'"{name}"' for name in names)
+        marks = ", ".join("?" for _ in names)
+        values = [(recording, *(row[name] for name in names)) for row in rows]
+        connection.executemany(f"INSERT INTO {table} (recording, {columns}) VALUES (?, {marks})", values)
+
+
+def is_known(connection: Connection, name: str) -> int | None:
+    """The number of a recording, if the database has one of this name."""
+    found = connection.execute("SELECT id FROM recordings WHERE name = ?", (name,)).fetchone()
+    return found["id"] if found else None
+
+
+def last_gathered(connection: Connection, name: str) -> str:
+    """When the last state of a recording was gathered; an empty text if there is none."""
+    found = connection.execute(
+        "SELECT s.gathered FROM recordings r JOIN states s ON s.recording = r.id AND s.number = r.state WHERE r.name = ?",
+        (name,),
+    ).fetchone()
+    return str(found["gathered"]) if found else ""
+
+
+def store(connection: Connection, recording: Recording) -> bool:
+    """Puts a recording into the database, in the place of the one of its name. Whether there was one."""
+    known = is_known(connection, recording.name)
+    if known is None:
+        connection.execute(
+            "INSERT INTO recordings (name, state, is_missing, is_damaged, is_disputed, is_changed, verified)"
+            " VALUES (?, 0, 0, 0, 0, 0, '')", (recording.name,)
+        )  # fmt: skip
+    identity = identity_of(connection, recording.name)
+    if known is not None:
+        for table in schema.REPLACED:
+            connection.execute(f"DELETE FROM {table} WHERE recording = ?", (identity,))
+    for table, rows in recording.rows.items():
+        insert(connection, table, identity, rows)
+    store_texts(connection, identity, recording)
+    number = connection.execute(
+        "SELECT coalesce(max(number), 0) + 1 FROM states WHERE recording = ?", (identity,)
+    ).fetchone()[0]
+    insert(connection, "states", identity, [{"number": number, **recording.state}])
+    facts = {**recording.facts, "state": number}
+    changes = ", ".join(f"{name} = :{name}" for name in facts)
+    connection.execute(f"UPDATE recordings SET {changes} WHERE id = :id", {**facts, "id": identity})
+    settle(connection, identity)
+    return known is not None
+
+
+def store_texts(connection: Connection, identity: int, recording: Recording) -> None:
+    """Adds the texts by whose words the recording is found, and with each word what `find` prints of its text."""
+    for what, text in recording.texts:
+        added = connection.execute("INSERT INTO texts (recording, what, text) VALUES (?, ?, ?)", (identity, what, text))
+        found = (added.lastrowid, recording.name, schema.FOUND % (f"name of {what}", text))
+        words = [(word, *found) for word in dict.fromkeys(words_of(text))]
+        connection.executemany("INSERT INTO words (word, text, found_in, found_line) VALUES (?, ?, ?, ?)", words)
+
+
+def settle(connection: Connection, identity: int) -> None:
+    """Sets what follows of a recording from its states and its verifications: whether its counts are others than on the
+    first day, when it was last found whole as its reference says, whether it is damaged, and what a list prints of it.
+    """
+    differs = " OR ".join(f"a.{name} IS NOT z.{name}" for name in COUNTS)
+    codes = ", ".join(f"'{code}'" for code in UNREADABLE)
+    last = "(SELECT max(number) FROM verifications WHERE recording = :id)"
+    connection.execute(
+        f"""UPDATE recordings SET
+          is_changed = (SELECT {differs} FROM states a, states z WHERE a.recording = :id AND z.recording = :id
+            AND a.number = 1 AND z.number = recordings.state),
+          verified = (SELECT coalesce(max(verified), '') FROM verifications
+            WHERE recording = :id AND differs = 0 AND bytes = all_bytes),
+          is_damaged = EXISTS (SELECT 1 FROM stops WHERE recording = :id)
+            OR EXISTS (SELECT 1 FROM findings WHERE recording = :id AND code IN ({codes}))
+            OR EXISTS (SELECT 1 FROM verifications WHERE recording = :id AND number = {last} AND differs > 0)
+          WHERE id = :id""", {"id": identity}
+    )  # fmt: skip
+    connection.execute(f"{schema.LISTED} WHERE id = ?", (identity,))
+
+
+def store_verification(
+    connection: Connection, identity: int, told: dict[str, str], lines: list[Line], words: list[str]
+) -> None:  # fmt: skip
+    """Adds what `verify` says: when and against what, its counts, and what differs. Its sources stand with their words."""
+    number = connection.execute(
+        "SELECT coalesce(max(number), 0) + 1 FROM verifications WHERE recording = ?", (identity,)
+    ).fetchone()[0]
+    total = next(line for line in lines if line["line"] == "verified")
+    names = ("packets", "all-packets", "bytes", "all-bytes", "differs", "cut", "unknown")
+    counts = {name.replace("-", "_"): number_of(total[name]) for name in names}
+    insert(
+        connection,
+        "verifications",
+        identity,
+        [{"number": number, "verified": moments.text_of(moments.now()), **told, **counts}],
+    )
+    differing = [line for line in lines if line["line"] in ("differs", "cut", "unknown", "unverified")]
+    rows = [difference_of(line, words) for line in differing]
+    numbered = [{"verification": number, "number": place, **row} for place, row in enumerate(rows, 1)]
+    insert(connection, "differences", identity, numbered)
+    settle(connection, identity)
+
+
+def difference_of(line: Line, words: list[str]) -> Row:
+    """What differs, is cut, unknown or unverified, as a row: from where to where its bytes go."""
+    row = {"what": line["line"], "source": words[line["source"] - 1] if "source" in line else None}
+    if "start" in line:
+        return {**row, "start": line["start"], "end": line["end"], "kind": None, "key": None}
+    end = line["offset"] + 16 + line["width"] + line["length"]
+    return {**row, "start": line["offset"], "end": end, "kind": line["kind"], "key": line["key"]}

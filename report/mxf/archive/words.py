@@ -1,0 +1,202 @@
+"""The words of a call: the commands, the words behind each, its options, and the help that tells them."""
+from __future__ import annotations
+
+import argparse
+from collections.abc import Callable, Sequence
+from typing import Any, NoReturn
+
+Words = argparse.Namespace
+
+DESCRIPTION = (
+    "Keeps what mxf_tool says of the recordings of an archive in a database, and answers what is asked of all."
+)
+EPILOG = (
+    "DB is the file of the database. A source SRC is at:OFFSET:PATH, range:OFFSET:PATH, slice:OFFSET:LENGTH:PATH or cat:PATH, "
+    "as of mxf_tool. MXF_TOOL names another program. mxf_archive COMMAND --help tells the words of a command."
+)
+
+# Stands before a word behind --, which is no option whatever it looks like: Python's parse_intermixed_args forgets a -- ahead
+# of all words that are no options. No word of a call has a zero character.
+BEHIND = "\0"
+
+
+class WordFault(Exception):
+    """Words that aren't understood: the usage of the command, if it is known, and what is wrong."""
+
+
+class Parser(argparse.ArgumentParser):
+    """A parser with the option --help alone, whose faults this program says itself, also where nobody can be told."""
+
+    def __init__(self, prog: str, description: str, **more: Any) -> None:
+        super().__init__(prog=prog, description=description, allow_abbrev=False, add_help=False, **more)
+        self.add_argument("--help", action="help", help="print this")
+
+    def error(self, message: str) -> NoReturn:
+        """Refuses the words."""
+        raise WordFault(f"{self.format_usage()}{self.prog}: error: {message}\n")
+
+
+def number(text: str) -> int:
+    """A number of digits alone, below 2^63."""
+    if not (text.isascii() and text.isdigit() and len(text) <= 19) or int(text) >= 2**63:
+        raise argparse.ArgumentTypeError("a number has digits alone, and is below 2^63")
+    return int(text)
+
+
+def word(text: str) -> str:
+    """A word that is no option."""
+    return text.removeprefix(BEHIND)
+
+
+def add_database(command: argparse.ArgumentParser) -> None:
+    """The word that names the database."""
+    command.add_argument("database", metavar="DB", type=word, help="the file of the database")
+
+
+def add_name(command: argparse.ArgumentParser) -> None:
+    """The word that names a recording."""
+    command.add_argument("name", metavar="NAME", type=word, help="the name of the recording")
+
+
+def add_sources(command: argparse.ArgumentParser) -> None:
+    """The words that name sources, and the option of a list of them."""
+    command.add_argument("source", metavar="SRC", nargs="*", default=[], type=word, help="a source")
+    command.add_argument("--sources", metavar="FILE", help="a list of sources, one a line; - is standard input")
+
+
+def add_forms(command: argparse.ArgumentParser) -> None:
+    """The options of the form that is printed."""
+    form = command.add_mutually_exclusive_group()
+    for name, said in (("csv", "print CSV"), ("json", "print a JSON object a line")):
+        form.add_argument(f"--{name}", dest="form", action="store_const", const=name, default="table", help=said)
+
+
+def of_add(command: argparse.ArgumentParser) -> None:
+    """The words of add."""
+    add_database(command)
+    of_lines(command)
+
+
+def of_lines(command: argparse.ArgumentParser) -> None:
+    """The words of lines."""
+    add_name(command)
+    command.add_argument("--catalogue", metavar="FILE", help="a saved catalogue of it, asked in place of its sources")
+    command.add_argument("--skim", action="store_true", help="pass over essence, as mxf_tool does")
+    add_sources(command)
+
+
+def of_list(command: argparse.ArgumentParser) -> None:
+    """The words of list."""
+    add_database(command)
+    what = command.add_mutually_exclusive_group()
+    for name, said in (
+        ("missing", "those that lack bytes"),
+        ("damaged", "those that can't be read, or aren't as they were"),
+        ("disputed", "those that are held in two readings"),
+        ("changed", "those that aren't as on the first day"),
+    ):
+        what.add_argument(f"--{name}", dest="what", action="store_const", const=name, default="all", help=said)
+    what.add_argument(
+        "--unverified-since", metavar="DAYS", dest="days", type=number, help="those not verified for so many days"
+    )
+    add_forms(command)
+
+
+def of_find(command: argparse.ArgumentParser) -> None:
+    """The words of find."""
+    add_database(command)
+    said = "words of a name, the end of a UMID, or a timecode"
+    command.add_argument("word", metavar="WORD", nargs="+", type=word, help=said)
+    add_forms(command)
+
+
+def of_show(command: argparse.ArgumentParser) -> None:
+    """The words of show."""
+    add_database(command)
+    add_name(command)
+    add_forms(command)
+
+
+def of_orders(command: argparse.ArgumentParser) -> None:
+    """The words of orders."""
+    add_database(command)
+    command.add_argument("--by", choices=("name", "offset"), default="name", help="what the orders go by")
+    command.add_argument("--merge", metavar="BYTES", type=number, default=0, help="orders that lie less apart are one")
+    add_forms(command)
+
+
+def of_verify(command: argparse.ArgumentParser) -> None:
+    """The words of verify."""
+    add_database(command)
+    add_name(command)
+    said = "a source of the reference; there may be several"
+    command.add_argument("--against", metavar="SOURCE", action="append", required=True, help=said)
+    add_sources(command)
+
+
+def of_match(command: argparse.ArgumentParser) -> None:
+    """The words of match."""
+    add_database(command)
+    add_sources(command)
+    add_forms(command)
+
+
+def of_load(command: argparse.ArgumentParser) -> None:
+    """The words of load."""
+    add_database(command)
+    command.add_argument("file", metavar="FILE", nargs="+", type=word, help="a file of lines; - is standard input")
+
+
+# The commands, what each does, and what adds its words.
+COMMANDS: dict[str, tuple[str, Callable[[argparse.ArgumentParser], None]]] = {
+    "add": ("put a recording into the database, or in its own place", of_add),
+    "list": ("print recordings", of_list),
+    "find": ("print which recordings have words, an identifier or a timecode", of_find),
+    "show": ("print all of a recording", of_show),
+    "orders": ("print what is to be restored", of_orders),
+    "verify": ("verify a recording, and keep what comes of it", of_verify),
+    "match": ("print of which recording fragments are, and where they lie in it", of_match),
+    "lines": ("print what add would put into the database", of_lines),
+    "load": ("put recordings into the database of which lines were printed", of_load),
+}
+
+
+def parsers() -> tuple[argparse.ArgumentParser, dict[str, argparse.ArgumentParser]]:
+    """What reads the first word, and what reads the others of each command."""
+    program = Parser("mxf_archive", DESCRIPTION, epilog=EPILOG)
+    commands = program.add_subparsers(metavar="COMMAND", required=True)
+    each: dict[str, argparse.ArgumentParser] = {}
+    for name, (said, add_words) in COMMANDS.items():
+        described = f"{said[0].upper()}{said[1:]}."
+        each[name] = commands.add_parser(name, help=said, description=described)
+        each[name].set_defaults(command=name)
+        add_words(each[name])
+    return program, each
+
+
+def read_words(given: Sequence[str]) -> Words:
+    """The fields of the words of a call. Help that is asked for is printed, and ends the program."""
+    program, commands = parsers()
+    for place, text in enumerate(given, 1):
+        if not is_text(text):
+            program.error(f"argument {place} is not UTF-8")
+    end = given.index("--") if "--" in given else len(given)
+    # An option -h of argparse would be taken for -hyphen too.
+    front = ["--help" if text == "-h" else text for text in given[:end]]
+    behind = [BEHIND + text for text in given[end + 1 :]]
+    if not front or front[0] not in commands:
+        program.parse_args(front[:1])
+    command = commands[front[0]]
+    words, unknown = command.parse_known_intermixed_args([*front[1:], *given[end : end + 1], *behind])
+    if unknown:
+        command.error(f"unrecognized arguments: {' '.join(map(word, unknown))}")
+    return words
+
+
+def is_text(text: str) -> bool:
+    """Whether a word is UTF-8."""
+    try:
+        text.encode()
+    except UnicodeEncodeError:
+        return False
+    return True

@@ -1,0 +1,124 @@
+"""The words of the command, and its run."""
+from __future__ import annotations
+
+import argparse
+import os
+import pathlib
+import re
+import signal
+import sys
+
+from mxf.report.asked import Words
+from mxf.calling import Tool
+from mxf.report.clocks import TIMECODE
+from mxf.report.database_page import page_of_database
+from mxf.faults import OUTPUT, USAGE, OwnFault, ToolFault
+from mxf.report.folder_page import page_of_folder
+from mxf.report.recording_page import page_of_recording
+from mxf.sources import is_skim, sources_of
+from mxf.report.writing import check_place, is_replaceable, write_page
+
+
+def digits(text: str) -> str:
+    """A number of digits alone."""
+    if not re.fullmatch(r"[0-9]+", text):
+        raise argparse.ArgumentTypeError("a number has digits alone")
+    return text
+
+
+def edit_unit(text: str) -> str:
+    """A number of digits alone, or a timecode."""
+    if not re.fullmatch(r"[0-9]+", text) and not TIMECODE.fullmatch(text):
+        raise argparse.ArgumentTypeError("an edit unit is a number of digits alone, or a timecode HH:MM:SS:FF")
+    return text
+
+
+DESCRIPTION = "Writes a page of a recording for people to look at, of what mxf_tool says."
+
+EPILOG = (
+    "A source SRC is at:OFFSET:PATH, range:OFFSET:PATH, slice:OFFSET:LENGTH:PATH or cat:PATH, as of mxf_tool. "
+    "MXF_TOOL names another program."
+)
+
+
+def parser() -> argparse.ArgumentParser:
+    """The words that are understood."""
+    words = argparse.ArgumentParser(prog="mxf_report", allow_abbrev=False, description=DESCRIPTION, epilog=EPILOG)
+    words.add_argument("--out", metavar="PAGE", required=True, help="the page, which is written whole or not at all")
+    words.add_argument("--title", metavar="TEXT", help="its heading; else the name of the first source")
+    words.add_argument("--index", metavar="N", type=digits, help="the index of the edit units; else all, four at most")
+    words.add_argument("--from", dest="first", metavar="N", type=edit_unit, help="the first edit unit, or its timecode")
+    words.add_argument("--to", dest="last", metavar="N", type=edit_unit, help="the last edit unit, or its timecode")
+    words.add_argument(
+        "--against", metavar="SOURCE", action="append", default=[], help="what the sources are compared with"
+    )
+    essence = words.add_mutually_exclusive_group()
+    essence.add_argument("--read", action="store_true", help="read essence too; without it --against alone does")
+    essence.add_argument("--skim", action="store_true", help="pass over essence, which the page then says; the default")
+    words.add_argument("--sources", metavar="FILE", help="a list of sources, one a line; - is standard input")
+    words.add_argument("--archive", metavar="DB", help="a page of many recordings, of a database of mxf_archive")
+    words.add_argument(
+        "--index-of", metavar="FOLDER", help="a page of many recordings, of catalogues of examples/archive"
+    )
+    words.add_argument("source", metavar="SRC", nargs="*", help="a source")
+    return words
+
+
+def write_report(words: Words) -> None:
+    """Makes the page and writes it."""
+    path = pathlib.Path(os.path.realpath(words.out))
+    try:
+        if not is_replaceable(path):
+            raise OwnFault(USAGE, f"bad output: {words.out}: it is there, and is no page")
+        check_place(path)
+        if words.archive is not None:
+            text = page_of_database(words.archive, words)
+        elif words.index_of is not None:
+            text = page_of_folder(pathlib.Path(words.index_of), words)
+        else:
+            sources = sources_of(words)
+            text = page_of_recording(Tool(sources, is_skim(words, sources)), words)
+        write_page(path, text)
+    except OSError as fault:
+        raise OwnFault(OUTPUT, f"write fault: {words.out}: {fault.strerror}") from fault
+
+
+def check_words(accepted: argparse.ArgumentParser, words: Words) -> None:
+    """Sees that sources are named, or one place that has many recordings and nothing that a page of these doesn't take."""
+    many = [name for name, value in (("--archive", words.archive), ("--index-of", words.index_of)) if value is not None]
+    if not many and not words.source and words.sources is None:
+        accepted.error("no source is named")
+    if len(many) > 1:
+        accepted.error("--archive and --index-of are two pages")
+    others = (words.sources, words.index, words.first, words.last)
+    if many and (words.source or words.against or any(other is not None for other in others)):
+        accepted.error(f"{many[0]} takes no sources and no edit units")
+    if many and (words.read or words.skim):
+        accepted.error(f"{many[0]} reads no recording, so it takes no --read and no --skim")
+
+
+def end_by_signals() -> None:
+    """Lets a signal that ends this program end its calls too, and remove what they wrote, as an interrupt does."""
+    for number in (signal.SIGHUP, signal.SIGTERM):
+        if signal.getsignal(number) == signal.SIG_DFL:
+            signal.signal(number, lambda number, _: sys.exit(128 + number))
+
+
+def main() -> int:
+    """Runs the program, and ends with its status."""
+    accepted = parser()
+    words = Words()
+    accepted.parse_intermixed_args(namespace=words)
+    check_words(accepted, words)
+    end_by_signals()
+    try:
+        write_report(words)
+    except ToolFault as fault:
+        sys.stderr.buffer.write(fault.message)
+        return fault.status
+    except OwnFault as fault:
+        print(f"mxf_report: {fault}", file=sys.stderr)
+        return fault.status
+    except KeyboardInterrupt:
+        return 130
+    return 0
