@@ -128,10 +128,62 @@ def of_orders(command: argparse.ArgumentParser) -> None:
 def of_verify(command: argparse.ArgumentParser) -> None:
     """The words of verify."""
     add_database(command)
-    add_name(command)
-    said = "a source of the reference; there may be several"
-    command.add_argument("--against", metavar="SOURCE", action="append", required=True, help=said)
+    said = "the name of the recording; without it all that were scanned"
+    command.add_argument("name", metavar="NAME", nargs="?", type=word, help=said)
+    said = "a source of the reference; there may be several; without it the first day"
+    command.add_argument("--against", metavar="SOURCE", action="append", default=[], help=said)
+    add_jobs(command)
     add_sources(command)
+    add_forms(command)
+
+
+def add_jobs(command: argparse.ArgumentParser) -> None:
+    """The option of how many recordings are asked at once."""
+    said = "how many recordings go on side by side; else as many as there are processors"
+    command.add_argument("--jobs", metavar="N", type=jobs, help=said)
+
+
+def jobs(text: str) -> int:
+    """A number of jobs."""
+    if not 1 <= number(text) <= 1000:
+        raise argparse.ArgumentTypeError("there are 1 to 1000 jobs")
+    return int(text)
+
+
+def of_scan(command: argparse.ArgumentParser) -> None:
+    """The words of scan."""
+    add_database(command)
+    command.add_argument("folder", metavar="FOLDER", type=word, help="the folder of recordings")
+    add_jobs(command)
+    said = "a file of more than so many bytes is read in slices side by side; else 4000000000"
+    command.add_argument("--large", metavar="BYTES", type=number, help=said)
+
+
+def of_accept(command: argparse.ArgumentParser) -> None:
+    """The words of accept."""
+    add_database(command)
+    add_name(command)
+    command.add_argument("--drop", action="store_true", help="also if more essence is dropped than is there")
+
+
+def of_pages(command: argparse.ArgumentParser) -> None:
+    """The words of pages."""
+    add_database(command)
+    command.add_argument("folder", metavar="FOLDER", type=word, help="the folder of the pages")
+    add_jobs(command)
+
+
+def of_remove(command: argparse.ArgumentParser) -> None:
+    """The words of remove."""
+    add_database(command)
+    command.add_argument("name", metavar="NAME", nargs="+", type=word, help="the name of a recording")
+
+
+def of_rename(command: argparse.ArgumentParser) -> None:
+    """The words of rename."""
+    add_database(command)
+    command.add_argument("old", metavar="OLD", type=word, help="the name of the recording")
+    command.add_argument("new", metavar="NEW", type=word, help="its new name")
 
 
 def of_match(command: argparse.ArgumentParser) -> None:
@@ -154,7 +206,12 @@ COMMANDS: dict[str, tuple[str, Callable[[argparse.ArgumentParser], None]]] = {
     "find": ("print which recordings have words, an identifier or a timecode", of_find),
     "show": ("print all of a recording", of_show),
     "orders": ("print what is to be restored", of_orders),
-    "verify": ("verify a recording, and keep what comes of it", of_verify),
+    "scan": ("put the recordings of a folder into the database, again only those that changed", of_scan),
+    "verify": ("verify recordings, and keep what comes of it", of_verify),
+    "accept": ("take what is there now for the first day of a recording", of_accept),
+    "pages": ("make a page of each recording that was scanned, and one of all", of_pages),
+    "rename": ("give a recording another name", of_rename),
+    "remove": ("take recordings out of the database", of_remove),
     "match": ("print of which recording fragments are, and where they lie in it", of_match),
     "lines": ("print what add would put into the database", of_lines),
     "load": ("put recordings into the database of which lines were printed", of_load),
