@@ -10,8 +10,9 @@ from collections.abc import Iterator
 
 from mxf.archive.faults import UNWRITTEN, USAGE, OwnFault, tell_own
 
-# Bytes of a name that stand for themselves in the names of files; any other stands as ^ and its two hexadecimal digits.
-PLAIN = frozenset(b"abcdefghijklmnopqrstuvwxyzABCDEFGHIJKLMNOPQRSTUVWXYZ0123456789._+,@-") | frozenset(range(128, 256))
+# Signs of a name that stand for themselves in the names of files, as letters beyond ASCII do. Any other stands as ^ and its
+# two hexadecimal digits.
+PLAIN = frozenset("abcdefghijklmnopqrstuvwxyzABCDEFGHIJKLMNOPQRSTUVWXYZ0123456789._+,@-")
 
 LONGEST = 200  # bytes of a name of a file that stand in one folder
 BEGUN = ".begun."  # before the names of files that aren't in their place yet
@@ -20,12 +21,10 @@ BEGUN = ".begun."  # before the names of files that aren't in their place yet
 def coded(name: str) -> str:
     """The path by which the files of a recording are named: signs are coded, a hyphen and a point at the front alone. A long
     name goes on in a folder, whose name has ^ at its end."""
-    parts = []
-    for place, byte in enumerate(name.encode()):
-        is_plain = byte in PLAIN and (place > 0 or byte not in b"-.")
-        parts.append(bytes([byte]) if is_plain else b"^%02X" % byte)
     lines = [b""]
-    for part in parts:
+    for place, letter in enumerate(name):
+        is_plain = letter in PLAIN and (place > 0 or letter not in "-.")
+        part = letter.encode() if is_plain or not letter.isascii() else b"^%02X" % ord(letter)
         if len(lines[-1]) + len(part) > LONGEST:
             lines.append(b"")
         lines[-1] += part
@@ -33,13 +32,22 @@ def coded(name: str) -> str:
 
 
 class Catalogues:
-    """The catalogues beside a database, DB.catalogues: one of each recording, and in the folder first those of the first
-    days."""
+    """A folder of catalogues: one of each recording, and in the folder first those of the first days."""
 
-    def __init__(self, database: str) -> None:
-        self.folder = os.path.abspath(database) + ".catalogues"
+    def __init__(self, folder: str) -> None:
+        self.folder = os.path.abspath(folder)
         if "\n" in self.folder:
-            raise OwnFault(USAGE, "the path of a database with catalogues has no line end")
+            raise OwnFault(USAGE, "the path of a folder of catalogues has no line end")
+
+    @classmethod
+    def beside(cls, database: str) -> Catalogues:
+        """The catalogues beside a database, DB.catalogues."""
+        return cls(f"{os.path.abspath(database)}.catalogues")
+
+    def make(self) -> None:
+        """Makes the folder, if there is none."""
+        with self.faults():
+            os.makedirs(os.path.join(self.folder, "first"), exist_ok=True)
 
     def of(self, name: str) -> str:
         """The catalogue of a recording."""
@@ -52,8 +60,8 @@ class Catalogues:
     @contextlib.contextmanager
     def held(self) -> Iterator[None]:
         """No other program changes the catalogues meanwhile. What one that was killed left isn't kept."""
+        self.make()
         with self.faults():
-            os.makedirs(os.path.join(self.folder, "first"), exist_ok=True)
             lock = open(os.path.join(self.folder, ".lock"), "w", encoding="utf-8")
         with lock:
             try:

@@ -7,7 +7,19 @@ import os
 import sys
 from collections.abc import Callable, Sequence
 
-from mxf.archive import adding, finding, first_days, listing, loading, matching, pages, renaming, scanning, verifying_all
+from mxf.archive import (
+    adding,
+    finding,
+    first_days,
+    listing,
+    loading,
+    matching,
+    pages,
+    parts,
+    renaming,
+    scanning,
+    verifying_all,
+)
 from mxf.archive.faults import OUTPUT, USAGE, OwnFault, ToolFault, tell, tell_own
 from mxf.archive.words import WordFault, Words, read_words
 
@@ -15,7 +27,7 @@ RUN: dict[str, Callable[[Words], int]] = {
     "add": adding.add, "list": listing.list, "find": finding.find, "show": listing.show, "orders": listing.orders,
     "verify": verifying_all.verify, "match": matching.match, "lines": adding.lines, "load": loading.load,
     "scan": scanning.scan, "accept": first_days.accept, "pages": pages.pages, "rename": renaming.rename,
-    "remove": renaming.remove,
+    "remove": renaming.remove, "join": parts.join,
 }  # fmt: skip
 
 

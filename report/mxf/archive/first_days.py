@@ -60,7 +60,7 @@ def former_names(reader: joining.Reader, first: str, gone: Sequence[str], catalo
 def accept(words: Words) -> int:
     """Renews the catalogue of the first day of a recording by what is there, and prints what that drops. The status is that
     of mxf_tool."""
-    catalogues = Catalogues(words.database)
+    catalogues = Catalogues.beside(words.database)
     with database.reading(words.database) as connection:
         found = found_of(scanned.all_of(connection), words.name)
     first = catalogues.first(words.name)

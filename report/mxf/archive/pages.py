@@ -16,7 +16,7 @@ class Pages:
 
     def __init__(self, words: Words) -> None:
         self.folder = os.path.abspath(words.folder)
-        self.catalogues = Catalogues(words.database)
+        self.catalogues = Catalogues.beside(words.database)
         self.crew = crew.Crew(words.jobs)
         self.report = os.path.join(os.path.dirname(os.path.realpath(sys.argv[0])), "mxf_report")
         if not os.path.isfile(self.report):

@@ -40,7 +40,7 @@ def check_known(connection: Connection, name: str) -> None:
 
 def remove(words: Words) -> int:
     """Takes recordings out of the database, all of them or none, and removes their catalogues."""
-    catalogues = Catalogues(words.database)
+    catalogues = Catalogues.beside(words.database)
     with database.reading(words.database) as connection:
         for name in words.name:
             check_known(connection, name)
@@ -59,7 +59,7 @@ def remove(words: Words) -> int:
 
 def rename(words: Words) -> int:
     """Gives a recording another name, with its catalogues. One that is there is never replaced."""
-    catalogues = Catalogues(words.database)
+    catalogues = Catalogues.beside(words.database)
     with database.reading(words.database) as connection:
         check_names(connection, words.old, words.new)
     database.check_place(words.database)

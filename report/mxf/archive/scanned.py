@@ -36,6 +36,10 @@ class Scanned(NamedTuple):
         """The recording as a folder holds it."""
         return folders.Found(self.name, self.folder, [folders.File(*file) for file in json.loads(self.files)])
 
+    def names(self) -> set[str]:
+        """The names of its files that are pieces, ranges or catalogues in its folder."""
+        return {file.path.partition("/")[2] for file in self.found().files}
+
     def is_joined(self) -> bool:
         """Whether its last join brought a catalogue, and its lines were kept."""
         return self.status <= 1

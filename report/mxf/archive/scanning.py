@@ -16,6 +16,7 @@ from mxf.archive.folders import Found, Looked
 from mxf.archive.gathering import Gathering
 from mxf.archive.joining import LARGE, Reader
 from mxf.archive.json_lines import Line, line_of
+from mxf.archive.parts import Joined
 from mxf.archive.rows import Recording, recordings_of
 from mxf.archive.scanned import UNREAD, Scanned
 from mxf.archive.words import Words
@@ -43,6 +44,7 @@ class Scan:
         self.database, self.folder = words.database, os.path.abspath(words.folder)
         self.looked, self.catalogues = looked, catalogues
         self.large = LARGE if words.large is None else words.large
+        self.elsewhere = Joined(words.joined) if words.joined is not None else None
         self.crew = Crew(words.jobs)
         self.known = known_in(words.database)
         self.gone = [
@@ -116,7 +118,8 @@ class Scan:
         assert reader is not None
         os.mkdir(folder)
         out = os.path.join(folder, "cat")
-        ended = reader.join(found, out, self.large)
+        is_taken = self.elsewhere is not None and self.elsewhere.take(found, out)
+        ended = Ended(0, b"", b"") if is_taken else reader.join(found, out, self.large)
         if ended.status not in range(5):
             return failed("join", ended)
         answer = Gathered(ended.status, run_ins=[one.run_in for one in reader.behind_in(found)])
@@ -240,6 +243,6 @@ def scan(words: Words) -> int:
     looked = folders.look(words.folder)
     folders.check_there(looked, words.folder)
     database.check_place(words.database)
-    catalogues = Catalogues(words.database)
+    catalogues = Catalogues.beside(words.database)
     with catalogues.held():
         return Scan(words, looked, catalogues).run()

@@ -8,7 +8,7 @@ from typing import NamedTuple
 from mxf.archive import answering, asking, database, folders, printing, scanned, storing, verifying
 from mxf.archive.catalogues import Catalogues
 from mxf.archive.crew import Crew, Ended, Progress
-from mxf.archive.faults import USAGE, OwnFault
+from mxf.archive.faults import USAGE, OwnFault, tell_own
 from mxf.archive.folders import Found
 from mxf.archive.joining import Reader
 from mxf.archive.json_lines import Line, line_of
@@ -58,7 +58,7 @@ def verify(words: Words) -> int:
 
 def verify_scanned(words: Words) -> int:
     """Verifies recordings that were scanned: the one that is named, or all. The status is 1 if one isn't as on its first day."""
-    catalogues = Catalogues(words.database)
+    catalogues = Catalogues.beside(words.database)
     with database.reading(words.database) as connection:
         known = scanned.all_of(connection)
     if words.name is not None and words.name not in known:
@@ -72,7 +72,7 @@ def verify_scanned(words: Words) -> int:
     database.check_place(words.database)
     rows = verify_all(words, catalogues, [found for found in founds if found.pieces()])
     for name in [*gone, *(found.name for found in founds if not found.pieces())]:
-        print(printing.cell(name), "is gone")
+        tell_own(printing.shown(f"{name} is gone"))
     if rows:
         printing.print_answer(words.form, HEADS, sorted(rows))
     return 1 if rows or len(founds) < len(asked) else 0

@@ -157,6 +157,25 @@ def of_scan(command: argparse.ArgumentParser) -> None:
     add_jobs(command)
     said = "a file of more than so many bytes is read in slices side by side; else 4000000000"
     command.add_argument("--large", metavar="BYTES", type=number, help=said)
+    said = "a folder of catalogues that join made, which are taken in place of reading"
+    command.add_argument("--joined", metavar="CATALOGUES", help=said)
+
+
+def of_join(command: argparse.ArgumentParser) -> None:
+    """The words of join."""
+    command.add_argument("folder", metavar="FOLDER", type=word, help="the folder of recordings")
+    command.add_argument("into", metavar="CATALOGUES", type=word, help="the folder of the catalogues")
+    said = "the recordings of one of N parts; else all"
+    command.add_argument("--part", metavar="K/N", type=part, default=(1, 1), help=said)
+    add_jobs(command)
+
+
+def part(text: str) -> tuple[int, int]:
+    """Which part is meant, of how many."""
+    which, _, parts = text.partition("/")
+    if not 1 <= number(which) <= number(parts):
+        raise argparse.ArgumentTypeError("a part is K/N, from 1/N to N/N")
+    return int(which), int(parts)
 
 
 def of_accept(command: argparse.ArgumentParser) -> None:
@@ -213,6 +232,7 @@ COMMANDS: dict[str, tuple[str, Callable[[argparse.ArgumentParser], None]]] = {
     "rename": ("give a recording another name", of_rename),
     "remove": ("take recordings out of the database", of_remove),
     "match": ("print of which recording fragments are, and where they lie in it", of_match),
+    "join": ("join recordings of a folder on one of many machines, for a scan", of_join),
     "lines": ("print what add would put into the database", of_lines),
     "load": ("put recordings into the database of which lines were printed", of_load),
 }

@@ -55,7 +55,7 @@ def kept_in(path: str) -> list[Kept]:
     """The recordings of a database of mxf_archive, by its own parts, which stand beside those of this program. They are
     loaded for this page alone."""
     answering, database, faults = (
-        importlib.import_module(f"archive.{part}") for part in ("answering", "database", "faults")
+        importlib.import_module(f"mxf.archive.{part}") for part in ("answering", "database", "faults")
     )
     try:
         with database.reading(path) as connection:
