@@ -6,9 +6,10 @@ import os
 import sys
 
 from mxf.archive import crew, database, printing, scanned
-from mxf.archive.catalogues import Catalogues, coded
+from mxf.archive.catalogues import Catalogues
 from mxf.archive.faults import READ, UNWRITTEN, OwnFault, tell_own
 from mxf.archive.words import Words
+from mxf.names import coded
 
 
 class Pages:

@@ -13,7 +13,6 @@ from mxf.calling import Tool
 from mxf.report.clocks import TIMECODE
 from mxf.report.database_page import page_of_database
 from mxf.faults import OUTPUT, USAGE, OwnFault, ToolFault
-from mxf.report.folder_page import page_of_folder
 from mxf.report.recording_page import page_of_recording
 from mxf.sources import is_skim, sources_of
 from mxf.report.writing import check_place, is_replaceable, write_page
@@ -57,9 +56,6 @@ def parser() -> argparse.ArgumentParser:
     essence.add_argument("--skim", action="store_true", help="pass over essence, which the page then says; the default")
     words.add_argument("--sources", metavar="FILE", help="a list of sources, one a line; - is standard input")
     words.add_argument("--archive", metavar="DB", help="a page of many recordings, of a database of mxf_archive")
-    words.add_argument(
-        "--index-of", metavar="FOLDER", help="a page of many recordings, of catalogues of examples/archive"
-    )
     words.add_argument("source", metavar="SRC", nargs="*", help="a source")
     return words
 
@@ -73,8 +69,6 @@ def write_report(words: Words) -> None:
         check_place(path)
         if words.archive is not None:
             text = page_of_database(words.archive, words)
-        elif words.index_of is not None:
-            text = page_of_folder(pathlib.Path(words.index_of), words)
         else:
             sources = sources_of(words)
             text = page_of_recording(Tool(sources, is_skim(words, sources)), words)
@@ -84,17 +78,15 @@ def write_report(words: Words) -> None:
 
 
 def check_words(accepted: argparse.ArgumentParser, words: Words) -> None:
-    """Sees that sources are named, or one place that has many recordings and nothing that a page of these doesn't take."""
-    many = [name for name, value in (("--archive", words.archive), ("--index-of", words.index_of)) if value is not None]
-    if not many and not words.source and words.sources is None:
+    """Sees that sources are named, or a database of many recordings and nothing that a page of these doesn't take."""
+    is_of_many = words.archive is not None
+    if not is_of_many and not words.source and words.sources is None:
         accepted.error("no source is named")
-    if len(many) > 1:
-        accepted.error("--archive and --index-of are two pages")
     others = (words.sources, words.index, words.first, words.last)
-    if many and (words.source or words.against or any(other is not None for other in others)):
-        accepted.error(f"{many[0]} takes no sources and no edit units")
-    if many and (words.read or words.skim):
-        accepted.error(f"{many[0]} reads no recording, so it takes no --read and no --skim")
+    if is_of_many and (words.source or words.against or any(other is not None for other in others)):
+        accepted.error("--archive takes no sources and no edit units")
+    if is_of_many and (words.read or words.skim):
+        accepted.error("--archive reads no recording, so it takes no --read and no --skim")
 
 
 def end_by_signals() -> None:
