@@ -8,7 +8,7 @@ import shutil
 import tempfile
 from collections.abc import Iterator
 
-from mxf.archive.faults import UNWRITTEN, USAGE, OwnFault, tell_own
+from mxf.faults import UNWRITTEN, USAGE, OwnFault, tell_own
 from mxf.names import coded
 
 BEGUN = ".begun."  # before the names of files that aren't in their place yet

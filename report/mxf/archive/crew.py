@@ -1,23 +1,19 @@
-"""Work on several recordings side by side, whose calls of mxf_tool end if this program is ended."""
+"""Work on several recordings side by side, whose calls of programs end if this one is ended."""
 from __future__ import annotations
 
-import contextlib
 import itertools
-import os
 import subprocess
-import sys
-import threading
-from collections.abc import Callable, Generator, Iterable, Iterator, Sequence
+from collections.abc import Callable, Generator, Iterable, Sequence
 from concurrent.futures import FIRST_COMPLETED, Future, ThreadPoolExecutor, wait
-from typing import NamedTuple, TypeVar
+from typing import IO, NamedTuple, TypeVar
 
-from mxf.archive.faults import NO_PROGRAM, OwnFault
-from mxf.archive.gathering import Gathering
+from mxf.calling import Call, Tool
+from mxf.faults import NO_PROGRAM, OwnFault, ToolFault
 
 Item = TypeVar("Item")
 Answer = TypeVar("Answer")
 
-OFTEN = 0.05  # seconds after which calls are ended again, of which one may have begun meanwhile
+WAITING = 2  # items that are begun ahead of each that is taken
 
 
 class Ended(NamedTuple):
@@ -29,50 +25,43 @@ class Ended(NamedTuple):
 
     def cause(self) -> str:
         """The last line that it said of faults."""
-        return last_line(self.said)
+        return ToolFault(self.status, self.said).last_line()
+
+    def checked(self) -> Ended:
+        """The call, which has to have ended with status 0 or 1."""
+        if self.status not in (0, 1):
+            raise ToolFault(self.status if self.status > 0 else 128 - self.status, self.said)
+        return self
 
 
-def last_line(said: bytes) -> str:
-    """The last line that a program said."""
-    return said.decode("utf-8", "replace").rstrip("\n").split("\n")[-1]
+class PassingCall(Call):
+    """A call of a program that has further files open."""
+
+    passed: Sequence[int] = ()
+
+    def started(self, given: IO[bytes]) -> subprocess.Popen[bytes]:
+        """The program, which reads this file."""
+        pipe = subprocess.PIPE
+        try:
+            return subprocess.Popen(self.words, stdin=given, stdout=pipe, stderr=self.faults, pass_fds=self.passed)
+        except OSError as fault:
+            raise OwnFault(NO_PROGRAM, f"{self.words[0]} can't be run: {fault.strerror}") from fault
 
 
 class Crew:
-    """Threads that call programs."""
+    """Threads that call mxf_tool and other programs."""
 
-    def __init__(self, jobs: int | None) -> None:
-        self.jobs = jobs or os.cpu_count() or 1
-        self.processes: set[subprocess.Popen[bytes]] = set()
-        self.gatherings: set[Gathering] = set()
-        self.lock = threading.Lock()
+    def __init__(self, jobs: int) -> None:
+        self.jobs = jobs
+        self.tool = Tool(is_silent=True)
 
     def call(self, words: Sequence[str], given: str = "", passed: Sequence[int] = ()) -> Ended:
         """Calls a program, which reads what is given, and has these files open."""
-        pipe = subprocess.PIPE
-        try:
-            process = subprocess.Popen(words, stdin=pipe, stdout=pipe, stderr=pipe, pass_fds=passed)
-        except OSError as fault:
-            raise OwnFault(NO_PROGRAM, f"{words[0]} can't be run: {fault.strerror}") from fault
-        with self.lock:
-            self.processes.add(process)
-        try:
-            printed, said = process.communicate(given.encode())
-        finally:
-            with self.lock:
-                self.processes.discard(process)
-        return Ended(process.returncode, printed, said)
-
-    @contextlib.contextmanager
-    def gathering(self, asked: Gathering) -> Iterator[Gathering]:
-        """What asks mxf_tool of a recording, and ends with the others."""
-        with self.lock:
-            self.gatherings.add(asked)
-        try:
-            with asked:
-                yield asked
-        finally:
-            with self.lock:
-                self.gatherings.discard(asked)
+        call = PassingCall(words, given.encode())
+        call.passed = passed
+        with self.tool.begun(call):
+            printed = b"".join(text + b"\n" for text in call.texts())
+        return Ended(call.status, printed, call.said)
 
     def each(
         self, work: Callable[[Item], Answer], items: Iterable[Item]
@@ -80,7 +69,7 @@ class Crew:
         """The items, each when the work on it is done, whatever comes of it. Few of them are under way at once."""
         rest = iter(items)
         with ThreadPoolExecutor(self.jobs) as threads:
-            begun = {threads.submit(work, item): item for item in itertools.islice(rest, 2 * self.jobs)}
+            begun = {threads.submit(work, item): item for item in itertools.islice(rest, WAITING * self.jobs)}
             try:
                 while begun:
                     for future in wait(begun, return_when=FIRST_COMPLETED).done:
@@ -88,37 +77,6 @@ class Crew:
                         begun.update((threads.submit(work, one), one) for one in itertools.islice(rest, 1))
                         yield item, future
             except BaseException:
-                self.end(begun)
+                threads.shutdown(wait=False, cancel_futures=True)
+                self.tool.stop()
                 raise
-
-    def end(self, begun: Iterable[Future[Answer]]) -> None:
-        """Ends all calls, until no thread goes on."""
-        left = {future for future in begun if not future.cancel()}
-        while left:
-            with self.lock:
-                calls = [call for one in self.gatherings for call in (*one.calls, *one.units.values(), one.tool.first)]
-                processes = [*self.processes, *(call.process for call in calls if call.process)]
-            for process in processes:
-                process.terminate()
-            left = wait(left, timeout=OFTEN).not_done
-
-
-class Progress:
-    """How far it is, on a terminal alone."""
-
-    def __init__(self, of: int, what: str) -> None:
-        self.of, self.what, self.done = of, what, 0
-        self.is_shown = sys.stderr.isatty()
-
-    def step(self) -> None:
-        """One more is done."""
-        self.done += 1
-        if self.is_shown:
-            sys.stderr.write(f"\r{self.what} {self.done} of {self.of}\x1b[K")
-            sys.stderr.flush()
-
-    def clear(self) -> None:
-        """Takes the line away, before another is printed."""
-        if self.is_shown and self.done:
-            sys.stderr.write("\r\x1b[K")
-            sys.stderr.flush()

@@ -6,18 +6,10 @@ import os
 import sys
 from collections.abc import Sequence
 
-from mxf.archive import asking, crew, database, folders, joining, scanned
+from mxf.archive import crew, database, folders, joining, scanned
 from mxf.archive.catalogues import Catalogues
-from mxf.archive.crew import Ended
-from mxf.archive.faults import USAGE, OwnFault, ToolFault
+from mxf.faults import USAGE, OwnFault, ToolFault
 from mxf.archive.words import Words
-
-
-def checked(ended: Ended) -> Ended:
-    """A call that has to have ended with status 0 or 1."""
-    if ended.status not in (0, 1):
-        raise ToolFault(ended.status if ended.status > 0 else 128 - ended.status, ended.said)
-    return ended
 
 
 def alone(reader: joining.Reader, found: folders.Found, folder: str) -> folders.Found:
@@ -29,7 +21,7 @@ def alone(reader: joining.Reader, found: folders.Found, folder: str) -> folders.
     each = []
     for number, file in enumerate(pieces):
         name = f"{number}.cat"
-        checked(reader.call(["join", "--out", os.path.join(folder, name)], found, [file]))
+        reader.call(["join", "--out", os.path.join(folder, name)], found, [file]).checked()
         each.append(folders.File("cat", None, name, None, None))
     return folders.Found(found.name, folder, each)
 
@@ -39,7 +31,7 @@ def join_first(reader: joining.Reader, found: folders.Found, folder: str) -> str
     out = os.path.join(folder, "first")
     try:
         pieces = alone(reader, found, folder)
-        checked(reader.call(["join", "--out", out], pieces, pieces.files))
+        reader.call(["join", "--out", out], pieces, pieces.files).checked()
     except ToolFault:
         return ""
     return out
@@ -52,7 +44,7 @@ def former_names(reader: joining.Reader, first: str, gone: Sequence[str], catalo
         return []
     listed = "".join(f"cat:{catalogues.first(name)}\n" for name in known)
     ended = reader.crew.call([reader.program, "find", "--json", "--recordings", "-", f"cat:{first}"], listed)
-    found = [line for line in map(json.loads, checked(ended).printed.splitlines()) if line["line"] == "found"]
+    found = [line for line in map(json.loads, ended.checked().printed.splitlines()) if line["line"] == "found"]
     are_most = [line for line in found if line["offset"] == 0 and 2 * line["packets"] > line["all-packets"]]
     return [known[line["recording"] - 1] for line in are_most]
 
@@ -66,14 +58,12 @@ def accept(words: Words) -> int:
     first = catalogues.first(words.name)
     if not os.path.exists(first):
         raise OwnFault(USAGE, f"no first day: {words.name}")
-    tool = asking.Tool()
-    tool.version()
-    reader = joining.Reader(crew.Crew(None), tool.program)
+    reader = joining.Reader(crew.Crew(1))
     with catalogues.held(), catalogues.begun() as folder:
         pieces = alone(reader, found, folder)
         drop = ["--drop"] if words.drop else []
         ended = reader.call(["renew", *drop, "--out", first, "--old", f"cat:{first}"], pieces, pieces.files)
-    sys.stdout.write(checked(ended).printed.decode("utf-8", "replace"))
+    sys.stdout.write(ended.checked().printed.decode("utf-8", "replace"))
     return ended.status
 
 

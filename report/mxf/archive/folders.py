@@ -8,7 +8,7 @@ import stat
 from collections.abc import Iterator
 from typing import NamedTuple
 
-from mxf.archive.faults import READ, OwnFault
+from mxf.faults import READ, OwnFault
 
 # The first bytes of the key of a partition pack (ST 377-1), and the three behind them in a header partition pack.
 PACK = bytes.fromhex("060e2b34020501010d0102")

@@ -11,8 +11,6 @@ from typing import IO, NamedTuple
 from mxf.archive.crew import Crew, Ended
 from mxf.archive.folders import File, Found, run_in_of
 
-LARGE = 4_000_000_000  # bytes of a recording that slices of it are joined side by side
-
 
 class Behind(NamedTuple):
     """A file that begins behind a run-in, and how long that is."""
@@ -24,8 +22,9 @@ class Behind(NamedTuple):
 class Reader:
     """What calls mxf_tool of the files of recordings."""
 
-    def __init__(self, crew: Crew, program: str) -> None:
-        self.crew, self.program = crew, program
+    def __init__(self, crew: Crew) -> None:
+        self.crew, self.version = crew, crew.tool.version()
+        self.program = crew.tool.program
 
     def behind_in(self, found: Found) -> list[Behind]:
         """The files of a recording that begin behind a run-in. Beside ranges none is looked for, since each call reads them

@@ -6,8 +6,9 @@ import os
 import sys
 
 from mxf.archive import crew, database, printing, scanned
+from mxf.archive.adding import Progress
 from mxf.archive.catalogues import Catalogues
-from mxf.archive.faults import READ, UNWRITTEN, OwnFault, tell_own
+from mxf.faults import READ, UNWRITTEN, OwnFault, tell_own
 from mxf.archive.words import Words
 from mxf.names import coded
 
@@ -74,7 +75,7 @@ def pages(words: Words) -> int:
 def make_all(made: Pages, changed: list[scanned.Scanned]) -> list[str]:
     """Makes pages side by side, and answers why some couldn't be made."""
     faults = []
-    progress = crew.Progress(len(changed), "pages")
+    progress = Progress(len(changed))
     with contextlib.closing(made.crew.each(made.make, changed)) as each:
         for one, done in each:
             try:
@@ -83,6 +84,6 @@ def make_all(made: Pages, changed: list[scanned.Scanned]) -> list[str]:
             except OSError as fault:
                 cause = f"{fault.filename}: {fault.strerror}"
             faults += [f"{one.name}: {cause}"] if cause else []
-            progress.step()
-    progress.clear()
+            progress.tell(len(faults))
+    progress.end()
     return faults

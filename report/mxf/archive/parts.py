@@ -6,12 +6,12 @@ import json
 import os
 import shutil
 
-from mxf.archive import asking, crew, folders, printing
+from mxf.archive import crew, folders, printing
 from mxf.archive.catalogues import Catalogues
-from mxf.archive.faults import OwnFault, tell_own
+from mxf.faults import OwnFault, tell_own
 from mxf.archive.folders import Found
-from mxf.archive.joining import LARGE, Reader
-from mxf.archive.words import Words
+from mxf.archive.joining import Reader
+from mxf.archive.words import LARGE, Words
 
 
 class Joined:
@@ -66,10 +66,8 @@ def join(words: Words) -> int:
     changed = [found for found in asked if not found.fault and not joined.has(found)]
     if not changed:
         return 0
-    tool = asking.Tool()
-    tool.version()
     workers = crew.Crew(words.jobs)
-    reader = Reader(workers, tool.program)
+    reader = Reader(workers)
     status = 0
     with contextlib.closing(workers.each(lambda found: joined.make(reader, found), changed)) as each:
         for found, done in each:

@@ -3,10 +3,9 @@ from __future__ import annotations
 
 from sqlite3 import Connection
 
-from mxf.archive import answering, database, printing, scanned, schema, storing
+from mxf.archive import answering, database, printing, scanned, storing
 from mxf.archive.catalogues import Catalogues
-from mxf.archive.faults import USAGE, OwnFault
-from mxf.archive.texts import words_of
+from mxf.faults import USAGE, OwnFault
 from mxf.archive.words import Words
 
 
@@ -17,19 +16,7 @@ def rename_row(connection: Connection, old: str, new: str) -> None:
     if known is None or storing.is_known(connection, new) is not None:
         return
     connection.execute("UPDATE recordings SET name = ? WHERE id = ?", (new, known))
-    texts = connection.execute("SELECT id, what, text FROM texts WHERE recording = ?", (known,)).fetchall()
-    connection.execute("DELETE FROM texts WHERE recording = ?", (known,))
-    for what, text in [(row["what"], row["text"]) for row in texts]:
-        store_text(connection, known, new, what, new if what == "recording" else text)
-    storing.settle(connection, known)
-
-
-def store_text(connection: Connection, identity: int, name: str, what: str, text: str) -> None:
-    """Adds a text by whose words a recording is found."""
-    added = connection.execute("INSERT INTO texts (recording, what, text) VALUES (?, ?, ?)", (identity, what, text))
-    found = (added.lastrowid, name, schema.FOUND % (f"name of {what}", text))
-    words = [(word, *found) for word in dict.fromkeys(words_of(text))]
-    connection.executemany("INSERT INTO words (word, text, found_in, found_line) VALUES (?, ?, ?, ?)", words)
+    connection.execute("UPDATE texts SET text = ? WHERE recording = ? AND what = 'recording'", (new, known))
 
 
 def check_known(connection: Connection, name: str) -> None:
@@ -42,16 +29,16 @@ def remove(words: Words) -> int:
     """Takes recordings out of the database, all of them or none, and removes their catalogues."""
     catalogues = Catalogues.beside(words.database)
     with database.reading(words.database) as connection:
-        for name in words.name:
+        for name in words.names:
             check_known(connection, name)
     database.check_place(words.database)
     with catalogues.held():
         with database.writing(words.database) as connection:
-            for name in words.name:
+            for name in words.names:
                 check_known(connection, name)
                 connection.execute("DELETE FROM recordings WHERE name = ?", (name,))
                 scanned.forget(connection, name)
-        for name in words.name:
+        for name in words.names:
             catalogues.remove(name)
             print("removed", printing.cell(name))
     return 0

@@ -8,18 +8,6 @@ from typing import NamedTuple
 
 from mxf.archive import folders
 
-# Whether a database has the table, which the first scan makes.
-IS_THERE = "SELECT count(*) FROM sqlite_master WHERE type = 'table' AND name = 'scanned'"
-TABLE = """
-CREATE TABLE IF NOT EXISTS scanned (
-  name TEXT PRIMARY KEY,
-  folder TEXT NOT NULL,
-  files TEXT NOT NULL,
-  status INTEGER NOT NULL,
-  is_gone INTEGER NOT NULL
-) STRICT, WITHOUT ROWID
-"""
-
 UNREAD = 1000  # the status of a recording of which a call failed otherwise than by its pieces and catalogues
 
 
@@ -52,15 +40,12 @@ def scanned_of(found: folders.Found, status: int) -> Scanned:
 
 def all_of(connection: Connection) -> dict[str, Scanned]:
     """All that were scanned, by their names."""
-    if not connection.execute(IS_THERE).fetchone()[0]:
-        return {}
     rows = connection.execute("SELECT name, folder, files, status, is_gone FROM scanned ORDER BY name")
     return {row[0]: Scanned(row[0], row[1], row[2], row[3], bool(row[4])) for row in rows}
 
 
 def keep(connection: Connection, one: Scanned) -> None:
     """Keeps what was scanned of a recording."""
-    connection.execute(TABLE)
     connection.execute("INSERT OR REPLACE INTO scanned VALUES (?, ?, ?, ?, ?)", (*one[:4], int(one.is_gone)))
 
 
@@ -71,11 +56,9 @@ def mark_gone(connection: Connection, names: Iterable[str]) -> None:
 
 def forget(connection: Connection, name: str) -> None:
     """Removes what is kept of a recording that was scanned."""
-    if connection.execute(IS_THERE).fetchone()[0]:
-        connection.execute("DELETE FROM scanned WHERE name = ?", (name,))
+    connection.execute("DELETE FROM scanned WHERE name = ?", (name,))
 
 
 def rename(connection: Connection, old: str, new: str) -> None:
     """Gives a recording that was scanned another name."""
-    if connection.execute(IS_THERE).fetchone()[0]:
-        connection.execute("UPDATE scanned SET name = ? WHERE name = ?", (new, old))
+    connection.execute("UPDATE scanned SET name = ? WHERE name = ?", (new, old))

@@ -8,18 +8,20 @@ import shutil
 from collections.abc import Sequence
 from concurrent.futures import Future
 
-from mxf.archive import asking, database, first_days, folders, printing, renaming, scanned, storing
+from mxf.archive import database, first_days, folders, printing, renaming, scanned, storing
 from mxf.archive.catalogues import Catalogues
-from mxf.archive.crew import Crew, Ended, Progress, last_line
-from mxf.archive.faults import OwnFault, ToolFault, tell_own
+from mxf.archive.adding import Progress, cause_of
+from mxf.archive.crew import Crew, Ended
+from mxf.faults import OwnFault, ToolFault, tell_own
 from mxf.archive.folders import Found, Looked
-from mxf.archive.gathering import Gathering
-from mxf.archive.joining import LARGE, Reader
-from mxf.archive.json_lines import Line, line_of
+from mxf.archive.gathering import Gathering, Named
+from mxf.archive.joining import Reader
 from mxf.archive.parts import Joined
 from mxf.archive.rows import Recording, recordings_of
 from mxf.archive.scanned import UNREAD, Scanned
 from mxf.archive.words import Words
+from mxf.lines import Line, line_of
+from mxf.sources import Sources
 
 MOST_OTHERS = 20  # that are named of what isn't looked at
 
@@ -43,7 +45,7 @@ class Scan:
     def __init__(self, words: Words, looked: Looked, catalogues: Catalogues) -> None:
         self.database, self.folder = words.database, os.path.abspath(words.folder)
         self.looked, self.catalogues = looked, catalogues
-        self.large = LARGE if words.large is None else words.large
+        self.large = words.large
         self.elsewhere = Joined(words.joined) if words.joined is not None else None
         self.crew = Crew(words.jobs)
         self.known = known_in(words.database)
@@ -97,19 +99,16 @@ class Scan:
 
     def gather_all(self, changed: list[Found]) -> None:
         """Gathers recordings side by side, and stores each by itself."""
-        tool = asking.Tool()
-        tool.version()
-        self.reader = Reader(self.crew, tool.program)
-        progress = Progress(len(changed), "scanned")
+        self.reader = Reader(self.crew)
+        progress = Progress(len(changed))
         with self.catalogues.begun() as folder:
             places = [(found, os.path.join(folder, str(number))) for number, found in enumerate(changed)]
             with contextlib.closing(self.crew.each(self.gathered, places)) as each:
                 for (found, place), done in each:
-                    progress.clear()
                     self.finish(found, done)
                     shutil.rmtree(place, ignore_errors=True)
-                    progress.step()
-            progress.clear()
+                    progress.tell(len(self.faults))
+            progress.end()
 
     def gathered(self, given: tuple[Found, str]) -> Gathered:
         """Joins a recording, and asks for its lines."""
@@ -150,22 +149,20 @@ class Scan:
         """What mxf_tool says of a recording, by its catalogue, unless it has ranges. Which file is damaged the catalogue
         doesn't tell."""
         named = [found.word_of(file) for file in reader.numbers_of(found, found.files)]
-        sources = asking.Sources([word for word in named if "\n" in word], [word for word in named if "\n" not in word])
-        with self.crew.gathering(Gathering(found.name, sources, self.catalogues.of(found.name), False)) as asked:
-            lines = asked.gather()
-            if is_damaged and not found.has_ranges():
-                add_stops(lines, reader, found, len(asked.origins))
-            (recording,) = recordings_of(lines, asked.tool.program)
+        sources = Sources([word for word in named if "\n" in word], [word for word in named if "\n" not in word])
+        asked = Gathering(self.crew.tool, Named(found.name, sources, self.catalogues.of(found.name)), is_beside=False)
+        lines = asked.gather()
+        if is_damaged and not found.has_ranges():
+            add_stops(lines, reader, found, len(asked.origins))
+        (recording,) = recordings_of(lines, reader.program)
         return recording
 
     def finish(self, found: Found, done: Future[Gathered]) -> None:
         """Stores what came of a recording."""
         try:
             answer = done.result()
-        except ToolFault as fault:
-            answer = Gathered(UNREAD, f"mxf_tool ended with status {fault.status}: {last_line(fault.message)}")
-        except OwnFault as fault:
-            answer = Gathered(UNREAD, str(fault))
+        except (ToolFault, OwnFault) as fault:
+            answer = Gathered(UNREAD, cause_of(fault))
         except OSError as fault:
             answer = Gathered(UNREAD, f"{fault.filename}: {fault.strerror}")
         for length in answer.run_ins:
@@ -218,9 +215,8 @@ def known_in(path: str) -> dict[str, Scanned]:
 
 def add_stops(lines: list[Line], reader: Reader, found: Found, origins: int) -> None:
     """Adds behind the lines of the sources how each of them ends, as `add` does."""
-    ended = first_days.checked(reader.call(["check", "--json"], found, found.files))
-    said = [line_of(text, reader.program) for text in ended.printed.splitlines()]
-    stops = [line for line in said if line["line"] == "stop"]
+    ended = reader.call(["check", "--json"], found, found.files).checked()
+    stops = [line for line in map(line_of, ended.printed.splitlines()) if line["line"] == "stop"]
     lines[1 + origins : 1 + origins] = [{"line": "asked", "command": "check"}, *stops]
     lines[-1]["lines"] = len(lines)
 

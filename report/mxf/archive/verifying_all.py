@@ -5,13 +5,14 @@ import contextlib
 import os
 from typing import NamedTuple
 
-from mxf.archive import answering, asking, database, folders, printing, scanned, storing, verifying
+from mxf.archive import answering, database, folders, printing, scanned, storing, verifying
 from mxf.archive.catalogues import Catalogues
-from mxf.archive.crew import Crew, Ended, Progress
-from mxf.archive.faults import USAGE, OwnFault, tell_own
+from mxf.archive.adding import Progress
+from mxf.archive.crew import Crew, Ended
+from mxf.faults import USAGE, OwnFault, tell_own
 from mxf.archive.folders import Found
 from mxf.archive.joining import Reader
-from mxf.archive.json_lines import Line, line_of
+from mxf.lines import Line, line_of
 from mxf.archive.words import Words
 
 COUNTS = ("packets", "all-packets", "bytes", "all-bytes", "differs", "cut", "unknown")
@@ -47,13 +48,7 @@ class Verified(NamedTuple):
 
 def verify(words: Words) -> int:
     """Verifies a recording against the sources that are named, or those that were scanned against their first days."""
-    if words.against:
-        if words.name is None:
-            raise OwnFault(USAGE, "no recording is named")
-        return verifying.verify(words)
-    if words.source or words.sources is not None:
-        raise OwnFault(USAGE, "sources are verified --against a reference")
-    return verify_scanned(words)
+    return verifying.verify(words) if words.against else verify_scanned(words)
 
 
 def verify_scanned(words: Words) -> int:
@@ -90,10 +85,9 @@ def found_in(places: set[str]) -> dict[tuple[str, str], Found]:
 
 def verify_all(words: Words, catalogues: Catalogues, founds: list[Found]) -> list[tuple[object, ...]]:
     """Verifies recordings side by side, and keeps what comes of each. The rows of those that fail."""
-    tool = asking.Tool()
-    version, crew = tool.version(), Crew(words.jobs)
-    reader = Reader(crew, tool.program)
-    progress = Progress(len(founds), "verified")
+    crew = Crew(words.jobs)
+    reader = Reader(crew)
+    progress = Progress(len(founds))
     rows = []
 
     def verified(found: Found) -> Verified:
@@ -104,12 +98,12 @@ def verify_all(words: Words, catalogues: Catalogues, founds: list[Found]) -> lis
         for found, done in each:
             answer = done.result()
             if not answer.fault:
-                against = {"program": version, "against": f"cat:{catalogues.first(found.name)}"}
+                against = {"program": reader.version, "against": f"cat:{catalogues.first(found.name)}"}
                 keep(words.database, found.name, against, answer)
             if answer.status or answer.why():
                 rows.append(answer.row(found.name))
-            progress.step()
-    progress.clear()
+            progress.tell(len(rows))
+    progress.end()
     return rows
 
 
@@ -119,7 +113,7 @@ def verified_of(reader: Reader, found: Found, first: str) -> Verified:
     ended = reader.call(["verify", "--json", "--against", f"cat:{first}"], found, pieces)
     if ended.status not in (0, 1):
         return Verified(ended.status, [], [], cause_of(ended))
-    lines = [line_of(text, reader.program) for text in ended.printed.splitlines()]
+    lines = [line_of(text) for text in ended.printed.splitlines()]
     return Verified(ended.status, lines, [found.word_of(file) for file in pieces], "")
 
 
