@@ -365,6 +365,10 @@ def try_first_day_killed(t: Trial) -> None:
     ended = here.scan()
     t.verdict("it is told by the next scan", "renamed is blocks\n" in ended.out, ended.out)
     t.equal("and keeps its first day", here.cat("first/renamed"), first)
+    former = here.put("former/0.piece", t.m)
+    (here.catalogues / "first/former.cat").write_bytes(first)
+    here.scan()
+    t.equal("a first day that was there before the first scan stays", (former.exists(), here.cat("first/former")), (True, first))
 
 
 def try_side_by_side(t: Trial, here: Folder) -> None:
@@ -650,6 +654,7 @@ def try_others(t: Trial) -> None:
     (here.recordings / "empty").mkdir()
     (here.recordings / "linked.mxf").symlink_to(here.recordings / "flat.mxf")
     (here.recordings / "nowhere").symlink_to("/none")
+    (here.recordings / "itself").symlink_to("itself")
     (pathlib.Path(os.fsdecode(os.fsencode(here.recordings) + b"/\xff.mxf"))).write_bytes(t.m)
     ended = here.scan()
     out, err = set(ended.out.splitlines()), set(ended.err.splitlines())
@@ -987,6 +992,7 @@ def try_join(t: Trial) -> None:
     t.equal("but for what changed, and what is damaged", joins.read_text(), "\n\n")
     t.equal("the catalogues are those that were taken", here.cat("0"), (into / "0.cat").read_bytes())
     t.equal("with their first days", here.verify()[:2], (0, []))
+    t.equal("a folder of catalogues that isn't there is refused", here.scan("--joined", here.root / "none").status, 3)
 
 
 def main() -> None:

@@ -82,7 +82,7 @@ def look(folder: str) -> Looked:
     for entry in sorted(entries_of(folder), key=lambda one: os.fsencode(one.name)):
         if not is_text(entry.name):
             looked.others.append((entry.name, UNNAMED))
-        elif entry.is_dir():
+        elif os.path.isdir(entry.path):
             add_folder(looked, folder, entry.name)
         elif entry.name.lower().endswith(".mxf") and len(entry.name) > len(".mxf"):
             add_whole(looked, folder, entry.name)

@@ -8,7 +8,7 @@ import shutil
 
 from mxf.archive import crew, folders, printing
 from mxf.archive.catalogues import Catalogues
-from mxf.faults import OwnFault, tell_own
+from mxf.faults import READ, OwnFault, tell_own
 from mxf.archive.folders import Found
 from mxf.archive.joining import Reader
 from mxf.archive.words import LARGE, Words
@@ -19,6 +19,13 @@ class Joined:
 
     def __init__(self, folder: str) -> None:
         self.catalogues = Catalogues(folder)
+
+    @classmethod
+    def there(cls, folder: str) -> Joined:
+        """A folder of catalogues that is there."""
+        if not os.path.isdir(folder):
+            raise OwnFault(READ, f"read fault: {folder}: No such folder")
+        return cls(folder)
 
     def has(self, found: Found) -> bool:
         """Whether the catalogue of a recording is there, made of the files that are there now."""

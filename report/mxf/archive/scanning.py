@@ -46,7 +46,7 @@ class Scan:
         self.database, self.folder = words.database, os.path.abspath(words.folder)
         self.looked, self.catalogues = looked, catalogues
         self.large = words.large
-        self.elsewhere = Joined(words.joined) if words.joined is not None else None
+        self.elsewhere = Joined.there(words.joined) if words.joined is not None else None
         self.crew = Crew(words.jobs)
         self.known = known_in(words.database)
         self.gone = [
