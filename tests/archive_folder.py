@@ -681,7 +681,8 @@ def try_others(t: Trial) -> None:
         t.verdict(f"it is named: {said}", f"mxf_archive: {said}" in err, ended.err)
     no_piece = "in the folder of a recording these are OFFSET.piece, OFFSET.range or NAME.cat"
     for name, reason in (("notes.txt", "it is no folder, and no file NAME.mxf"), ("deep/other.mxf", no_piece),
-                         ("nowhere", "it is no folder, and no file NAME.mxf"), ("\ufffd.mxf", "its name isn't UTF-8")):  # fmt: skip
+                         ("nowhere", "it is no folder, and no file NAME.mxf"), ("itself", "it is no folder, and no file NAME.mxf"),
+                         ("\ufffd.mxf", "its name isn't UTF-8")):  # fmt: skip
         t.equal(f"what isn't looked at is named: {name}", ended.out.count(f"not looked at: {name}: {reason}\n"), 1)
     orders = [row for row in here.orders() if row[0] == "wrong"]
     t.equal(
@@ -995,6 +996,32 @@ def try_join(t: Trial) -> None:
     t.equal("a folder of catalogues that isn't there is refused", here.scan("--joined", here.root / "none").status, 3)
 
 
+def try_places(t: Trial) -> None:
+    """Folders that are named from where the program is called, two databases of one folder, and one that is lost."""
+    here = Folder(t, "places")
+    here.put("flat.mxf", t.m)
+    here.put("halves/0.piece", t.m[:108])
+    here.put("halves/108.piece", t.m[108:])
+    ended = t.archive("scan", "archive.db", "recordings", cwd=here.root)
+    t.equal("a folder and a database that are named from where mxf_archive is called", ended.status, 0)
+    paths = here.sql("SELECT path FROM sources WHERE number = 1 ORDER BY path")
+    wanted = [(f"{here.recordings}/{name}",) for name in ("flat.mxf", "halves/0.piece")]
+    t.equal("their paths go from the root on", paths, wanted)
+    second = here.root / "second.db"
+    t.equal("a second database has all too", t.archive("scan", second, here.recordings).out.count("added "), 2)
+    touch(here.recordings / "flat.mxf")
+    here.scan()
+    t.verdict("and what the first was given already", "replaced flat\n" in t.archive("scan", second, here.recordings).out)
+    first = here.cat("first/halves")
+    (here.recordings / "halves/0.piece").unlink()
+    for path in here.root.glob("archive.db*"):
+        if path.is_file():
+            path.unlink()
+    t.equal("one that is lost is made again", here.scan().out.count("added "), 2)
+    t.equal("with the first days that were there", here.cat("first/halves"), first)
+    t.equal("so what was taken away is seen", [row[:1] for row in here.verify()[1]], [("halves",)])
+
+
 def main() -> None:
     """Tries all."""
     t = Trial(*sys.argv[1:4])
@@ -1002,16 +1029,8 @@ def main() -> None:
     for trial in (try_stretches, try_growing, try_damage, try_failures, try_side_by_side, try_full_disk, try_verify, try_accept,
                   try_match, try_loss, try_unmounted):  # fmt: skip
         trial(t, here)
-    for alone in (
-        try_first_day_killed,
-        try_signals,
-        try_others,
-        try_odd_names,
-        try_many,
-        try_restores,
-        try_minute,
-        try_join,
-    ):
+    for alone in (try_first_day_killed, try_signals, try_others, try_places, try_odd_names, try_many, try_restores, try_minute,
+                  try_join):  # fmt: skip
         alone(t)
     print(f"{t.passed} passed, {t.failed} failed")
 
