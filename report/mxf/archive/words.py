@@ -94,14 +94,14 @@ def add_database(command: argparse.ArgumentParser) -> None:
     command.add_argument("database", metavar="DB", type=word, help="the file of the database")
 
 
-def add_name(command: argparse.ArgumentParser, **more: Any) -> None:
+def add_name(command: argparse.ArgumentParser) -> None:
     """The word that names a recording."""
-    command.add_argument("name", metavar="NAME", type=word, help="the name of the recording", **more)
+    command.add_argument("name", metavar="NAME", type=word, help="the name of the recording")
 
 
-def add_sources(command: argparse.ArgumentParser) -> None:
+def add_sources(command: argparse.ArgumentParser, metavar: str = "SRC", said: str = "a source") -> None:
     """The words that name sources, and the option of a list of them."""
-    command.add_argument("source", metavar="SRC", nargs="*", default=[], type=word, help="a source")
+    command.add_argument("source", metavar=metavar, nargs="*", default=[], type=word, help=said)
     command.add_argument("--sources", metavar="FILE", help="a list of sources, one a line; - is standard input")
 
 
@@ -115,20 +115,21 @@ def add_forms(command: argparse.ArgumentParser) -> None:
 def of_add(command: argparse.ArgumentParser) -> None:
     """The words of add."""
     add_database(command)
-    add_name(command, nargs="?")
-    add_asked(command)
+    add_asked(command, metavar="NAME SRC", said="the name of the recording, and its sources")
     said = "a list of recordings, each a line with its name and its sources, and a tab before each source; - is standard input"
     command.add_argument("--list", dest="listed", metavar="FILE", help=said)
-    command.add_argument("--jobs", metavar="N", type=number_from_1, default=1, help="how many of a list are asked for at once (1)")
+    said = "how many of a list are asked for at once (1)"
+    command.add_argument("--jobs", metavar="N", type=number_from_1, default=1, help=said)
 
 
 def check_add(words: Words) -> None:
-    """Sees that a recording is named, or a list and nothing of one recording."""
-    if words.listed is None and words.name is None:
+    """Takes the name of a recording, which stands before its sources. Either that is named or a list."""
+    words.name, words.source = next(iter(words.source), ""), words.source[1:]
+    if words.listed is None and not words.name:
         raise argparse.ArgumentTypeError("the following arguments are required: NAME")
     if words.listed is None and words.jobs != 1:
         raise argparse.ArgumentTypeError("argument --jobs: not allowed without argument --list")
-    if words.listed is not None and (words.name is not None or words.sources is not None or words.catalogue is not None):
+    if words.listed is not None and (words.name or words.sources is not None or words.catalogue is not None):
         raise argparse.ArgumentTypeError("argument --list: not allowed with NAME, --sources or --catalogue")
 
 
@@ -138,11 +139,11 @@ def of_lines(command: argparse.ArgumentParser) -> None:
     add_asked(command)
 
 
-def add_asked(command: argparse.ArgumentParser) -> None:
+def add_asked(command: argparse.ArgumentParser, **named: str) -> None:
     """The words that say what is asked of a recording."""
     command.add_argument("--catalogue", metavar="FILE", help="a saved catalogue of it, asked in place of its sources")
     command.add_argument("--skim", action="store_true", help="pass over essence, as mxf_tool does")
-    add_sources(command)
+    add_sources(command, **named)
 
 
 def of_list(command: argparse.ArgumentParser) -> None:
