@@ -419,7 +419,7 @@ def try_signals(t: Trial) -> None:
         scan = subprocess.Popen(
             call, env={**os.environ, "MXF_TOOL": program}, stdout=subprocess.PIPE, stderr=subprocess.PIPE
         )
-        while len(pids.read_text().split()) < 2:
+        while len(pids.read_text().split()) < 2 and scan.poll() is None:
             time.sleep(0.01)
         scan.send_signal(signal.SIGTERM)
         scan.communicate()

@@ -69,8 +69,8 @@ class Crew:
         """The items, each when the work on it is done, whatever comes of it. Few of them are under way at once."""
         rest = iter(items)
         with ThreadPoolExecutor(self.jobs) as threads:
-            begun = {threads.submit(work, item): item for item in itertools.islice(rest, WAITING * self.jobs)}
             try:
+                begun = {threads.submit(work, item): item for item in itertools.islice(rest, WAITING * self.jobs)}
                 while begun:
                     for future in wait(begun, return_when=FIRST_COMPLETED).done:
                         item = begun.pop(future)
