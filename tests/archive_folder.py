@@ -540,7 +540,7 @@ def try_accept(t: Trial, here: Folder) -> None:
 
 
 def try_match(t: Trial, here: Folder) -> None:
-    """Of which recording some bytes are, by the catalogues of a scan."""
+    """Some bytes are found in their recording, by the catalogues of a scan."""
     fragment = here.root / "fragment"
     fragment.write_bytes(t.m[50:])
     piece = here.recordings / "whole/0.piece"

@@ -87,8 +87,7 @@ class Catalogues:
                     os.unlink(path)
 
     def rename(self, old: str, new: str) -> None:
-        """Copies the catalogues of a recording for its new name. Those of the former one are removed when nothing asks for
-        them."""
+        """Copies the catalogues of a recording for its new name. The former ones are removed when nothing asks for them."""
         for former, path in ((self.of(old), self.of(new)), (self.first(old), self.first(new))):
             if os.path.exists(former):
                 self.copy(former, path)

@@ -8,8 +8,8 @@ from collections.abc import Sequence
 
 from mxf.archive import crew, database, folders, joining, scanned
 from mxf.archive.catalogues import Catalogues
-from mxf.faults import USAGE, OwnFault, ToolFault
 from mxf.archive.words import Words
+from mxf.faults import USAGE, OwnFault, ToolFault
 
 
 def alone(reader: joining.Reader, found: folders.Found, folder: str) -> folders.Found:

@@ -51,7 +51,7 @@ class Found:
     fault: str = ""
 
     def pieces(self) -> list[File]:
-        """Those of its files that are bytes."""
+        """Its files that are bytes."""
         return [file for file in self.files if file.is_bytes()]
 
     def has_ranges(self) -> bool:

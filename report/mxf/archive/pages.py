@@ -8,8 +8,8 @@ import sys
 from mxf.archive import crew, database, printing, scanned
 from mxf.archive.adding import Progress
 from mxf.archive.catalogues import Catalogues
-from mxf.faults import READ, UNWRITTEN, OwnFault, tell_own
 from mxf.archive.words import Words
+from mxf.faults import READ, UNWRITTEN, OwnFault, tell_own
 from mxf.names import coded
 
 

@@ -8,10 +8,10 @@ import shutil
 
 from mxf.archive import crew, folders, printing
 from mxf.archive.catalogues import Catalogues
-from mxf.faults import READ, OwnFault, tell_own
 from mxf.archive.folders import Found
 from mxf.archive.joining import Reader
 from mxf.archive.words import LARGE, Words
+from mxf.faults import READ, OwnFault, tell_own
 
 
 class Joined:

@@ -5,8 +5,8 @@ from sqlite3 import Connection
 
 from mxf.archive import answering, database, printing, scanned, storing
 from mxf.archive.catalogues import Catalogues
-from mxf.faults import USAGE, OwnFault
 from mxf.archive.words import Words
+from mxf.faults import USAGE, OwnFault
 
 
 def rename_row(connection: Connection, old: str, new: str) -> None:

@@ -9,10 +9,9 @@ from collections.abc import Sequence
 from concurrent.futures import Future
 
 from mxf.archive import database, first_days, folders, printing, renaming, scanned, storing
-from mxf.archive.catalogues import Catalogues
 from mxf.archive.adding import Progress, cause_of
+from mxf.archive.catalogues import Catalogues
 from mxf.archive.crew import Crew, Ended
-from mxf.faults import OwnFault, ToolFault, tell_own
 from mxf.archive.folders import Found, Looked
 from mxf.archive.gathering import Gathering, Named
 from mxf.archive.joining import Reader
@@ -20,6 +19,7 @@ from mxf.archive.parts import Joined
 from mxf.archive.rows import Recording, recordings_of
 from mxf.archive.scanned import UNREAD, Scanned
 from mxf.archive.words import Words
+from mxf.faults import OwnFault, ToolFault, tell_own
 from mxf.lines import Line, line_of
 from mxf.sources import Sources
 

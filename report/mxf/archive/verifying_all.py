@@ -6,14 +6,14 @@ import os
 from typing import NamedTuple
 
 from mxf.archive import answering, database, folders, printing, scanned, storing, verifying
-from mxf.archive.catalogues import Catalogues
 from mxf.archive.adding import Progress
+from mxf.archive.catalogues import Catalogues
 from mxf.archive.crew import Crew, Ended
-from mxf.faults import USAGE, OwnFault, tell_own
 from mxf.archive.folders import Found
 from mxf.archive.joining import Reader
-from mxf.lines import Line, line_of
 from mxf.archive.words import Words
+from mxf.faults import USAGE, OwnFault, tell_own
+from mxf.lines import Line, line_of
 
 COUNTS = ("packets", "all-packets", "bytes", "all-bytes", "differs", "cut", "unknown")
 HEADS = ("recording", *(name.replace("-", "_") for name in COUNTS), "why")
