@@ -12,9 +12,11 @@ from __future__ import annotations
 
 import contextlib
 import dataclasses
+import html
 import json
 import os
 import pathlib
+import re
 import resource
 import shutil
 import signal
@@ -287,9 +289,20 @@ def try_damage(t: Trial, here: Folder) -> None:
         (ended.status, names),
         (0, ["damaged.html", "fault.html", "index.html", "parts.html", "whole.html"]),
     )
+    t.equal(
+        "what the page of all says of them",
+        said_in(pages),
+        {"damaged": "Damaged", "fault": "Whole", "parts": "Parts are missing", "whole": "Whole"},
+    )
+    here.put("fault/known.cat", here.cat("whole")[:100])
+    here.scan()
+    t.archive("pages", here.db, pages)
+    t.equal("and of one that can't be read any more", said_in(pages)["fault"], "Can't be read")
     for name in ("fault", "unread"):
         shutil.rmtree(here.recordings / name)
     ended = here.scan()
+    t.archive("pages", here.db, pages)
+    t.equal("and of one that is gone", said_in(pages)["fault"], "Gone")
     t.equal(
         "recordings that are gone are told by name",
         [line for line in ended.out.splitlines() if "gone:" in line],
@@ -307,6 +320,15 @@ def try_damage(t: Trial, here: Folder) -> None:
     t.equal(
         "then they are told no more", here.scan().out, "3 recordings: 0 gathered, 3 as they were, 0 failed, 0 gone\n"
     )
+
+
+def said_in(pages: pathlib.Path) -> dict[str, str]:
+    """The verdicts of the recordings on the page of all, by their names."""
+    rows = re.findall("<tr>(.*?)</tr>", (pages / "index.html").read_text(), re.DOTALL)
+    cells = [
+        [re.sub("<[^>]*>", "", cell) for cell in re.findall("<td[^>]*>(.*?)</td>", row, re.DOTALL)] for row in rows
+    ]
+    return {html.unescape(row[0]): html.unescape(row[4]) for row in cells if row}
 
 
 STEPS = (
@@ -368,7 +390,11 @@ def try_first_day_killed(t: Trial) -> None:
     former = here.put("former/0.piece", t.m)
     (here.catalogues / "first/former.cat").write_bytes(first)
     here.scan()
-    t.equal("a first day that was there before the first scan stays", (former.exists(), here.cat("first/former")), (True, first))
+    t.equal(
+        "a first day that was there before the first scan stays",
+        (former.exists(), here.cat("first/former")),
+        (True, first),
+    )
 
 
 def try_side_by_side(t: Trial, here: Folder) -> None:
@@ -1011,7 +1037,9 @@ def try_places(t: Trial) -> None:
     t.equal("a second database has all too", t.archive("scan", second, here.recordings).out.count("added "), 2)
     touch(here.recordings / "flat.mxf")
     here.scan()
-    t.verdict("and what the first was given already", "replaced flat\n" in t.archive("scan", second, here.recordings).out)
+    t.verdict(
+        "and what the first was given already", "replaced flat\n" in t.archive("scan", second, here.recordings).out
+    )
     first = here.cat("first/halves")
     (here.recordings / "halves/0.piece").unlink()
     for path in here.root.glob("archive.db*"):

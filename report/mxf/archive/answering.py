@@ -32,12 +32,17 @@ LISTS = {
     "unverified": "WHERE r.verified < :since ORDER BY r.verified, r.name",
 }
 
-# What a page of all recordings shows: the row of a list, whether each is damaged, and how many packets differed when it was
-# last verified.
+# What a page of all recordings shows: the row of a list, whether each is damaged, how many packets differed when it was
+# last verified, and whether bytes of its reference weren't verified then; whether it is gone, or couldn't be read, by the
+# last scan.
 OVERVIEW = LISTED.replace(
     "AS verified",
     """AS verified, r.is_damaged,
-  coalesce((SELECT v.differs FROM verifications v WHERE v.recording = r.id ORDER BY v.number DESC LIMIT 1), 0) AS differs""",
+  coalesce((SELECT v.differs FROM verifications v WHERE v.recording = r.id ORDER BY v.number DESC LIMIT 1), 0) AS differs,
+  coalesce((SELECT v.bytes <> v.all_bytes FROM verifications v WHERE v.recording = r.id ORDER BY v.number DESC LIMIT 1), 0)
+    AS is_partly_verified,
+  coalesce((SELECT c.is_gone FROM scanned c WHERE c.name = r.name), 0) AS is_gone,
+  coalesce((SELECT c.status > 1 FROM scanned c WHERE c.name = r.name), 0) AS is_unread""",
 )
 
 # What `show` prints of a recording, table by table.
