@@ -303,48 +303,49 @@ COMMANDS: dict[str, tuple[str, Callable[[argparse.ArgumentParser], None]]] = {
 CHECKS: dict[str, Callable[[Words], None]] = {"add": check_add, "verify": check_verify}
 
 
-def parsers() -> tuple[argparse.ArgumentParser, dict[str, argparse.ArgumentParser]]:
-    """What reads the first word, and what reads the others of each command."""
+def program_parser() -> argparse.ArgumentParser:
+    """What reads the first word, the name of a command."""
     program = Parser("mxf_archive", DESCRIPTION, epilog=EPILOG)
     commands = program.add_subparsers(metavar="COMMAND", required=True)
-    each: dict[str, argparse.ArgumentParser] = {}
-    for name, (said, add_words) in COMMANDS.items():
-        described = f"{said[0].upper()}{said[1:]}."
-        each[name] = commands.add_parser(name, help=said, description=described)
-        each[name].set_defaults(command=name)
-        add_words(each[name])
-    return program, each
+    for name, (said, _) in COMMANDS.items():
+        commands.add_parser(name, help=said, description=said)
+    return program
+
+
+def command_parser(name: str) -> argparse.ArgumentParser:
+    """What reads the other words of a command."""
+    said, add_words = COMMANDS[name]
+    command = Parser(f"mxf_archive {name}", f"{said[0].upper()}{said[1:]}.")
+    command.set_defaults(command=name)
+    add_words(command)
+    return command
 
 
 def read_words(given: Sequence[str]) -> Words | None:
     """The fields of the words of a call; None if help is asked for, which is printed."""
-    try:
-        return words_by(given, *parsers())
-    except SystemExit:
-        return None
-
-
-def words_by(
-    given: Sequence[str], program: argparse.ArgumentParser, commands: dict[str, argparse.ArgumentParser]
-) -> Words:  # fmt: skip
-    """The fields of the words of a call, by what reads them."""
     for place, text in enumerate(given, 1):
         if not is_text(text):
-            program.error(f"argument {place} is not UTF-8")
+            program_parser().error(f"argument {place} is not UTF-8")
     end = given.index("--") if "--" in given else len(given)
     # An option -h of argparse would be taken for -hyphen too.
     front = ["--help" if text == "-h" else text for text in given[:end]]
     behind = [BEHIND + text for text in given[end + 1 :]]
-    if not front or front[0] not in commands:
-        program.parse_args(front[:1])
-    command = commands[front[0]]
+    try:
+        if not front or front[0] not in COMMANDS:
+            program_parser().parse_args(front[:1])
+        return words_of(command_parser(front[0]), [*front[1:], *given[end : end + 1], *behind])
+    except SystemExit:
+        return None
+
+
+def words_of(command: argparse.ArgumentParser, given: Sequence[str]) -> Words:
+    """The fields of the words of a command."""
     words = Words()
-    rest = [*front[1:], *given[end : end + 1], *behind]
-    _, unknown = command.parse_known_intermixed_args(rest, namespace=words)
+    _, unknown = command.parse_known_intermixed_args(given, namespace=words)
     if unknown:
         command.error(f"unrecognized arguments: {' '.join(map(word, unknown))}")
     try:
-        CHECKS.get(front[0], lambda _: None)(words)
+        CHECKS.get(words.command, lambda _: None)(words)
     except argparse.ArgumentTypeError as fault:
         command.error(str(fault))
     return words
