@@ -3,6 +3,7 @@ from __future__ import annotations
 
 import os
 import pathlib
+import shutil
 import time
 
 from archive_trial import ROW, Trial, Folder, flipped, touch
@@ -261,6 +262,16 @@ def try_places(t: Trial) -> None:
     t.verdict(
         "and what the first was given already", "replaced flat\n" in t.archive("scan", second, here.recordings).out
     )
+    inside = t.archive("scan", "inside.db", ".", cwd=here.recordings)
+    again = t.archive("scan", "inside.db", ".", cwd=here.recordings)
+    said = "2 recordings: 0 gathered, 2 as they were, 0 failed, 0 gone\n"
+    t.equal("a database within the folder is none of its recordings", (inside.status, again.out), (0, said))
+    for path in here.recordings.glob("inside.db*"):
+        shutil.rmtree(path) if path.is_dir() else path.unlink()
+    link = here.root / "link"
+    link.symlink_to(here.recordings)
+    ended = t.archive("scan", here.db, link)
+    t.equal("the folder by another name is the same folder", (ended.status, ended.err), (0, ""))
     first = here.cat("first/halves")
     (here.recordings / "halves/0.piece").unlink()
     for path in here.root.glob("archive.db*"):

@@ -8,6 +8,7 @@ import shutil
 import tempfile
 from collections.abc import Iterator
 
+from mxf.archive.folders import CATALOGUES
 from mxf.faults import UNWRITTEN, USAGE, OwnFault, tell_own
 from mxf.names import coded
 
@@ -25,7 +26,7 @@ class Catalogues:
     @classmethod
     def beside(cls, database: str) -> Catalogues:
         """The catalogues beside a database, DB.catalogues."""
-        return cls(f"{os.path.abspath(database)}.catalogues")
+        return cls(os.path.abspath(database) + CATALOGUES)
 
     def make(self) -> None:
         """Makes the folder, if there is none."""

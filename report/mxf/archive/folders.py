@@ -20,6 +20,7 @@ FORMS = {".piece": "at", ".range": "range", ".cat": "cat"}
 OFFSET = re.compile(r"0*[0-9]{1,19}")
 GREATEST = 2**63 - 1  # an OFFSET that mxf_tool takes
 PASSED_OVER = (".part", ".units")  # what the script minute writes beside a recording
+CATALOGUES = ".catalogues"  # behind the name of a database, the name of the folder of its catalogues
 
 UNNAMED = "its name isn't UTF-8"
 NO_RECORDING = "it is no folder, and no file NAME.mxf"
@@ -76,14 +77,15 @@ class Looked(NamedTuple):
 
 
 def look(folder: str) -> Looked:
-    """What a folder of recordings holds. Hidden files are passed over."""
+    """What a folder of recordings holds. Hidden files are passed over, and so are the catalogues of a database there."""
     folder = os.path.abspath(folder)
     looked = Looked({}, [])
     for entry in sorted(entries_of(folder), key=lambda one: os.fsencode(one.name)):
         if not is_text(entry.name):
             looked.others.append((entry.name, UNNAMED))
         elif os.path.isdir(entry.path):
-            add_folder(looked, folder, entry.name)
+            if not entry.name.endswith(CATALOGUES):
+                add_folder(looked, folder, entry.name)
         elif entry.name.lower().endswith(".mxf") and len(entry.name) > len(".mxf"):
             add_whole(looked, folder, entry.name)
         else:

@@ -68,9 +68,14 @@ class Scan:
     def is_elsewhere(self, found: Found) -> bool:
         """Whether a recording of this name lies in another folder too."""
         known = self.known.get(found.name)
-        if known is None or known.folder == self.folder:
+        if known is None or os.path.realpath(known.folder) == os.path.realpath(self.folder):
             return False
         return any(os.path.exists(os.path.join(known.folder, file.path)) for file in known.found().files)
+
+    def is_of_database(self, name: str) -> bool:
+        """Whether a file of the folder is one of the database."""
+        path = os.path.abspath(self.database)
+        return os.path.join(self.folder, name) in (path, f"{path}-wal", f"{path}-shm")
 
     def run(self) -> int:
         """Gathers what changed. The status is 1 if a recording couldn't be gathered."""
@@ -85,7 +90,7 @@ class Scan:
         if changed:
             self.gather_all(changed)
         self.tell_gone()
-        tell_others(self.looked.others)
+        tell_others([one for one in self.looked.others if not self.is_of_database(one[0])])
         count, others = len(self.looked.recordings), len(self.faults)
         print(f"{count} recordings: {self.joined} gathered, {count - self.joined - others} as they were, {others} failed, "
               f"{len(self.gone)} gone")  # fmt: skip
