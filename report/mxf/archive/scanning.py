@@ -110,6 +110,7 @@ class Scan:
             places = [(found, os.path.join(folder, str(number))) for number, found in enumerate(changed)]
             with contextlib.closing(self.crew.each(self.gathered, places)) as each:
                 for (found, place), done in each:
+                    progress.clear()
                     self.finish(found, done)
                     shutil.rmtree(place, ignore_errors=True)
                     progress.tell(len(self.faults))
@@ -166,10 +167,8 @@ class Scan:
         """Stores what came of a recording."""
         try:
             answer = done.result()
-        except (ToolFault, OwnFault) as fault:
+        except (ToolFault, OwnFault, OSError) as fault:
             answer = Gathered(UNREAD, cause_of(fault))
-        except OSError as fault:
-            answer = Gathered(UNREAD, f"{fault.filename}: {fault.strerror}")
         for length in answer.run_ins:
             print(f"{printing.cell(found.name)} begins behind a run-in of {length} bytes")
         old = next((name for name in answer.former if name in self.gone), None)
