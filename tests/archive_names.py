@@ -102,7 +102,8 @@ def try_renames(t: Trial, here: Folder) -> None:
     match = t.archive("match", here.db, f"at:0:{here.recordings}/other name/0.piece", "--csv")
     t.verdict("and by its bytes", f",other name,0,{notes},{notes},0" in match.out, match.out, match.err)
     ended = here.scan()
-    t.equal("the next scan knows it", [line for line in ended.out.splitlines() if "alike" in line], [])
+    said = [line for line in ended.out.splitlines() if "alike" in line or "other name" in line]
+    t.equal("the next scan knows it, and reads nothing of it", said, [])
     ended = t.archive("rename", here.db, "other name", "flat")
     t.equal(
         "a name that is there is refused",

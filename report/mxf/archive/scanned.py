@@ -60,5 +60,15 @@ def forget(connection: Connection, name: str) -> None:
 
 
 def rename(connection: Connection, old: str, new: str) -> None:
-    """Gives a recording that was scanned another name."""
-    connection.execute("UPDATE scanned SET name = ? WHERE name = ?", (new, old))
+    """Gives a recording that was scanned another name, by which its files are looked for from then on."""
+    one = all_of(connection).get(old)
+    if one is not None:
+        found = one.found()
+        files = [file._replace(path=renamed(file.path, old, new)) for file in found.files]
+        forget(connection, old)
+        keep(connection, scanned_of(folders.Found(new, one.folder, files), one.status)._replace(is_gone=one.is_gone))
+
+
+def renamed(path: str, old: str, new: str) -> str:
+    """The path of a file of a recording that has another name: that of its folder, or of the file."""
+    return new + path[len(old) :]
