@@ -91,9 +91,11 @@ class Scan:
             self.gather_all(changed)
         self.tell_gone()
         tell_others([one for one in self.looked.others if not self.is_of_database(one[0])])
-        count, others = len(self.looked.recordings), len(self.faults)
-        print(f"{count} recordings: {self.joined} gathered, {count - self.joined - others} as they were, {others} failed, "
-              f"{len(self.gone)} gone")  # fmt: skip
+        count, failed = len(self.looked.recordings), len(self.faults)
+        stayed = f"{count - self.joined - failed} as they were"
+        print(
+            f"{count} recording{'s' if count > 1 else ''}: {self.joined} gathered, {stayed}, {failed} failed, {len(self.gone)} gone"
+        )
         for fault in self.faults:
             tell_own(fault)
         return 1 if self.faults else 0
