@@ -14,6 +14,7 @@ Item = TypeVar("Item")
 Answer = TypeVar("Answer")
 
 WAITING = 2  # items that are begun ahead of each that is taken
+OFTEN = 0.5  # seconds after which signals are looked for: one that comes just ahead of a wait doesn't end that
 
 
 class Ended(NamedTuple):
@@ -72,7 +73,7 @@ class Crew:
             try:
                 begun = {threads.submit(work, item): item for item in itertools.islice(rest, WAITING * self.jobs)}
                 while begun:
-                    for future in wait(begun, return_when=FIRST_COMPLETED).done:
+                    for future in wait(begun, OFTEN, FIRST_COMPLETED).done:
                         item = begun.pop(future)
                         begun.update((threads.submit(work, one), one) for one in itertools.islice(rest, 1))
                         yield item, future
