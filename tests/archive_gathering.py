@@ -285,8 +285,8 @@ def try_signals(t: Trial) -> None:
         while len(pids.read_text().split()) < 2 and scan.poll() is None:
             time.sleep(0.01)
         scan.send_signal(signal.SIGTERM)
-        scan.communicate()
-        t.equal(f"SIGTERM ends a scan at {words}", scan.returncode, 128 + signal.SIGTERM)
+        said = scan.communicate()
+        t.verdict(f"SIGTERM ends a scan at {words}", scan.returncode == 128 + signal.SIGTERM, scan.returncode, *said)
         left = [pid for pid in pids.read_text().split() if pathlib.Path(f"/proc/{pid}").exists()]
         t.equal(f"its calls end too: {words}", left, [])
         t.equal(f"and nothing is left: {words}", [path.name for path in here.catalogues.glob(".begun*")], [])

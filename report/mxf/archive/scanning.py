@@ -93,9 +93,8 @@ class Scan:
         tell_others([one for one in self.looked.others if not self.is_of_database(one[0])])
         count, failed = len(self.looked.recordings), len(self.faults)
         stayed = f"{count - self.joined - failed} as they were"
-        print(
-            f"{count} recording{'s' if count > 1 else ''}: {self.joined} gathered, {stayed}, {failed} failed, {len(self.gone)} gone"
-        )
+        said = f"{self.joined} gathered, {stayed}, {failed} failed, {len(self.gone)} gone"
+        print(f"{count} recording{'s' if count > 1 else ''}: {said}")
         for fault in self.faults:
             tell_own(fault)
         return 1 if self.faults else 0
