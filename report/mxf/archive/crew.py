@@ -7,14 +7,12 @@ from collections.abc import Callable, Generator, Iterable, Sequence
 from concurrent.futures import FIRST_COMPLETED, Future, ThreadPoolExecutor, wait
 from typing import IO, NamedTuple, TypeVar
 
+from mxf.archive.adding import OFTEN, WAITING
 from mxf.calling import Call, Tool
 from mxf.faults import NO_PROGRAM, OwnFault, ToolFault
 
 Item = TypeVar("Item")
 Answer = TypeVar("Answer")
-
-WAITING = 2  # items that are begun ahead of each that is taken
-OFTEN = 0.5  # seconds after which signals are looked for: one that comes just ahead of a wait doesn't end that
 
 
 class Ended(NamedTuple):
