@@ -35,14 +35,17 @@ LISTS = {
 # What a page of all recordings shows: the row of a list, whether each is damaged, how many packets differed when it was
 # last verified, and whether bytes of its reference weren't verified then; whether it is gone, or couldn't be read, by the
 # last scan.
-OVERVIEW = LISTED.replace(
-    "AS verified",
-    """AS verified, r.is_damaged,
+OVERVIEW = (
+    LISTED.replace(
+        "AS verified",
+        """AS verified, r.is_damaged,
   coalesce((SELECT v.differs FROM verifications v WHERE v.recording = r.id ORDER BY v.number DESC LIMIT 1), 0) AS differs,
   coalesce((SELECT v.bytes <> v.all_bytes FROM verifications v WHERE v.recording = r.id ORDER BY v.number DESC LIMIT 1), 0)
     AS is_partly_verified,
   coalesce((SELECT c.is_gone FROM scanned c WHERE c.name = r.name), 0) AS is_gone,
   coalesce((SELECT c.status > 1 FROM scanned c WHERE c.name = r.name), 0) AS is_unread""",
+    )
+    + "ORDER BY r.name"
 )
 
 # What `show` prints of a recording, table by table.
