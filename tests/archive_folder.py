@@ -25,8 +25,8 @@ WITH_FIRST = (
     verifying.try_unmounted,
 )  # fmt: skip
 ALONE = (
-    gathering.try_first_day_killed, gathering.try_signals, names.try_others, names.try_places, names.try_odd_names,
-    names.try_many, names.try_join, restores.try_restores, restores.try_minute,
+    gathering.try_first_day_killed, gathering.try_kills, gathering.try_signals, gathering.try_terminal, names.try_others,
+    names.try_places, names.try_odd_names, names.try_many, names.try_join, restores.try_restores, restores.try_minute,
 )  # fmt: skip
 
 

@@ -293,6 +293,52 @@ def try_signals(t: Trial) -> None:
     t.equal("the next scan gathers both", here.scan().out.count("added "), 2)
 
 
+def try_kills(t: Trial) -> None:
+    """Kills at any time leave each recording as it was or as it is to be, and the next scan makes up for the rest."""
+    here = Folder(t, "kills")
+    files = [here.put(path, data) for path, data in (("flat.mxf", t.intra), ("ranges/0.range", t.long[:9000]),
+             ("ranges/20000.range", t.long[20000:]), ("damaged/0.piece", t.m[:108] + b"garbage"))]  # fmt: skip
+    control = here.root / "control.db"
+    t.archive("scan", control, here.recordings)
+    call = [str(t.top / "report/mxf_archive"), "scan", str(here.db), str(here.recordings)]
+    statuses = set()
+    for number in range(15):
+        for file in files:
+            touch(file)
+        environment = {**os.environ, "MXF_TOOL": t.tool}
+        scan = subprocess.Popen(call, env=environment, start_new_session=True, stdout=subprocess.DEVNULL)
+        time.sleep(0.1 * number)
+        with contextlib.suppress(ProcessLookupError):
+            os.killpg(scan.pid, signal.SIGKILL)
+        scan.wait()
+        if here.db.exists() and here.db.stat().st_size:
+            statuses.add(t.archive("list", here.db).status)
+    t.verdict("after each of 15 kills the database is sound", statuses <= {0}, statuses)
+    t.equal("a scan after 15 kills", here.scan().status, 0)
+    with contextlib.closing(sqlite3.connect(control)) as connection:
+        t.equal("has what a scan without them has", here.sql(ROW), connection.execute(ROW).fetchall())
+    for path in sorted(here.catalogues.rglob("*.cat")):
+        other = here.root / "control.db.catalogues" / path.relative_to(here.catalogues)
+        t.equal(f"and its catalogues: {path.relative_to(here.catalogues)}", path.read_bytes(), other.read_bytes())
+    t.equal("and nothing is left", [path.name for path in here.catalogues.glob(".begun*")], [])
+
+
+def try_terminal(t: Trial) -> None:
+    """How far a scan is stands on a terminal alone."""
+    here = Folder(t, "terminal")
+    here.put("one.mxf", t.m)
+    t.equal("elsewhere nothing is told", here.scan().err, "")
+    touch(here.recordings / "one.mxf")
+    master, terminal = os.openpty()
+    call = [str(t.top / "report/mxf_archive"), "scan", str(here.db), str(here.recordings)]
+    subprocess.run(
+        call, env={**os.environ, "MXF_TOOL": t.tool}, stdout=subprocess.DEVNULL, stderr=terminal, check=False
+    )
+    os.close(terminal)
+    t.verdict("on a terminal it is told how far a scan is", b"1 of 1 recordings" in os.read(master, 1000))
+    os.close(master)
+
+
 def try_full_disk(t: Trial, here: Folder) -> None:
     """A full disk leaves the database as it was: files may have 2,000 bytes."""
     touch(here.recordings / "damaged/0.piece")
