@@ -20,12 +20,14 @@ from archive_trial import Trial
 
 # What is tried with the folder of the first trial, one after another, and what is tried with folders of its own.
 WITH_FIRST = (
-    gathering.try_stretches, gathering.try_growing, gathering.try_damage, gathering.try_failures, gathering.try_side_by_side,
-    gathering.try_full_disk, verifying.try_verify, verifying.try_accept, verifying.try_match, verifying.try_loss,
+    gathering.try_stretches, gathering.try_growing, gathering.try_damage, gathering.try_pages, gathering.try_gone,
+    gathering.try_failures, gathering.try_side_by_side,
+    gathering.try_full_disk, verifying.try_verify, verifying.try_flipped, verifying.try_accept,
+    verifying.try_another, verifying.try_match, verifying.try_loss, verifying.try_cut,
     verifying.try_unmounted,
 )  # fmt: skip
 ALONE = (
-    gathering.try_first_day_killed, gathering.try_kills, gathering.try_signals, gathering.try_terminal, names.try_others,
+    gathering.try_first_day_killed, gathering.try_kills, gathering.try_signals, gathering.try_terminal, names.try_run_ins, names.try_others,
     names.try_places, names.try_odd_names, names.try_many, names.try_join, restores.try_restores, restores.try_minute,
 )  # fmt: skip
 

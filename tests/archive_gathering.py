@@ -144,6 +144,10 @@ def try_damage(t: Trial, here: Folder) -> None:
     here.put("fault/known.cat", here.cat("whole"))
     here.scan()
     t.equal("it is tried again by the next scan", here.sql(ROW)[1], ("fault", 0, 0, 0, 0))
+
+
+def try_pages(t: Trial, here: Folder) -> None:
+    """Pages of recordings that are damaged, can't be read any more, or are gone."""
     pages = here.root / "pages"
     ended = t.archive("pages", here.db, pages)
     names = sorted(path.name for path in pages.iterdir())
@@ -171,6 +175,10 @@ def try_damage(t: Trial, here: Folder) -> None:
         [line for line in ended.out.splitlines() if "gone:" in line],
         ["gone: fault", "gone: unread"],
     )
+
+
+def try_gone(t: Trial, here: Folder) -> None:
+    """Recordings that are gone are told until they are removed."""
     t.equal("the scan says that they are gone each time", here.scan().out.count("gone: "), 2)
     lacks = [("damaged", 108, None, "footer", "108.piece", None), ("parts", 108, 336, "entry", "108.piece", None)]
     t.equal("what recordings lack that are gone is listed no more", here.orders(), lacks)

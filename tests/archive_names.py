@@ -9,15 +9,37 @@ import time
 from archive_trial import ROW, Trial, Folder, flipped, touch
 
 
-def try_others(t: Trial) -> None:
-    """Files that are whole recordings, in capitals too, run-ins, links that lead nowhere, and what isn't looked at."""
-    here = Folder(t, "others")
-    here.put("flat.mxf", t.m)
+def try_run_ins(t: Trial) -> None:
+    """Recordings that begin behind a run-in."""
+    here = Folder(t, "run_ins")
     here.put("C0001.MXF", t.intra)
     runs = {1: b"\0", 8192: bytes(8192), 65535: b"\6\x0e" * 32767 + b"\6"}
     for length, run_in in runs.items():
         here.put(f"run {length}.mxf", run_in + t.intra)
     here.put("folded/0.piece", runs[8192] + t.intra)
+    ended = here.scan()
+    out = set(ended.out.splitlines())
+    for length in runs:
+        t.verdict(
+            f"a run-in of {length} bytes is said",
+            f"run {length} begins behind a run-in of {length} bytes" in out,
+            ended.out,
+        )
+        t.equal(f"a run-in of {length} bytes: the catalogue", here.cat(f"run^20{length}"), here.cat("C0001"))
+    t.equal("a run-in of a piece at 0", here.cat("folded"), here.cat("C0001"))
+    t.equal(
+        "they are verified behind their run-ins", [here.verify(f"run {length}")[:2] for length in runs], [(0, [])] * 3
+    )
+    here.put("run 8192.mxf", runs[8192] + flipped(t.intra, 5170))
+    t.equal("a flipped bit behind a run-in", here.verify("run 8192")[0], 1)
+    t.equal("is accepted", (t.archive("accept", here.db, "run 8192").status, here.verify("run 8192")[0]), (0, 0))
+
+
+def try_others(t: Trial) -> None:
+    """Files that are whole recordings, in capitals too, links that lead nowhere, and what isn't looked at."""
+    here = Folder(t, "others")
+    here.put("flat.mxf", t.m)
+    here.put("C0001.MXF", t.intra)
     here.put("deep/other.mxf", t.m)
     here.put("notes.txt", b"text")
     here.put("wrong/0.piece", b"no packet\n")
@@ -28,24 +50,10 @@ def try_others(t: Trial) -> None:
     (here.recordings / "itself").symlink_to("itself")
     (pathlib.Path(os.fsdecode(os.fsencode(here.recordings) + b"/\xff.mxf"))).write_bytes(t.m)
     ended = here.scan()
-    out, err = set(ended.out.splitlines()), set(ended.err.splitlines())
-    for length in runs:
-        t.verdict(
-            f"a run-in of {length} bytes is said",
-            f"run {length} begins behind a run-in of {length} bytes" in out,
-            ended.out,
-        )
-        t.equal(f"a run-in of {length} bytes: the catalogue", here.cat(f"run^20{length}"), here.cat("C0001"))
-    t.equal("a run-in of a piece at 0", here.cat("folded"), here.cat("C0001"))
+    err = set(ended.err.splitlines())
     t.equal("the catalogue of a file in capitals", here.cat("C0001"), here.joined(f"at:0:{here.recordings}/C0001.MXF"))
     t.equal(
-        "they are verified behind their run-ins", [here.verify(f"run {length}")[:2] for length in runs], [(0, [])] * 3
-    )
-    here.put("run 8192.mxf", runs[8192] + flipped(t.intra, 5170))
-    t.equal("a flipped bit behind a run-in", here.verify("run 8192")[0], 1)
-    t.equal("is accepted", (t.archive("accept", here.db, "run 8192").status, here.verify("run 8192")[0]), (0, 0))
-    t.equal(
-        "a dangling link stops one recording alone, as an empty folder does", (ended.status, len(here.sql(ROW))), (1, 8)
+        "a dangling link stops one recording alone, as an empty folder does", (ended.status, len(here.sql(ROW))), (1, 4)
     )
     for said in ("dangling: dangling.mxf is a link that leads to no file", "empty: its folder has no piece, no range and no catalogue",
                  "deep: its folder has no piece, no range and no catalogue"):  # fmt: skip
@@ -60,6 +68,7 @@ def try_others(t: Trial) -> None:
         "what is lacking never has the name of a file that is there", orders, [("wrong", 0, None, "header", None, None)]
     )
     try_renames(t, here)
+    try_rename_command(t, here)
 
 
 def try_renames(t: Trial, here: Folder) -> None:
@@ -85,6 +94,11 @@ def try_renames(t: Trial, here: Folder) -> None:
     )
     t.equal("and no longer by the former", t.archive("find", here.db, "halves").status, 1)
     t.equal("so what it lost is seen", here.verify("renamed")[0], 1)
+
+
+def try_rename_command(t: Trial, here: Folder) -> None:
+    """A recording is renamed by a command, and no other takes its place."""
+    notes = (t.top / "tests/worked/W.show.txt").read_text().count("\nnote ")
     here.put("alike/0.piece", t.w)
     here.scan()
     t.verdict("a copy beside its twin has a first day of its own", (here.catalogues / "first/alike.cat").exists())
@@ -120,8 +134,8 @@ def try_renames(t: Trial, here: Folder) -> None:
     (second / "flat").mkdir(parents=True)
     (second / "flat/0.piece").write_bytes(t.w)
     ended = t.archive("scan", here.db, second)
-    said = f"mxf_archive: flat: a recording of this name is in {here.recordings}\n"
-    t.equal("a recording of another folder never takes its place", (ended.status, ended.err), (1, said))
+    cause = f"mxf_archive: flat: a recording of this name is in {here.recordings}\n"
+    t.equal("a recording of another folder never takes its place", (ended.status, ended.err), (1, cause))
 
 
 STRANGE = "it's 50% $x [a]*;#"
@@ -167,6 +181,11 @@ def try_odd_names(t: Trial) -> None:
     )
     here.put("two\nlines/0.piece", t.w[:336])
     here.rows("what comes to one of them is gathered", *((name, 0, 0, 0, 0) for name in names))
+    try_odd_pages(t, here, longest)
+
+
+def try_odd_pages(t: Trial, here: Folder, longest: str) -> None:
+    """Their pages, their first days, and their ends."""
     pages = here.root / "pages"
     t.equal("each has a page", (t.archive("pages", here.db, pages).status, len(list(pages.rglob("*.html")))), (0, 7))
     index = (pages / "index.html").read_text()

@@ -33,35 +33,40 @@ def try_restores(t: Trial) -> None:
         t.equal(f"as in the whole recording: {name}", here.cat(name), here.joined(f"at:0:{file}"))
 
 
+class Minute:
+    """The script minute, with a tape that gives what it is asked for."""
+
+    def __init__(self, t: Trial) -> None:
+        self.t, self.here = t, Folder(t, "minutes")
+        self.told, self.source, self.restore = (self.here.root / name for name in ("told", "source", "restore"))
+        self.restore.write_text(
+            f"""#!/bin/bash
+echo "$*" >>'{self.told}'
+tail -c +$(($2 + 1)) '{self.source}' | if [ "$2 $3" = "${{FIRST-none}}" ]; then head -c 1000; elif [ "$3" = - ]; then cat; else head -c $(($3 - $2)); fi
+"""
+        )
+        self.restore.chmod(0o755)
+
+    def run(self, name: str, *words: object, command: object = None, index: object = None, **more: Any) -> Ended:
+        """Restores some edit units of a recording."""
+        self.told.write_text("")
+        script, folder = self.t.top / "examples/archive/minute", self.here.recordings / name
+        return self.t.run([script, folder, *words, command or f"'{self.restore}'", *filter(None, [index])], **more)
+
+
 def try_minute(t: Trial) -> None:
     """The script minute restores edit units, and nothing else."""
-    here = Folder(t, "minutes")
-    told, source, sound = here.root / "told", here.root / "source", here.recordings / "sound"
-    restore = here.root / "restore"
-    restore.write_text(
-        f"""#!/bin/bash
-echo "$*" >>'{told}'
-tail -c +$(($2 + 1)) '{source}' | if [ "$2 $3" = "${{FIRST-none}}" ]; then head -c 1000; elif [ "$3" = - ]; then cat; else head -c $(($3 - $2)); fi
-"""
-    )
-    restore.chmod(0o755)
-
-    def minute(name: str, *words: object, command: object = f"'{restore}'", index: object = "", **more: Any) -> Ended:
-        told.write_text("")
-        return t.run(
-            [t.top / "examples/archive/minute", here.recordings / name, *words, command, *([index] if index else [])],
-            **more,
-        )
-
+    minutes = Minute(t)
+    here, minute, sound = minutes.here, minutes.run, minutes.here.recordings / "sound"
     # Samples of the OP-Atom example, of which the front and the end are there.
-    source.write_bytes(t.atom)
+    minutes.source.write_bytes(t.atom)
     here.put("sound/0.range", t.atom[:6000])
     here.put("sound/24857.range", t.atom[24857:])
     ended = minute("sound", 4000, 6000, index=2)
     t.equal(
         "a minute of a recording is restored", (ended.status, ended.out), (0, "units 2001 held 0 hand 2001 from 4000\n")
     )
-    t.equal("and nothing else", told.read_text(), "sound 13657 17659\n")
+    t.equal("and nothing else", minutes.told.read_text(), "sound 13657 17659\n")
     t.equal("beside the rest", (sound / "13657.range").read_bytes(), t.atom[13657:17659])
     wanted = ["unit 6000 hand 17657 17659 key - temporal - flags -", "units 2001 held 0 hand 2001 from 4000"]
     t.equal("where its units lie", (sound / "sound.units").read_text().splitlines()[-2:], wanted)
@@ -79,6 +84,13 @@ tail -c +$(($2 + 1)) '{source}' | if [ "$2 $3" = "${{FIRST-none}}" ]; then head 
         "a restore is made again that was killed", (ended.status, ended.out), (0, "units 2 held 0 hand 2 from 1000\n")
     )
     t.equal("and has its bytes", (sound / "7657.range").read_bytes(), t.atom[7657:7661])
+    try_minute_beyond(t, here, minute)
+    try_minute_by_timecodes(t, here, minute)
+
+
+def try_minute_beyond(t: Trial, here: Folder, minute: Callable[..., Ended]) -> None:
+    """A unit that the recording has not."""
+    sound = here.recordings / "sound"
     # There are 9,600 samples, from 0 on.
     ended = minute("sound", 9599, 9600, index=2)
     t.equal(
@@ -95,7 +107,6 @@ tail -c +$(($2 + 1)) '{source}' | if [ "$2 $3" = "${{FIRST-none}}" ]; then head 
         [(None, "00:00:00.200", "00:00:00:00")],
     )
     t.equal("and passes over what the script wrote", here.scan().out.count("not looked at"), 0)
-    try_minute_by_timecodes(t, here, minute)
 
 
 def try_minute_by_timecodes(t: Trial, here: Folder, minute: Callable[..., Ended]) -> None:

@@ -22,13 +22,17 @@ def try_verify(t: Trial, here: Folder) -> None:
     )
     since = t.archive("list", here.db, "--unverified-since", 1, "--json").out
     t.equal("the database knows when that was", since, "")
-    first = {name: here.cat(f"first/{name}") for name in ("parts", "whole")}
     here.put("parts/216.piece", t.w[216:336])
     status, rows, _ = here.verify()
     t.equal(
         "a piece that came later is no fault", (status, rows, here.kept("parts")), (0, [], (3, 3, 258, 258, 0, 0, 120))
     )
     t.equal("a piece that came later: its bytes are unknown", here.differs("parts"), [("unknown", 216, 336)])
+
+
+def try_flipped(t: Trial, here: Folder) -> None:
+    """A flipped bit is found, however often the folder is scanned, until it is accepted."""
+    first = here.cat("first/whole")
     # One bit of byte 60, of the header, and no change of its file's times.
     piece = here.recordings / "whole/0.piece"
     times = piece.stat()
@@ -42,7 +46,7 @@ def try_verify(t: Trial, here: Folder) -> None:
         t.equal(f"{name}: what is kept", (here.kept("whole"), here.differs("whole")), (row[1:], [("differs", 0, 108)]))
         touch(piece)
         here.scan()
-        t.equal(f"{name}: the first day stays", here.cat("first/whole"), first["whole"])
+        t.equal(f"{name}: the first day stays", here.cat("first/whole"), first)
         for path in here.catalogues.glob("*.cat"):
             path.unlink()
         here.scan()
@@ -60,7 +64,7 @@ def try_verify(t: Trial, here: Folder) -> None:
 
 
 def try_accept(t: Trial, here: Folder) -> None:
-    """A change of a block is accepted, and another recording with --drop alone."""
+    """A change of a block is accepted."""
     # M's packets at 0 and 216 are in one block each, and the one at 108 in none: its byte 120 begins the second block.
     here.put("blocks/0.range", t.m[:120])
     here.put("blocks/120.range", t.m[120:])
@@ -76,6 +80,10 @@ def try_accept(t: Trial, here: Folder) -> None:
     t.equal(
         "a block whose change is accepted", (status, rows, here.kept("blocks")), (0, [], (2, 2, 156, 156, 0, 0, 108))
     )
+
+
+def try_another(t: Trial, here: Folder) -> None:
+    """Another recording is accepted with --drop alone."""
     # M stands where W stood, which has one packet of essence more than M has: that is another recording.
     another = here.put("another/0.piece", t.w)
     here.scan()
@@ -131,12 +139,11 @@ def try_match(t: Trial, here: Folder) -> None:
 
 
 def try_loss(t: Trial, here: Folder) -> None:
-    """A recording that came later; a piece, and a recording, that was taken away."""
+    """A recording that came later, and one that is gone."""
     here.put("halves/0.piece", t.m[:108])
     here.put("halves/108.piece", t.m[108:])
     shutil.rmtree(here.recordings / "parts")
     t.verdict("a recording that came later is added", "added halves\n" in here.scan().out)
-    first = here.cat("first/halves")
     status, rows, ended = here.verify()
     t.equal(
         "a recording that is gone is told by verify", (status, rows, ended.err), (1, [], "mxf_archive: parts is gone\n")
@@ -145,6 +152,11 @@ def try_loss(t: Trial, here: Folder) -> None:
     status, rows, ended = here.verify()
     t.equal("a recording that was removed is no longer asked for", (status, rows, ended.err), (0, [], ""))
     t.equal("and the one that came later is verified", here.kept("halves"), (3, 3, 264, 264, 0, 0, 0))
+
+
+def try_cut(t: Trial, here: Folder) -> None:
+    """A piece that was taken away, is cut, or can't be read; a recording that was taken away."""
+    first = here.cat("first/halves")
     (here.recordings / "halves/0.piece").unlink()
     status, rows, ended = here.verify()
     t.equal("a piece was taken away", (status, rows), (1, [("halves", 2, 3, 156, 264, 0, 0, 0)]))
