@@ -64,9 +64,10 @@ class Call:
         neither program waits for the other."""
         if self.process is None:
             self.faults = file_without_name() if self.is_kept else None
-            with file_without_name() as given:
-                given.write(self.given)
-                given.seek(0)
+            with file_without_name() if self.given else open(os.devnull, "rb") as given:
+                if self.given:
+                    given.write(self.given)
+                    given.seek(0)
                 self.process = self.started(given)
         return self.process
 
