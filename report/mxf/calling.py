@@ -110,8 +110,9 @@ class Call:
 
     def stop(self) -> None:
         """Ends the program, if it runs."""
-        if self.process is not None:
-            self.process.terminate()
+        process = self.process  # another thread may see its end meanwhile
+        if process is not None:
+            process.terminate()
 
     def __enter__(self) -> Call:
         return self
@@ -170,7 +171,7 @@ class Tool:
         """Ends the calls that go on in other threads, and lets none begin."""
         with self.lock:
             self.is_stopped = True
-            for call in self.running:
+            for call in [*self.running]:
                 call.stop()
 
     def lines_of(self, call: Call, keeps: Keeps = bytes.splitlines) -> Iterator[Line]:

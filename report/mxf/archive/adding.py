@@ -19,6 +19,7 @@ from mxf.lines import Line
 from mxf.sources import check_read_often
 
 WAITING = 2  # recordings that are asked for ahead of each that is kept
+OFTEN = 0.5  # seconds after which signals are looked for: one that comes just ahead of a wait doesn't end that
 
 
 def named_by(words: Words) -> Named:
@@ -133,7 +134,7 @@ def done_of(
             waiting[threads.submit(gathered, tool, named, is_beside=False)] = named
         if not waiting:
             return
-        for job in concurrent.futures.wait(waiting, return_when=concurrent.futures.FIRST_COMPLETED).done:
+        for job in concurrent.futures.wait(waiting, OFTEN, concurrent.futures.FIRST_COMPLETED).done:
             yield waiting.pop(job), job
 
 

@@ -6,6 +6,7 @@ from sqlite3 import Connection, Row
 from typing import Any
 
 from mxf import moments
+from mxf.archive import scanned
 from mxf.archive.printing import number_or_none
 from mxf.faults import USAGE, OwnFault
 
@@ -31,11 +32,16 @@ LISTS = {
     "unverified": "WHERE r.verified < :since ORDER BY r.verified, r.name",
 }
 
-# What a page of all recordings shows: the row of a list, whether each is damaged, and how many packets differed when it was
-# last verified.
+# What a page of all recordings shows: the row of a list, whether each is damaged, how many packets differed when it was
+# last verified, and whether bytes of its reference weren't verified then; whether it is gone, or couldn't be read, by the
+# last scan.
 OVERVIEW = f"""
 SELECT {ROW}, r.is_damaged,
-  coalesce((SELECT v.differs FROM verifications v WHERE v.recording = r.id ORDER BY v.number DESC LIMIT 1), 0) AS differs
+  coalesce((SELECT v.differs FROM verifications v WHERE v.recording = r.id ORDER BY v.number DESC LIMIT 1), 0) AS differs,
+  coalesce((SELECT v.bytes <> v.all_bytes FROM verifications v WHERE v.recording = r.id ORDER BY v.number DESC LIMIT 1), 0)
+    AS is_partly_verified,
+  coalesce((SELECT c.is_gone FROM scanned c WHERE c.name = r.name), 0) AS is_gone,
+  coalesce((SELECT c.status > 1 FROM scanned c WHERE c.name = r.name), 0) AS is_unread
 FROM {STATED} ORDER BY r.name
 """
 
@@ -75,7 +81,7 @@ SHOWN = {
 }
 
 ORDERS = """
-SELECT r.name AS recording, o.start, o."end", o.reason, o.is_inside
+SELECT r.name AS recording, o.start, o."end", o.reason, o.is_inside, o.is_again
 FROM recordings r JOIN orders o ON o.recording = r.id WHERE r.is_missing = 1 ORDER BY r.name
 """
 
@@ -123,13 +129,14 @@ def identity_of(connection: Connection, name: str) -> int:
 
 
 class Stretch:
-    """Orders of a recording that are restored as one: from where to where, why, and the form of source that takes what
-    comes."""
+    """Orders of a recording that are restored as one: from where to where, why, the form of source that takes what comes, and
+    whether some of it was handed in and doesn't do."""
 
     def __init__(self, row: Row) -> None:
         self.recording, self.start, self.end = row["recording"], int(row["start"]), number_or_none(row["end"])
         self.reasons = {row["reason"]: None}
         self.form = "range" if row["is_inside"] else "at"
+        self.is_again = bool(row["is_again"])
 
     def takes(self, order: Stretch, apart: int) -> bool:
         """Whether an order that doesn't begin ahead of it touches it, or lies less than so many bytes apart."""
@@ -139,21 +146,33 @@ class Stretch:
         """Restores an order with it."""
         self.end = None if self.end is None or order.end is None else max(self.end, order.end)
         self.reasons.update(order.reasons)
+        self.is_again = self.is_again or order.is_again
 
-    def row(self) -> tuple[Any, ...]:
-        """The row that is printed."""
+    def file(self) -> str:
+        """The name under which the folder of the recording takes what comes."""
+        return f"{self.start}.{'range' if self.form == 'range' else 'piece'}"
+
+    def row(self, known: dict[str, scanned.Scanned]) -> tuple[Any, ...]:
+        """The row that is printed. A file that is there is never named: its bytes or its OFFSET may be wrong."""
         length = None if self.end is None else self.end - self.start
-        return self.recording, self.start, self.end, length, ",".join(self.reasons), self.form
+        is_taken = self.recording in known and self.file() in known[self.recording].names()
+        file, again = None if is_taken else self.file(), "again" if self.is_again else None
+        return self.recording, self.start, self.end, length, ",".join(self.reasons), self.form, file, again
 
 
 def ordered(connection: Connection, by: str, apart: int) -> Answer:
-    """All orders, of which those of one recording are one that touch or lie less than so many bytes apart."""
+    """All orders, of which those of one recording are one that touch or lie less than so many bytes apart. A recording that
+    was scanned and is gone has none."""
+    known = scanned.all_of(connection)
     stretches: list[Stretch] = []
     for order in sorted(map(Stretch, connection.execute(ORDERS)), key=lambda one: (one.recording, one.start)):
+        if order.recording in known and known[order.recording].is_gone:
+            continue
         if stretches and stretches[-1].takes(order, apart):
             stretches[-1].add(order)
         else:
             stretches.append(order)
     if by == "offset":
         stretches.sort(key=lambda one: (one.start, one.recording))
-    return ["recording", "start", "end", "length", "reason", "form"], [one.row() for one in stretches]
+    heads = ["recording", "start", "end", "length", "reason", "form", "file", "again"]
+    return heads, [one.row(known) for one in stretches]

@@ -12,7 +12,8 @@ from mxf.running import end_by_signals, printed_by
 # The module that has each command as a function of its name. It is loaded for that command alone.
 MODULES = {
     "add": "adding", "list": "listing", "find": "finding", "show": "listing", "orders": "listing",
-    "verify": "verifying", "match": "matching", "lines": "adding", "load": "loading",
+    "verify": "verifying_all", "match": "matching", "lines": "adding", "load": "loading", "scan": "scanning",
+    "accept": "first_days", "pages": "pages", "rename": "renaming", "remove": "renaming", "join": "parts",
 }  # fmt: skip
 
 

@@ -2,6 +2,7 @@
 from __future__ import annotations
 
 import argparse
+import os
 from collections.abc import Callable, Sequence
 from typing import Any, NoReturn
 
@@ -26,6 +27,15 @@ class Words(argparse.Namespace):
     merge: int
     against: list[str]
     file: list[str]
+    folder: str
+    large: int
+    joined: str | None
+    into: str
+    part: tuple[int, int]
+    drop: bool
+    names: list[str]
+    old: str
+    new: str
 
 
 DESCRIPTION = (
@@ -39,6 +49,9 @@ EPILOG = (
 # Stands before a word behind --, which is no option whatever it looks like: Python's parse_intermixed_args forgets a -- ahead
 # of all words that are no options. No word of a call has a zero character.
 BEHIND = "\0"
+
+
+LARGE = 4_000_000_000  # bytes of a recording of which slices are joined side by side
 
 
 class WordFault(Exception):
@@ -176,10 +189,82 @@ def of_orders(command: argparse.ArgumentParser) -> None:
 def of_verify(command: argparse.ArgumentParser) -> None:
     """The words of verify."""
     add_database(command)
-    add_name(command)
-    said = "a source of the reference; there may be several"
-    command.add_argument("--against", metavar="SOURCE", action="append", required=True, help=said)
+    said = "the name of the recording; without it all that were scanned"
+    command.add_argument("name", metavar="NAME", nargs="?", type=word, help=said)
+    said = "a source of the reference; there may be several; without it the first day"
+    command.add_argument("--against", metavar="SOURCE", action="append", default=[], help=said)
+    add_jobs(command)
     add_sources(command)
+    add_forms(command)
+
+
+def add_jobs(command: argparse.ArgumentParser) -> None:
+    """The option of how many recordings are asked at once."""
+    said = "how many recordings go on side by side; else as many as there are processors"
+    command.add_argument("--jobs", metavar="N", type=number_from_1, default=os.cpu_count() or 1, help=said)
+
+
+def check_verify(words: Words) -> None:
+    """Sees that there is a reference for sources that are named, and a recording for a reference."""
+    if words.against and words.name is None:
+        raise argparse.ArgumentTypeError("the following arguments are required: NAME")
+    if not words.against and (words.source or words.sources is not None):
+        raise argparse.ArgumentTypeError("the following arguments are required: --against")
+
+
+def of_scan(command: argparse.ArgumentParser) -> None:
+    """The words of scan."""
+    add_database(command)
+    command.add_argument("folder", metavar="FOLDER", type=word, help="the folder of recordings")
+    add_jobs(command)
+    said = f"a file of more than so many bytes is read in slices side by side ({LARGE})"
+    command.add_argument("--large", metavar="BYTES", type=number, default=LARGE, help=said)
+    said = "a folder of catalogues that join made, which are taken in place of reading"
+    command.add_argument("--joined", metavar="CATALOGUES", help=said)
+
+
+def of_join(command: argparse.ArgumentParser) -> None:
+    """The words of join."""
+    command.add_argument("folder", metavar="FOLDER", type=word, help="the folder of recordings")
+    command.add_argument("into", metavar="CATALOGUES", type=word, help="the folder of the catalogues")
+    said = "the recordings of one of N parts; else all"
+    command.add_argument("--part", metavar="K/N", type=part, default=(1, 1), help=said)
+    add_jobs(command)
+
+
+def part(text: str) -> tuple[int, int]:
+    """Which part is meant, of how many."""
+    which, _, parts = text.partition("/")
+    if not 1 <= number(which) <= number(parts):
+        raise argparse.ArgumentTypeError("a part is K/N, from 1/N to N/N")
+    return int(which), int(parts)
+
+
+def of_accept(command: argparse.ArgumentParser) -> None:
+    """The words of accept."""
+    add_database(command)
+    add_name(command)
+    command.add_argument("--drop", action="store_true", help="also if more essence is dropped than is there")
+
+
+def of_pages(command: argparse.ArgumentParser) -> None:
+    """The words of pages."""
+    add_database(command)
+    command.add_argument("folder", metavar="FOLDER", type=word, help="the folder of the pages")
+    add_jobs(command)
+
+
+def of_remove(command: argparse.ArgumentParser) -> None:
+    """The words of remove."""
+    add_database(command)
+    command.add_argument("names", metavar="NAME", nargs="+", type=word, help="the name of a recording")
+
+
+def of_rename(command: argparse.ArgumentParser) -> None:
+    """The words of rename."""
+    add_database(command)
+    command.add_argument("old", metavar="OLD", type=word, help="the name of the recording")
+    command.add_argument("new", metavar="NEW", type=word, help="its new name")
 
 
 def of_match(command: argparse.ArgumentParser) -> None:
@@ -202,14 +287,20 @@ COMMANDS: dict[str, tuple[str, Callable[[argparse.ArgumentParser], None]]] = {
     "find": ("print which recordings have words, an identifier or a timecode", of_find),
     "show": ("print all of a recording", of_show),
     "orders": ("print what is to be restored", of_orders),
-    "verify": ("verify a recording, and keep what comes of it", of_verify),
+    "scan": ("put the recordings of a folder into the database, again only those that changed", of_scan),
+    "verify": ("verify recordings, and keep what comes of it", of_verify),
+    "accept": ("take what is there now for the first day of a recording", of_accept),
+    "pages": ("make a page of each recording that was scanned, and one of all", of_pages),
+    "rename": ("give a recording another name", of_rename),
+    "remove": ("take recordings out of the database", of_remove),
     "match": ("print of which recording fragments are, and where they lie in it", of_match),
+    "join": ("join recordings of a folder on one of many machines, for a scan", of_join),
     "lines": ("print what add would put into the database", of_lines),
     "load": ("put recordings into the database of which lines were printed", of_load),
 }
 
 # What is seen to beyond that.
-CHECKS: dict[str, Callable[[Words], None]] = {"add": check_add}
+CHECKS: dict[str, Callable[[Words], None]] = {"add": check_add, "verify": check_verify}
 
 
 def program_parser() -> argparse.ArgumentParser:

@@ -17,7 +17,6 @@ class Words(argparse.Namespace):
     skim: bool
     sources: str | None
     archive: str | None
-    index_of: str | None
     source: list[str]
 
     def span(self) -> list[str]:

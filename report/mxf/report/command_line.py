@@ -11,7 +11,6 @@ from mxf.files import check_place, write_whole
 from mxf.report.asked import Words
 from mxf.report.asking import Asking, is_skim
 from mxf.report.database_page import page_of_database
-from mxf.report.folder_page import page_of_folder
 from mxf.report.recording_page import page_of_recording
 from mxf.running import end_by_signals, status_of
 from mxf.sources import check_read_often, sources_of
@@ -56,9 +55,6 @@ def parser() -> argparse.ArgumentParser:
     essence.add_argument("--skim", action="store_true", help="pass over essence, which the page then says; the default")
     words.add_argument("--sources", metavar="FILE", help="a list of sources, one a line; - is standard input")
     words.add_argument("--archive", metavar="DB", help="a page of many recordings, of a database of mxf_archive")
-    words.add_argument(
-        "--index-of", metavar="FOLDER", help="a page of many recordings, of catalogues of examples/archive"
-    )
     words.add_argument("source", metavar="SRC", nargs="*", help="a source")
     return words
 
@@ -82,8 +78,6 @@ def write_report(words: Words) -> int:
         check_place(path)
         if words.archive is not None:
             text = page_of_database(words.archive, words)
-        elif words.index_of is not None:
-            text = page_of_folder(pathlib.Path(words.index_of), words)
         else:
             sources = sources_of(words.source, words.sources)
             check_read_often(words.against)
@@ -95,17 +89,15 @@ def write_report(words: Words) -> int:
 
 
 def check_words(accepted: argparse.ArgumentParser, words: Words) -> None:
-    """Sees that sources are named, or one place that has many recordings and nothing that a page of these doesn't take."""
-    many = [name for name, value in (("--archive", words.archive), ("--index-of", words.index_of)) if value is not None]
-    if not many and not words.source and words.sources is None:
+    """Sees that sources are named, or a database of many recordings and nothing that a page of these doesn't take."""
+    is_of_many = words.archive is not None
+    if not is_of_many and not words.source and words.sources is None:
         accepted.error("no source is named")
-    if len(many) > 1:
-        accepted.error("--archive and --index-of are two pages")
     others = (words.sources, words.index, words.first, words.last)
-    if many and (words.source or words.against or any(other is not None for other in others)):
-        accepted.error(f"{many[0]} takes no sources and no edit units")
-    if many and (words.read or words.skim):
-        accepted.error(f"{many[0]} reads no recording, so it takes no --read and no --skim")
+    if is_of_many and (words.source or words.against or any(other is not None for other in others)):
+        accepted.error("--archive takes no sources and no edit units")
+    if is_of_many and (words.read or words.skim):
+        accepted.error("--archive reads no recording, so it takes no --read and no --skim")
 
 
 def main() -> int:

@@ -26,7 +26,8 @@ KIND = Kind(
 
 class Kept(NamedTuple):
     """What a database has of a recording: its name; the name, length and first timecode of its main package; numbers of its
-    last state; when it was last verified whole; and how many packets differed when it was last verified."""
+    last state; when it was last verified whole; whether it is damaged; how many packets differed when it was last verified,
+    and whether bytes weren't verified then; and whether the last scan didn't find it, or couldn't read it."""
 
     name: str
     described: tuple[str | None, ...]
@@ -38,14 +39,20 @@ class Kept(NamedTuple):
     verified: str | None
     is_damaged: bool
     differs: int
+    is_partly_verified: bool
+    is_gone: bool
+    is_unread: bool
 
     def verdict(self) -> Verdict:
         """The recording in few words, one of OF_DATABASE."""
         holds = (
+            self.is_gone,
+            self.is_unread,
             self.differs,
             self.is_damaged,
             self.disputes,
             is_lacking(self.missing, self.orders),
+            self.is_partly_verified,
             self.findings,
             self.end is None,
         )
@@ -64,7 +71,8 @@ def kept_of(row: Row) -> Kept:
     described = (row["title"], row["length"], row["timecode"])
     counts = missing, orders, findings, disputes
     end = number_or_none(row["end"])
-    return Kept(row["name"], described, end, *counts, row["verified"], bool(row["is_damaged"]), row["differs"])
+    flags = (bool(row[name]) for name in ("is_partly_verified", "is_gone", "is_unread"))
+    return Kept(row["name"], described, end, *counts, row["verified"], bool(row["is_damaged"]), row["differs"], *flags)
 
 
 def row_of(one: Kept, page: pathlib.Path) -> Cells:

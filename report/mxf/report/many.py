@@ -8,6 +8,7 @@ import urllib.parse
 from collections.abc import Sequence
 from typing import NamedTuple
 
+from mxf.names import coded
 from mxf.report.bounds import RECORDINGS
 from mxf.report.drawings import add_share
 from mxf.report.elements import Element, add, add_section, clean
@@ -16,9 +17,6 @@ from mxf.report.rows import Rows
 from mxf.report.tables import Adder, Cell, Cells, add_table
 from mxf.report.verdicts import WHOLE, Verdict
 from mxf.report.wording import count_text
-
-# Bytes of a name that stand for themselves in the files of examples/archive; any other stands as ^ and its two digits.
-PLAIN = frozenset(b"abcdefghijklmnopqrstuvwxyzABCDEFGHIJKLMNOPQRSTUVWXYZ0123456789._+,@-") | frozenset(range(128, 256))
 
 
 class Kind(NamedTuple):
@@ -32,19 +30,11 @@ class Kind(NamedTuple):
     made: str
 
 
-def coded(name: str) -> str:
-    """A name as examples/archive has it in the names of files. A hyphen is coded at the front alone."""
-    parts = []
-    for place, byte in enumerate(os.fsencode(name)):
-        is_plain = byte in PLAIN and (place > 0 or byte != ord("-"))
-        parts.append(bytes([byte]) if is_plain else b"^%02X" % byte)
-    return os.fsdecode(b"".join(parts))
-
-
 def link_to(folder: pathlib.Path, page: pathlib.Path, name: str) -> Cell:
     """What adds the name of a recording, with a link to its page if that is there, by its name or by the name that
-    examples/archive gives to what it makes of it."""
-    paths = [folder / f"{one}.html" for one in (name, coded(name)) if "/" not in one and "\0" not in one]
+    mxf_archive gives to the page that it makes."""
+    names = [one for one in (name,) if "/" not in one and "\0" not in one]
+    paths = [folder / f"{one}.html" for one in (*names, coded(name))]
     path = next((path for path in paths if os.path.isfile(path) and path.resolve() != page.resolve()), None)
     if path is None:
         return name

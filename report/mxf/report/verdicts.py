@@ -14,15 +14,13 @@ class Verdict(NamedTuple):
 
 
 NOTHING_HELD = Verdict("Nothing is held", "fault")
+GONE = Verdict("Gone", "fault", "gone")
 UNREADABLE = Verdict("Can't be read", "fault", "can't be read")
-CHANGED = Verdict("Not as on its first day", "fault", "not as on the first day")
-UNVERIFIABLE = Verdict("Can't be verified", "fault", "can't be verified")
 DISPUTED = Verdict("Readings disagree", "fault", "with readings that disagree")
 DIFFERENT = Verdict("Not as the reference says", "fault", "not as the reference says")
 DAMAGED = Verdict("Damaged", "doubt", "damaged")
-PIECE_DAMAGED = Verdict("A piece is damaged", "doubt", "with a damaged piece")
 PARTS_MISSING = Verdict("Parts are missing", "doubt", "with parts missing")
-NOT_ALL_VERIFIED = Verdict("Not all as the reference says", "doubt")
+NOT_ALL_VERIFIED = Verdict("Not all as the reference says", "doubt", "not all as the reference says")
 PIECE_UNREAD = Verdict("A piece wasn't read to its end", "doubt")
 FOUND_WRONG = Verdict("Held, with findings", "doubt", "held, with findings")
 END_UNKNOWN = Verdict("Held as far as is known", "doubt", "held as far as is known")
@@ -33,9 +31,10 @@ OF_RECORDING = (
     NOTHING_HELD, DISPUTED, DIFFERENT, PARTS_MISSING, NOT_ALL_VERIFIED, PIECE_UNREAD, FOUND_WRONG, END_UNKNOWN, WHOLE,
 )  # fmt: skip
 
-# The verdicts of the recordings of a folder of catalogues, and of a database; the worst first.
-OF_FOLDER = (UNREADABLE, CHANGED, UNVERIFIABLE, PIECE_DAMAGED, PARTS_MISSING, FOUND_WRONG, END_UNKNOWN, WHOLE)
-OF_DATABASE = (DIFFERENT, DAMAGED, DISPUTED, PARTS_MISSING, FOUND_WRONG, END_UNKNOWN, WHOLE)
+# The verdicts of the recordings of a database; the worst first.
+OF_DATABASE = (
+    GONE, UNREADABLE, DIFFERENT, DAMAGED, DISPUTED, PARTS_MISSING, NOT_ALL_VERIFIED, FOUND_WRONG, END_UNKNOWN, WHOLE,
+)  # fmt: skip
 
 
 def first_of(verdicts: Sequence[Verdict], holds: Iterable[object]) -> Verdict:
