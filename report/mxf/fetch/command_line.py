@@ -1,0 +1,109 @@
+"""How mxf_fetch is run by its words."""
+from __future__ import annotations
+
+import errno
+import os
+import shutil
+import signal
+import sys
+import tempfile
+from collections.abc import Callable
+from pathlib import Path
+
+from mxf.faults import NO_PROGRAM, OUTPUT, OwnFault, ToolFault
+from mxf.fetch import calls
+from mxf.fetch.asking import Asking
+from mxf.fetch.calls import Call
+from mxf.fetch.faults import Bounded
+from mxf.fetch.folder import Folder
+from mxf.fetch.getting import Getting
+from mxf.fetch.places import CommandPlace, PathPlace, Place
+from mxf.fetch.words import Words, read_words
+
+COMMAND = "cmd:"
+SCHEMES = ("http://", "https://")
+
+RUN: dict[str, Callable[[Call], int]] = {
+    "look": calls.look, "units": calls.units, "whole": calls.whole,
+}  # fmt: skip
+
+
+def place_of(words: Words) -> tuple[Place, str]:
+    """The place that WHERE names, and how that is shown to people."""
+    where = words.where
+    if where.startswith(COMMAND):
+        return CommandPlace(where[len(COMMAND) :]), where
+    if not where.lower().startswith(SCHEMES):
+        return PathPlace(where), os.path.abspath(where)
+    try:
+        from mxf.fetch.web import WebPlace  # the one part that needs more than Python itself
+    except ImportError as fault:
+        told = f"http needs requests of Python (python3-requests of Debian): {fault.msg}"
+        raise OwnFault(NO_PROGRAM, told) from fault
+    place = WebPlace(where, words.headers, words.timeout, words.jobs)
+    return place, place.shown
+
+
+def run(words: Words) -> int:
+    """Runs the command that the words name, and answers its status. Without a folder it has one of its own meanwhile."""
+    if words.into is not None:
+        return run_in(Path(words.into), words)
+    path = tempfile.mkdtemp(prefix="mxf_fetch.")
+    try:
+        return run_in(Path(path), words)
+    finally:
+        shutil.rmtree(path, ignore_errors=True)
+
+
+def run_in(path: Path, words: Words) -> int:
+    """The same with a folder."""
+    place, shown = place_of(words)
+    folder = Folder(path, shown, words.into or "this call", isinstance(place, CommandPlace))
+    try:
+        return RUN[words.command](
+            Call(words, Getting(place, folder, words.most, words.jobs), Asking(folder, words.source))
+        )
+    finally:
+        folder.close()
+
+
+def status_of(words: Words) -> int:
+    """Runs the command, says what went wrong, and answers the status."""
+    try:
+        return run(words)
+    except ToolFault as fault:
+        sys.stdout.flush()
+        sys.stderr.buffer.write(fault.message)
+        return fault.status
+    except OwnFault as fault:
+        print(f"mxf_fetch: {fault}", file=sys.stderr)
+        return fault.status
+    except Bounded as fault:
+        print(f"mxf_fetch: {fault}", file=sys.stderr)
+        return 1
+    except KeyboardInterrupt:
+        return 128 + signal.SIGINT
+
+
+def end_by_signals() -> None:
+    """Lets a signal that ends this program end what it has begun too, and remove what nobody keeps, as an interrupt does."""
+    for number in (signal.SIGHUP, signal.SIGTERM):
+        if signal.getsignal(number) == signal.SIG_DFL:
+            signal.signal(number, lambda number, _: sys.exit(128 + number))
+
+
+def main() -> int:
+    """Runs the program, and answers its status. All that it prints is written then."""
+    words = read_words(sys.argv[1:])
+    end_by_signals()
+    try:
+        if sys.stdout is None:
+            raise OSError(errno.EBADF, os.strerror(errno.EBADF))
+        status = status_of(words)
+        sys.stdout.flush()
+        return status
+    except OSError as fault:
+        # Nothing that is left for a closed standard output may be written at the end.
+        os.dup2(os.open(os.devnull, os.O_WRONLY), 1)
+        print(f"mxf_fetch: write fault: {fault.filename or 'standard output'}: {fault.strerror}", file=sys.stderr)
+        return OUTPUT
