@@ -14,6 +14,7 @@ from mxf.faults import NO_PROGRAM, OUTPUT, OwnFault, ToolFault
 from mxf.fetch import calls
 from mxf.fetch.asking import Asking
 from mxf.fetch.calls import Call
+from mxf.fetch.clipping import clip
 from mxf.fetch.faults import Bounded
 from mxf.fetch.folder import Folder
 from mxf.fetch.getting import Getting
@@ -24,7 +25,7 @@ COMMAND = "cmd:"
 SCHEMES = ("http://", "https://")
 
 RUN: dict[str, Callable[[Call], int]] = {
-    "look": calls.look, "units": calls.units, "whole": calls.whole,
+    "look": calls.look, "units": calls.units, "clip": clip, "whole": calls.whole,
 }  # fmt: skip
 
 
