@@ -25,6 +25,7 @@ PLAYER = "ffmpeg"
 # ffmpeg looks for the key frame so many seconds ahead of the place that is named, if pictures are stored in another order
 # than they are shown in.
 AHEAD = Fraction(3, 23)
+MORE = 8  # units by which the times of pictures and of sounds that are stored together may differ
 
 
 def clip(call: Call) -> int:
@@ -42,9 +43,9 @@ def clip(call: Call) -> int:
         if minute.status != 0 or minute.counted is None:
             return minute.status or 1
         cut = cut_of(call.asking, call.asked(), minute.counted)
-        begun = make(call, cut, part)
+        make(call, cut, part)
         os.replace(part, path)
-    print(f"clipped {path} from {begun} to {cut.last}")
+    print(f"clipped {path} from {begin_text(call, cut)} to {unit_text(words.last)}")
     return 0
 
 
@@ -62,13 +63,14 @@ def beside(path: Path) -> Iterator[Path]:
         raise OwnFault(OUTPUT, f"write fault: {path}: {fault.strerror}") from fault
 
 
-def make(call: Call, cut: Cut, part: Path) -> str:
-    """Makes the file, and answers what it begins with."""
+def make(call: Call, cut: Cut, part: Path) -> None:
+    """Makes the file."""
     shown = call.asking.lines("show")
     size = call.getting.size or max(span.end for span in call.getting.folder.held())
     if call.words.sparse is not None:
         write_sparse(part, call.getting.folder, kept_spans(shown, cut.units), size)
-        return cut.first
+        secure(part)
+        return
     sparse = call.getting.folder.path / "sparse.part"
     try:
         write_sparse(sparse, call.getting.folder, kept_spans(shown, cut.units), size)
@@ -78,15 +80,23 @@ def make(call: Call, cut: Cut, part: Path) -> str:
             check_packets(call, cut, packets, first_values(sparse, shown, cut.key))
     finally:
         sparse.unlink(missing_ok=True)
-    with open(part, "rb") as file:
+    secure(part)
+
+
+def secure(path: Path) -> None:
+    """Brings a file to the disk."""
+    with open(path, "rb") as file:
         os.fsync(file.fileno())
-    return asked_text(call, cut) if call.words.exact else cut.first
 
 
-def asked_text(call: Call, cut: Cut) -> str:
-    """What is asked for first: a timecode, or the number of a unit."""
-    first = str(call.words.first)
-    return first if ":" in first else f"unit {first}"
+def begin_text(call: Call, cut: Cut) -> str:
+    """What the file begins with: a timecode, or the number of a unit."""
+    return unit_text(call.words.first) if call.words.exact else cut.first
+
+
+def unit_text(word: str | None) -> str:
+    """A timecode, or the number of a unit, as people read it."""
+    return word if word and ":" in word else f"unit {word}"
 
 
 def player_words(call: Call, cut: Cut, sparse: Path, part: Path, has_pictures: bool) -> list[str]:
@@ -94,14 +104,14 @@ def player_words(call: Call, cut: Cut, sparse: Path, part: Path, has_pictures: b
     if call.words.exact:
         # A quarter of a picture ahead of the first one, so that no rounding leaves that out.
         begin, length = cut.asked - cut.tick / 4, cut.wanted * cut.tick
-        bounds = ["-t", seconds(length), *(["-frames:v", str(cut.wanted)] if has_pictures else [])]
         how = ["-q:v", "2", "-c:a", "copy", "-copypriorss:a", "0"]
     else:
         ahead = AHEAD if cut.keyed * cut.unit > AHEAD + 2 * cut.unit else Fraction(0)
-        begin, length = cut.begin + ahead + cut.unit / 4, cut.count * cut.unit - ahead
-        bounds = ["-t", seconds(length), *(["-frames:v", str(cut.count)] if has_pictures else [])]
+        # Behind the last unit nothing is found, so the length bounds only how far ffmpeg looks.
+        begin, length = cut.begin + ahead + cut.unit / 4, (cut.count + MORE) * cut.unit
         how = ["-c", "copy", "-avoid_negative_ts", "make_zero"]
-    timed = ["-timecode", asked_text(call, cut) if call.words.exact else cut.first] if cut.is_timed else []
+    bounds = ["-t", seconds(length)]
+    timed = ["-timecode", begin_text(call, cut)] if cut.is_timed else []
     given = [PLAYER, "-nostdin", "-v", "fatal", "-ss", seconds(begin), "-i", f"file:{sparse}"]
     made = ["-map", "0:v?", "-map", "0:a?", *bounds, *how, *timed, "-y", f"file:{part}"]
     told = ["-map", "0:v:0", *bounds, *how[:2], "-f", "framemd5", "pipe:1"] if has_pictures else []

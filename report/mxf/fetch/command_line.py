@@ -16,7 +16,7 @@ from mxf.fetch.asking import Asking
 from mxf.fetch.calls import Call
 from mxf.fetch.clipping import clip
 from mxf.fetch.faults import Bounded
-from mxf.fetch.folder import Folder
+from mxf.fetch.folder import Folder, Kind
 from mxf.fetch.getting import Getting
 from mxf.fetch.places import CommandPlace, PathPlace, Place
 from mxf.fetch.words import Words, read_words
@@ -59,7 +59,8 @@ def run(words: Words) -> int:
 def run_in(path: Path, words: Words) -> int:
     """The same with a folder."""
     place, shown = place_of(words)
-    folder = Folder(path, shown, words.into or "this call", isinstance(place, CommandPlace))
+    kind = Kind(stays=words.into is not None, adopts=isinstance(place, CommandPlace))
+    folder = Folder(path, shown, words.into or "this call", kind)
     try:
         return RUN[words.command](
             Call(words, Getting(place, folder, words.most, words.jobs), Asking(folder, words.source))

@@ -16,8 +16,8 @@ TOO_MANY = "too many units"
 
 @dataclasses.dataclass(frozen=True)
 class Cut:
-    """A cut from a key frame to the last unit that is asked for. What it begins and ends with is told by timecodes if there
-    is a clock, and else by the numbers of units."""
+    """A cut from a key frame to the last unit that is asked for. What it begins with is told by a timecode if there is a
+    clock, and else by the number of a unit."""
 
     units: Span  # where the units lie
     key: Span  # where the first of them lies
@@ -29,7 +29,6 @@ class Cut:
     unit: Fraction  # the seconds of a unit
     keyed: int  # units up to the next key frame
     first: str  # what it begins with
-    last: str
     is_timed: bool
 
 
@@ -62,7 +61,6 @@ def cut_of(asking: Asking, asked: Asked, counted: Counted) -> Cut:
         unit=1 / clock.rate,
         keyed=(keys[0] if keys else last + 1) - key["unit"],
         first=min(zip(placed, (line["at"] for line in timed)))[1] if placed else f"unit {key['unit']}",
-        last=max(zip(placed, (line["at"] for line in timed)))[1] if placed else f"unit {last}",
         is_timed=bool(placed),
     )
 

@@ -9,7 +9,7 @@ import re
 import threading
 from collections.abc import Iterator
 from pathlib import Path
-from typing import IO
+from typing import IO, Any, NamedTuple
 
 from mxf.faults import OUTPUT, READ, USAGE, OwnFault
 from mxf.fetch.recording import Identity, Recording
@@ -19,13 +19,20 @@ STATE = "fetched.json"
 RANGE = re.compile(r"(0|[1-9][0-9]{0,18})\.range")
 
 
+class Kind(NamedTuple):
+    """Whether a folder stays after the call, and whether it takes ranges that were there before as those of its recording."""
+
+    stays: bool
+    adopts: bool
+
+
 class Folder:
     """A folder that no other run has. The bytes of a range are written to its file in their order, so whatever ends a run
     leaves the front of a range. What is held is what the files have."""
 
-    def __init__(self, path: Path, shown: str, begun: str, adopts: bool) -> None:
+    def __init__(self, path: Path, shown: str, begun: str, kind: Kind) -> None:
         self.path = path
-        self.adopts = adopts
+        self.kind = kind
         self.recording = Recording(shown, begun)
         self.saved: Identity | None = None
         self.lock = threading.Lock()
@@ -58,7 +65,7 @@ class Folder:
             state = json.loads(path.read_bytes())
             where, identity = state["where"], Identity(state["size"], state["etag"], state["modified"])
         except FileNotFoundError:
-            if self.files() and not self.adopts:
+            if self.files() and not self.kind.adopts:
                 raise OwnFault(
                     USAGE, f"bad folder: {self.path}: it has ranges, and no {STATE} that says of what"
                 ) from None
@@ -87,10 +94,15 @@ class Folder:
             with open(beside, "w", encoding="utf-8") as file:
                 json.dump(state, file, indent=1)
                 file.write("\n")
-                file.flush()
-                os.fsync(file.fileno())
+                self.secure(file)
             os.replace(beside, self.path / STATE)
         self.saved = Identity(size, etag, modified)
+
+    def secure(self, file: IO[Any]) -> None:
+        """Brings a file to the disk, if it is to be there later."""
+        file.flush()
+        if self.kind.stays:
+            os.fsync(file.fileno())
 
     def files(self) -> dict[int, Path]:
         """The files of ranges, by the offset of their first byte."""
@@ -120,8 +132,7 @@ class Folder:
                 try:
                     yield file
                 finally:
-                    file.flush()
-                    os.fsync(file.fileno())
+                    self.secure(file)
                     if os.fstat(file.fileno()).st_size == 0:
                         path.unlink()
 

@@ -20,14 +20,14 @@ CONTAINED = "0d010301"  # bytes 9 to 12 of the keys of what an essence container
 
 def kept_spans(notes: Iterable[Line], units: Span) -> list[Span]:
     """The bytes that a player is to find: the packets of the structure, what the container holds of the units, and its first
-    packet in each partition, from which a player counts. All else that came is essence of other units."""
+    packet in each partition up to them, from which a player counts. All else that came is essence of other units."""
     kept, is_first = [units], False
     for note in notes:
         if note["line"] != "note":
             continue
         span, is_contained = Span(note["offset"], note["end"]), note["key"][16:24] == CONTAINED
         is_first = is_first or note["kind"] in PARTITIONS
-        if not is_contained or is_first or (span.start < units.end and units.start < span.end):
+        if not is_contained or (span.start < units.end and (is_first or units.start < span.end)):
             kept.append(span)
         is_first = is_first and not is_contained
     return together(kept)
@@ -54,8 +54,6 @@ def write_sparse(path: Path, folder: Folder, kept: list[Span], size: int) -> Non
             out.seek(hole.start)
             out.write(FILL + (hole.length - FILL_FRONT).to_bytes(8, "big"))
         out.truncate(size)
-        out.flush()
-        os.fsync(out.fileno())
 
 
 def holes(kept: list[Span], size: int) -> Iterator[Span]:
