@@ -16,7 +16,7 @@ from mxf.fetch import looking
 from mxf.fetch.calls import Call, tell_minute
 from mxf.fetch.cuts import Cut, cut_of
 from mxf.fetch.minutes import get_units
-from mxf.fetch.sparse import kept_spans, write_sparse
+from mxf.fetch.sparse import layout_of, write_sparse
 from mxf.fetch.spans import Span
 from mxf.lines import Line
 
@@ -68,12 +68,12 @@ def make(call: Call, cut: Cut, part: Path) -> None:
     shown = call.asking.lines("show")
     size = call.getting.size or max(span.end for span in call.getting.folder.held())
     if call.words.sparse is not None:
-        write_sparse(part, call.getting.folder, kept_spans(shown, cut.units), size)
+        write_sparse(part, call.getting.folder, layout_of(shown, cut.units), size)
         secure(part)
         return
     sparse = call.getting.folder.path / "sparse.part"
     try:
-        write_sparse(sparse, call.getting.folder, kept_spans(shown, cut.units), size)
+        write_sparse(sparse, call.getting.folder, layout_of(shown, cut.units), size)
         has_pictures = any(line["line"] == "picture" for line in call.asking.lines("describe"))
         packets = run_player(player_words(call, cut, sparse, part, has_pictures))
         if has_pictures:
@@ -101,15 +101,16 @@ def unit_text(word: str | None) -> str:
 
 def player_words(call: Call, cut: Cut, sparse: Path, part: Path, has_pictures: bool) -> list[str]:
     """The call of ffmpeg. Beside the file it prints the digest of each picture as it is stored in that."""
-    if call.words.exact:
-        # A quarter of a picture ahead of the first one, so that no rounding leaves that out.
+    # A quarter of a unit at a border, so that no rounding takes one more or leaves one out.
+    begin, length = cut.asked, cut.wanted * cut.tick - cut.unit / 4
+    how = ["-c", "copy", "-avoid_negative_ts", "make_zero"]
+    if has_pictures and call.words.exact:
         begin, length = cut.asked - cut.tick / 4, cut.wanted * cut.tick
         how = ["-q:v", "2", "-c:a", "copy", "-copypriorss:a", "0"]
-    else:
+    elif has_pictures:
         ahead = AHEAD if cut.keyed * cut.unit > AHEAD + 2 * cut.unit else Fraction(0)
         # Behind the last unit nothing is found, so the length bounds only how far ffmpeg looks.
         begin, length = cut.begin + ahead + cut.unit / 4, (cut.count + MORE) * cut.unit
-        how = ["-c", "copy", "-avoid_negative_ts", "make_zero"]
     bounds = ["-t", seconds(length)]
     timed = ["-timecode", begin_text(call, cut)] if cut.is_timed else []
     given = [PLAYER, "-nostdin", "-v", "fatal", "-ss", seconds(begin), "-i", f"file:{sparse}"]

@@ -4,33 +4,46 @@ from __future__ import annotations
 import os
 from collections.abc import Iterable, Iterator
 from pathlib import Path
-from typing import IO
+from typing import IO, NamedTuple
 
 from mxf.fetch.folder import Folder
 from mxf.fetch.places import read_blocks
 from mxf.fetch.spans import Span, together
 from mxf.lines import Line
 
-# The key of a fill packet, and what says that its length has eight bytes more (ST 377-1, ST 336).
-FILL = bytes.fromhex("060e2b34010101020301021001000000") + b"\x88"
-FILL_FRONT = len(FILL) + 8
+# The keys of a fill packet (ST 377-1), and of a system item of a container (SMPTE 326M), which is no picture and no
+# sound; and what says that a length has eight bytes more (ST 336).
+FILL = bytes.fromhex("060e2b34010101020301021001000000")
+SYSTEM = bytes.fromhex("060e2b34020501010d01030104010100")
+LONG = b"\x88"
+FRONT = len(FILL + LONG) + 8
+
 PARTITIONS = {"header", "body", "footer"}
 CONTAINED = "0d010301"  # bytes 9 to 12 of the keys of what an essence container holds
 
 
-def kept_spans(notes: Iterable[Line], units: Span) -> list[Span]:
-    """The bytes that a player is to find: the packets of the structure, what the container holds of the units, and its first
-    packet in each partition up to them, from which a player counts. All else that came is essence of other units."""
-    kept, is_first = [units], False
+class Layout(NamedTuple):
+    """The bytes that a player is to find: the packets of the structure, and what the container holds of the units. All else
+    that came is essence of other units. A player counts the bytes of a partition from where its essence begins, so that is
+    told too."""
+
+    kept: list[Span]
+    begins: list[int]
+
+
+def layout_of(notes: Iterable[Line], units: Span) -> Layout:
+    """The layout for units, by the lines of `show`."""
+    kept, begins, is_first = [units], [], False
     for note in notes:
         if note["line"] != "note":
             continue
         span, is_contained = Span(note["offset"], note["end"]), note["key"][16:24] == CONTAINED
-        is_first = is_first or note["kind"] in PARTITIONS
-        if not is_contained or (span.start < units.end and (is_first or units.start < span.end)):
+        if not is_contained or (span.start < units.end and units.start < span.end):
             kept.append(span)
-        is_first = is_first and not is_contained
-    return together(kept)
+        elif is_first:
+            begins.append(span.start)
+        is_first = note["kind"] in PARTITIONS or (is_first and not is_contained)
+    return Layout(together(kept), begins)
 
 
 def copy(folder: Folder, span: Span, out: IO[bytes]) -> None:
@@ -44,20 +57,23 @@ def copy(folder: Folder, span: Span, out: IO[bytes]) -> None:
                 out.writelines(read_blocks(file, end - begin))
 
 
-def write_sparse(path: Path, folder: Folder, kept: list[Span], size: int) -> None:
-    """Writes the file. From the end of what is kept to what is kept next a fill packet leads, so that a player that goes
-    from packet to packet passes the hole over."""
+def write_sparse(path: Path, folder: Folder, layout: Layout, size: int) -> None:
+    """Writes the file. A packet leads from the end of what is kept to what is kept next, so that a player that goes from
+    packet to packet passes the hole over."""
     with open(path, "wb") as out:
-        for span in kept:
+        for span in layout.kept:
             copy(folder, span, out)
-        for hole in holes(kept, size):
+        for hole in holes(layout, size):
             out.seek(hole.start)
-            out.write(FILL + (hole.length - FILL_FRONT).to_bytes(8, "big"))
+            key = SYSTEM if hole.start in layout.begins else FILL
+            out.write(key + LONG + (hole.length - FRONT).to_bytes(8, "big"))
         out.truncate(size)
 
 
-def holes(kept: list[Span], size: int) -> Iterator[Span]:
-    """What lies between spans that are kept, where a fill packet fits."""
-    for before, after in zip(kept, [*kept[1:], Span(size, size)]):
-        if after.start - before.end >= FILL_FRONT:
-            yield Span(before.end, after.start)
+def holes(layout: Layout, size: int) -> Iterator[Span]:
+    """What lies between spans that are kept, each up to where the essence of a partition begins, and from there on."""
+    for before, after in zip(layout.kept, [*layout.kept[1:], Span(size, size)]):
+        places = [before.end, *(place for place in layout.begins if before.end < place < after.start), after.start]
+        for start, end in zip(places, places[1:]):
+            if end - start >= FRONT:
+                yield Span(start, end)
