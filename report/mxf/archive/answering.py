@@ -2,38 +2,39 @@
 from __future__ import annotations
 
 from collections.abc import Sequence
-from itertools import chain
 from sqlite3 import Connection, Row
 from typing import Any
 
-from mxf.archive import moments, schema
-from mxf.archive.faults import USAGE, OwnFault
+from mxf import moments
 from mxf.archive.printing import number_or_none
+from mxf.faults import USAGE, OwnFault
 
 # The columns of a list.
 HEADS = ("recording", "name", "length", "timecode", "end", "missing", "orders", "findings", "disputes", "verified")
 
-# A row of a list as a text, by the form that is printed. The database has it ready, for to make Python's values of each row,
-# or SQLite's texts of them, takes several times as long.
-ROWS = {"table": "printf(:layout, name, ifnull(title, '-'), listed)", "csv": "listed_csv", "json": "listed_json"}
+# How a line of a list is laid out behind the name of the recording and its own name.
+LAYOUT = "%-12s  %-11s  %13s  %13s  %6s  %8s  %8s  %s"
+
+LISTED = """
+SELECT r.name, r.title, r.length, r.timecode, s."end", s.missing, s.orders, s.findings, s.disputes,
+  nullif(r.verified, '') AS verified
+FROM recordings r JOIN states s ON s.recording = r.id AND s.number = r.state
+"""
 
 # What is listed, by the option.
 LISTS = {
-    "all": "ORDER BY name",
-    "missing": "WHERE is_missing = 1 ORDER BY name",
-    "damaged": "WHERE is_damaged = 1 ORDER BY name",
-    "disputed": "WHERE is_disputed = 1 ORDER BY name",
-    "changed": "WHERE is_changed = 1 ORDER BY name",
-    "unverified": "WHERE verified < :since ORDER BY verified, name",
+    "all": "ORDER BY r.name",
+    "missing": "WHERE r.is_missing = 1 ORDER BY r.name",
+    "damaged": "WHERE r.is_damaged = 1 ORDER BY r.name",
+    "disputed": "WHERE r.is_disputed = 1 ORDER BY r.name",
+    "changed": "WHERE r.is_changed = 1 ORDER BY r.name",
+    "unverified": "WHERE r.verified < :since ORDER BY r.verified, r.name",
 }
 
 # What a page of all recordings shows: the row of a list, whether each is damaged, and how many packets differed when it was
 # last verified.
-OVERVIEW = """
-SELECT listed_json, is_damaged,
-  coalesce((SELECT v.differs FROM verifications v WHERE v.recording = id ORDER BY v.number DESC LIMIT 1), 0) AS differs
-FROM recordings ORDER BY name
-"""
+OVERVIEW = LISTED.replace("AS verified", """AS verified, r.is_damaged,
+  coalesce((SELECT v.differs FROM verifications v WHERE v.recording = r.id ORDER BY v.number DESC LIMIT 1), 0) AS differs""")
 
 # What `show` prints of a recording, table by table.
 SHOWN = {
@@ -75,7 +76,8 @@ SELECT r.name AS recording, o.start, o."end", o.reason, o.is_inside
 FROM recordings r JOIN orders o ON o.recording = r.id WHERE r.is_missing = 1 ORDER BY r.name
 """
 
-Answer = tuple[list[str], list[tuple[Any, ...]]]
+Rows = list[tuple[Any, ...]]
+Answer = tuple[list[str], Rows]
 
 
 def answer_of(connection: Connection, question: str, values: Sequence[object] | dict[str, str] = ()) -> Answer:
@@ -86,25 +88,15 @@ def answer_of(connection: Connection, question: str, values: Sequence[object] | 
     return [column[0] for column in cursor.description], rows
 
 
-def listed(connection: Connection, what: str, days: int | None, form: str) -> list[str]:
-    """The recordings of a list, each as a text of ROWS, and but for JSON the heads before them. Those that weren't verified
-    for so many days go by the time of their last verification."""
-    values = {} if days is None else {"since": before(days)}
-    heads = [",".join(HEADS)] if form == "csv" else []
-    if form == "table":
-        values["layout"] = layout_of(connection)
-        # Python counts characters without being told to.
-        heads.append(values["layout"].replace("!", "") % (*HEADS[:2], schema.LAYOUT % HEADS[2:]))
-    texts = answer_of(connection, f"SELECT {ROWS[form]} FROM recordings {LISTS[what]}", values)[1]
-    return [*heads, *chain.from_iterable(texts)]
+def listed(connection: Connection, what: str, days: int | None) -> Rows:
+    """The rows of a list. Those that weren't verified for so many days go by the time of their last verification."""
+    return answer_of(connection, LISTED + LISTS[what], {} if days is None else {"since": before(days)})[1]
 
 
-def layout_of(connection: Connection) -> str:
-    """How a line of a list is laid out, for printf of SQLite: the two names are as wide in characters as the widest of all
-    recordings."""
-    widest = "SELECT (SELECT max(length(name)) FROM recordings), (SELECT max(length(title)) FROM recordings)"
-    (widths,) = answer_of(connection, widest)[1]
-    return "".join(f"%-!{max(len(head), width or 0)}s  " for head, width in zip(HEADS, widths)) + "%s"
+def layout_of(rows: Rows) -> str:
+    """How a list is laid out: the two names are as wide as the widest."""
+    widths = [max(map(len, [HEADS[place], *(row[place] or "-" for row in rows)])) for place in (0, 1)]
+    return f"%-{widths[0]}s  %-{widths[1]}s  {LAYOUT}"
 
 
 def before(days: int) -> str:
@@ -112,7 +104,7 @@ def before(days: int) -> str:
     return moments.text_of(moments.now() - days * moments.DAY) or "0"
 
 
-def shown(connection: Connection, identity: int) -> list[tuple[str, list[str], list[tuple[Any, ...]]]]:
+def shown(connection: Connection, identity: int) -> list[tuple[str, list[str], Rows]]:
     """All of a recording: each table that has something of it."""
     parts = [(table, *answer_of(connection, question, (identity,))) for table, question in SHOWN.items()]
     return [part for part in parts if part[2]]

@@ -10,7 +10,7 @@ from collections.abc import Iterator
 from sqlite3 import Connection, Row
 
 from mxf.archive import schema
-from mxf.archive.faults import DATA, NO_PROGRAM, READ, UNWRITTEN, OwnFault, tell_own
+from mxf.faults import DATA, NO_PROGRAM, READ, UNWRITTEN, OwnFault, tell_own
 
 PATIENCE = 1  # seconds after which it is said that another writer is waited for
 LONGEST = 600  # seconds that are waited at most
@@ -102,15 +102,14 @@ def reading(path: str) -> Iterator[Connection]:
         yield connection
 
 
-def check_place(path: str, is_soon: bool = False) -> None:
-    """Sees that a database can be written there, before a recording is asked for, which may take an hour. If it is written to
-    soon, that tells its version."""
+def check_place(path: str) -> None:
+    """Sees that a database can be written there, before a recording is asked for, which may take an hour."""
     check_library()
     folder = os.path.dirname(os.path.abspath(path))
     is_there = os.path.exists(path)
     if not is_there and not os.path.isdir(folder):
         raise OwnFault(UNWRITTEN, f"write fault: {path}: No such file or directory")
-    if not is_soon and is_there and os.path.getsize(path):
+    if is_there and os.path.getsize(path):
         with faults_of(path, UNWRITTEN), contextlib.closing(
             sqlite3.connect(address_of(path, "ro"), uri=True)
         ) as connection:
@@ -144,38 +143,58 @@ class Waiting:
                 time.sleep(0.02)
 
 
+class Writer:
+    """A database that is open to be written to."""
+
+    def __init__(self, path: str, connection: Connection) -> None:
+        self.path, self.connection = path, connection
+
+    @contextlib.contextmanager
+    def transaction(self) -> Iterator[Connection]:
+        """A transaction that writes to the database, all or nothing."""
+        with faults_of(self.path, UNWRITTEN):
+            Waiting(self.path).until(self.connection, "BEGIN IMMEDIATE")
+            try:
+                take_steps(self.connection, version_of(self.connection, self.path))
+                yield self.connection
+                self.connection.execute("COMMIT")
+            except BaseException:
+                if self.connection.in_transaction:
+                    self.connection.execute("ROLLBACK")
+                raise
+
+
+@contextlib.contextmanager
+def writer(path: str, is_new: bool = False) -> Iterator[Writer]:
+    """A database that several transactions may write to. If it may be new, it is made."""
+    check_library()
+    if not is_new and not os.path.exists(path):
+        raise OwnFault(READ, f"read fault: {path}: No such file or directory")
+    with contextlib.ExitStack() as opened:
+        with faults_of(path, UNWRITTEN):
+            mode = "rwc" if is_new else "rw"
+            connection = sqlite3.connect(address_of(path, mode), uri=True, isolation_level=None)
+            opened.enter_context(contextlib.closing(connection))
+            connection.row_factory = Row
+            if version_of(connection, path) == 0:
+                Waiting(path).until(connection, "PRAGMA journal_mode = WAL")
+            connection.execute("PRAGMA synchronous = FULL")
+            connection.execute("PRAGMA foreign_keys = ON")
+        yield Writer(path, connection)
+
+
 @contextlib.contextmanager
 def writing(path: str, is_new: bool = False) -> Iterator[Connection]:
     """A transaction that writes to the database, all or nothing. If that may be new, it is made."""
-    if not is_new and not os.path.exists(path):
-        raise OwnFault(READ, f"read fault: {path}: No such file or directory")
-    with faults_of(path, UNWRITTEN):
-        mode = "rwc" if is_new else "rw"
-        connection = sqlite3.connect(address_of(path, mode), uri=True, isolation_level=None)
-        with contextlib.closing(connection):
-            connection.row_factory = Row
-            waiting = Waiting(path)
-            if version_of(connection, path) == 0:
-                waiting.until(connection, "PRAGMA journal_mode = WAL")
-            connection.execute("PRAGMA synchronous = FULL")
-            connection.execute("PRAGMA foreign_keys = ON")
-            waiting.until(connection, "BEGIN IMMEDIATE")
-            try:
-                take_steps(connection, version_of(connection, path))
-                yield connection
-                connection.execute("COMMIT")
-            except BaseException:
-                if connection.in_transaction:
-                    connection.execute("ROLLBACK")
-                raise
+    with writer(path, is_new) as opened, opened.transaction() as connection:
+        yield connection
 
 
 def take_steps(connection: Connection, version: int) -> None:
     """Brings the tables from a version of the schema to the last one; from 0 on they are made."""
     if version == schema.VERSION:
         return
-    for step in schema.STEPS[version:]:
-        for statement in step.split(";\n"):
-            connection.execute(statement)
+    for statement in schema.steps_from(version):
+        connection.execute(statement)
     connection.execute(f"PRAGMA application_id = {schema.APPLICATION}")
     connection.execute(f"PRAGMA user_version = {schema.VERSION}")

@@ -3,13 +3,13 @@ from __future__ import annotations
 
 import functools
 from collections.abc import Collection, Sequence
-from itertools import chain, groupby
 from sqlite3 import Connection, Row
+from typing import Any
 
-from mxf.archive import database, printing, timecodes
+from mxf import timecodes
+from mxf.archive import database, printing
 from mxf.archive.answering import answer_of
-from mxf.archive.schema import FOUND, FOUND_AS
-from mxf.archive.texts import words_of
+from mxf.archive.texts import question_of
 from mxf.archive.words import Words
 
 BY_UMID = """
@@ -31,12 +31,10 @@ WHERE h.hour = ? AND h.first < ?
 ORDER BY r.name, h.number
 """
 
-# Texts with a word that begins so, as often as they have one: from this beginning up to what comes after all such words.
-BY_WORD = "SELECT found_in, found_line FROM words WHERE word >= ? AND word < ?"
-# Those that have another one too. SQLite bounds how many values a question has, so it is asked for so many others.
-AND_BY_WORD = " AND EXISTS (SELECT 1 FROM words o WHERE o.text = words.text AND o.word >= ? AND o.word < ?)"
-OTHERS = 50
-AFTER_ALL = "\U0010ffff"
+BY_WORDS = """
+SELECT r.name, 'name of ' || t.what, t.text
+FROM words w JOIN texts t ON t.id = w.rowid JOIN recordings r ON r.id = t.recording WHERE words MATCH ?
+"""
 
 # How many digits an identifier has that is asked for, what may stand before them, and what between them beside spaces.
 UMID_DIGITS = range(16, 65)
@@ -45,42 +43,30 @@ UMID_SIGNS = dict.fromkeys(map(ord, "-.{}"))
 
 HEADS = ("recording", "what", "text")
 
-Found = Collection[tuple[str, str]]  # recordings, and of each by FOUND what has a word, and that text
+Found = Collection[tuple[Any, ...]]  # recordings, what has a word, and that text
 
 
 def find(words: Words) -> int:
     """Prints what has all of the words; status 1 if nothing has."""
     with database.reading(words.database) as connection:
         rows = found(connection, words.word)
-    if words.form == "table":
-        width = max(map(len, chain(HEADS[:1], (recording for recording, _ in rows))))
-        printing.print_laid_out(f"%-{width}s  %s", (HEADS[0], FOUND % HEADS[1:]), rows)
-    else:
-        printing.print_answer(
-            words.form, HEADS, [(recording, line[:FOUND_AS].rstrip(), text_of(line)) for recording, line in rows]
-        )
+    width = max(map(len, [HEADS[0], *(row[0] for row in rows)]))
+    printing.print_answer(words.form, HEADS, rows, f"%-{width}s  %-17s  %s")
     return 0 if rows else 1
 
 
-def found(connection: Connection, words: Sequence[str]) -> Found:
+def found(connection: Connection, words: Sequence[str]) -> list[tuple[Any, ...]]:
     """What is found by all of these words, each once."""
     parts = [found_by(connection, word) for word in words]
-    if len(parts) > 1:
-        recordings = set.intersection(*({recording for recording, _ in part} for part in parts))
-        parts = [[row for row in part if row[0] in recordings] for part in parts]
-    return [row for row, _ in groupby(sorted(chain.from_iterable(parts)))]
-
-
-def text_of(line: str) -> str:
-    """The text of a line by FOUND."""
-    return line[FOUND_AS + 2 :]
+    recordings = set.intersection(*({row[0] for row in part} for part in parts))
+    return sorted({row for part in parts for row in part if row[0] in recordings})
 
 
 def found_by(connection: Connection, word: str) -> Found:
     """What is found by one word: a timecode, the end of an identifier, or words of a name."""
     if timecodes.is_timecode(word):
         return found_by_timecode(connection, word)
-    return found_by_words(connection, words_of(word)) + found_by_umid(connection, digits_of(word))
+    return [*found_by_words(connection, word), *found_by_umid(connection, digits_of(word))]
 
 
 def digits_of(word: str) -> str:
@@ -90,41 +76,29 @@ def digits_of(word: str) -> str:
     return "".join(word.removeprefix(prefix).translate(UMID_SIGNS).split())
 
 
-def found_by_umid(connection: Connection, digits: str) -> list[tuple[str, str]]:
+def found_by_umid(connection: Connection, digits: str) -> Found:
     """Packages with an identifier that ends so, and clips that show one."""
     if len(digits) not in UMID_DIGITS or not set(digits) <= set("0123456789abcdef"):
         return []
     rows = answer_of(connection, BY_UMID, (digits[-16:], digits[-16:]))[1]
-    return [(recording, FOUND % (what, uid)) for recording, what, uid in rows if uid.endswith(digits)]
+    return [row for row in rows if row[2].endswith(digits)]
 
 
-def found_by_words(connection: Connection, words: Sequence[str]) -> list[tuple[str, str]]:
-    """Texts that have, for each of the words, one that begins with it. The longest words are asked first, since few texts may
-    have them."""
-    if not words:
-        return []
-    words = sorted(dict.fromkeys(words), key=len, reverse=True)
-    asked, rest = words[: OTHERS + 1], words[OTHERS + 1 :]
-    values = [value for word in asked for value in (word, word + AFTER_ALL)]
-    rows = answer_of(connection, BY_WORD + AND_BY_WORD * (len(asked) - 1), values)[1]
-    return [(recording, line) for recording, line in rows if not rest or has_all(text_of(line), rest)]
-
-
-def has_all(text: str, beginnings: Sequence[str]) -> bool:
-    """Whether a text has, for each beginning, a word that begins so."""
-    words = words_of(text)
-    return all(any(word.startswith(beginning) for word in words) for beginning in beginnings)
+def found_by_words(connection: Connection, word: str) -> Found:
+    """Texts that have, for each of the words that a word has, one that begins with it."""
+    question = question_of(word)
+    return answer_of(connection, BY_WORDS, (question,))[1] if question else []
 
 
 def found_by_timecode(connection: Connection, timecode: str) -> Found:
     """The clocks that have a timecode; of recordings of which none has, the timecode components of packages that have it."""
-    after = f"{timecode[:8]}:{AFTER_ALL}"
+    after = f"{timecode[:8]};"  # which goes behind each label of that second with a colon
     has_label = functools.cache(lambda base, is_drop: timecodes.Counting(base, bool(is_drop)).has(timecode))
     rows = [row for row in connection.execute(BY_TIMECODE, (int(timecode[:2]), after))
             if timecodes.is_within(timecode, row["first"], row["last"]) and has_label(row["base"], row["is_drop"])]  # fmt: skip
     clocked = {row["recording"] for row in rows if row["clock"] is not None}
     return {
-        (row["recording"], FOUND % told_by(row))
+        (row["recording"], *told_by(row))
         for row in rows
         if row["clock"] is not None or row["recording"] not in clocked
     }

@@ -8,13 +8,17 @@ from __future__ import annotations
 import contextlib
 import os
 import tempfile
-from types import TracebackType
+from collections.abc import Iterable
+from typing import NamedTuple
 
-from mxf.archive import moments
-from mxf.archive.asking import Source, Sources, Tool, is_identifier, origin_of, sha256_of, source_of
-from mxf.archive.calling import Call
-from mxf.archive.faults import ToolFault
-from mxf.archive.json_lines import Line
+from mxf import moments
+from mxf.archive.origins import is_identifier, origin_of
+from mxf.calling import Call, Tool
+from mxf.faults import ToolFault
+from mxf.files import sha256_of
+from mxf.lines import Line, take_lines
+from mxf.packages import Packages
+from mxf.sources import Source, Sources, source_of
 
 FORMAT = 1  # of these lines
 INDEXES = 16  # of which edit units are counted
@@ -28,100 +32,88 @@ COMMANDS = ("show", "describe", "check", "plan", "map")
 TOO_MANY, NO_LAST = "too many units", "no last unit"
 
 
-class Gathering:
-    """The lines of a recording, as they come: by its sources, or by a catalogue in their place, and whether essence is passed
-    over. A small catalogue is asked by five calls at once, which begin with the block. Files are looked at before they are
-    read."""
+class Named(NamedTuple):
+    """A recording by its words: its name, its sources, a catalogue that is asked in their place, and whether essence is
+    passed over."""
 
-    def __init__(self, name: str, sources: Sources, catalogue: str | None, is_skim: bool) -> None:
-        self.name, self.sources, self.catalogue, self.is_skim = name, sources, catalogue, is_skim
-        self.tool = Tool()
-        self.lines: list[Line] = []
-        self.calls: list[Call] = []
-        self.units: dict[int, Call] = {}
-        self.opened = contextlib.ExitStack()
-        self.gathered = moments.text_of(moments.now())
-        self.origins = [origin_of(number, source_of(word)) for number, word in enumerate(sources.each(), 1)]
-        if catalogue is not None:
-            self.origins.insert(0, origin_of(0, source_of(f"cat:{catalogue}")))
+    name: str
+    sources: Sources
+    catalogue: str | None = None
+    is_skim: bool = False
 
-    def __enter__(self) -> "Gathering":
-        sources = self.named()
-        if sources is not None and is_small_catalogue(sources):
-            self.begin(sources)
-        return self
-
-    def __exit__(
-        self, kind: type[BaseException] | None, fault: BaseException | None, trace: TracebackType | None
-    ) -> None:
-        self.tool.close()
-        self.opened.__exit__(kind, fault, trace)
-
-    def read(self) -> Sources:
-        """Asks for all but edit units, in the order in which a reader of the lines needs it, and answers the sources that
-        were asked. Meanwhile the catalogues are digested, and edit units are counted from when it is known of which
-        indexes."""
-        self.lines.append({
-            "line": "recording", "format": FORMAT, "name": self.name, "gathered": self.gathered,
-            "program": self.tool.version(), "skim": self.is_skim,
-        })  # fmt: skip
-        self.lines += self.origins
-        sources = self.named() or self.joined()
-        if not self.calls:
-            self.begin(sources)
-        for line in self.origins:
-            if line["form"] == "cat":
-                line["sha256"] = sha256_of(line["path"])
-        self.add_show(self.calls[0])
-        self.units = {index_sid: self.tool.call(self.units_words(index_sid), sources) for index_sid in self.indexes()}
-        for call in [*self.units.values()][:1] if is_small_catalogue(sources) else ():
-            self.opened.enter_context(call).begin()
-        for command, call in zip(COMMANDS[1:], self.calls[1:]):
-            said = self.tool.said_by(call, lambda text: not text.startswith(b'{"line":"row"'))
-            self.lines.append({"line": "asked", "command": command})
-            self.lines += said
-        return sources
-
-    def gather(self) -> list[Line]:
-        """All lines of the recording, as soon as edit units are counted."""
-        sources = self.read()
-        for index_sid, call in self.units.items():
-            self.lines.append({"line": "asked", "command": "units", "index-sid": index_sid})
-            self.lines.append(self.units_of(index_sid, call, sources))
-        self.lines.append({"line": "recorded", "name": self.name, "lines": len(self.lines) + 1})
-        return self.lines
-
-    def named(self) -> Sources | None:
+    def asked(self) -> Sources | None:
         """The sources that are asked as they are named: a catalogue, ranges, which tell themselves which bytes are at hand,
         or those of a skim, which reads little. All others are joined first."""
         forms = [source_of(word).form for word in self.sources.each()]
         if "range" in forms:
             return self.sources
         if self.catalogue is not None:
-            return Sources([Source("cat", "", self.catalogue).word()])
+            return Sources([source_of(f"cat:{self.catalogue}").word()])
         return self.sources if self.is_skim or forms == ["cat"] else None
+
+    def origins(self) -> list[Line]:
+        """A line for each source, and for the catalogue."""
+        lines = [origin_of(number, source_of(word)) for number, word in enumerate(self.sources.each(), 1)]
+        if self.catalogue is not None:
+            lines.insert(0, origin_of(0, source_of(f"cat:{self.catalogue}")))
+        return lines
+
+
+class Gathering:
+    """The lines of a recording, as they come. Files are looked at before they are read. If calls may go side by side, a
+    small catalogue is asked by all at once."""
+
+    def __init__(self, tool: Tool, named: Named, is_beside: bool) -> None:
+        self.tool, self.named, self.is_beside = tool, named, is_beside
+        self.gathered = moments.fine_text_of(moments.now())
+        self.origins = named.origins()
+        self.lines: list[Line] = []
+        self.opened = contextlib.ExitStack()
+
+    def gather(self) -> list[Line]:
+        """All lines of the recording, in the order in which a reader needs them."""
+        first = {"format": FORMAT, "name": self.named.name, "gathered": self.gathered, "program": self.tool.version()}
+        self.lines += [{"line": "recording", **first, "skim": self.named.is_skim}, *self.origins]
+        with self.opened:
+            sources = self.named.asked() or self.joined()
+            self.is_beside = self.is_beside and is_small_catalogue(sources)
+            calls = self.begun([self.tool.call([command, *self.skimming()], sources, not self.is_beside) for command in COMMANDS])
+            for line in self.origins:
+                if line["form"] == "cat":
+                    line["sha256"] = sha256_of(line["path"])
+            self.add_show(calls[0])
+            units = {index_sid: self.tool.call(self.units_words(index_sid), sources) for index_sid in self.indexes()}
+            self.begun([*units.values()][:1])
+            for command, call in zip(COMMANDS[1:], calls[1:]):
+                self.lines.append({"line": "asked", "command": command})
+                self.lines += self.tool.lines_of(call, lambda text: not text.startswith(b'{"line":"row"'))
+            for index_sid, call in units.items():
+                self.lines.append({"line": "asked", "command": "units", "index-sid": index_sid})
+                self.lines.append(self.units_of(index_sid, call, sources))
+        self.lines.append({"line": "recorded", "name": self.named.name, "lines": len(self.lines) + 1})
+        return self.lines
+
+    def begun(self, calls: list[Call]) -> list[Call]:
+        """Calls, which begin if they may go side by side. They are over at the latest when all is gathered."""
+        for call in calls if self.is_beside else ():
+            self.opened.enter_context(call).begin()
+        return calls
 
     def joined(self) -> Sources:
         """The catalogue that the sources are joined to, so that they are read once. Which of them is damaged it doesn't
         tell, so that is asked for if the join says that there may be one."""
         folder = self.opened.enter_context(tempfile.TemporaryDirectory(prefix="mxf_archive."))
         joined = os.path.join(folder, "joined")
-        self.tool.ask(["join", "--strict", "--out", joined], self.sources)
-        if self.tool.status == 1:
+        join = self.tool.call(["join", "--strict", "--out", joined], self.named.sources)
+        list(self.tool.lines_of(join))
+        if join.status == 1:
             self.lines.append({"line": "asked", "command": "check"})
-            self.lines += [line for line in self.tool.ask(["check"], self.sources) if line["line"] == "stop"]
-        return Sources([f"cat:{joined}"])
+            self.lines += self.tool.ask(["check"], self.named.sources, lambda text: text.startswith(b'{"line":"stop"'))
+        return Sources([Source("cat", "", joined).word()])
 
     def skimming(self) -> list[str]:
         """The option that passes over essence, if it is meant."""
-        return ["--skim"] if self.is_skim else []
-
-    def begin(self, sources: Sources) -> None:
-        """Makes the first calls, and begins those of a small catalogue. They are over at the latest when the block is."""
-        is_at_once = is_small_catalogue(sources)
-        self.calls = [self.tool.call([command, *self.skimming()], sources, not is_at_once) for command in COMMANDS]
-        for call in self.calls if is_at_once else ():
-            self.opened.enter_context(call).begin()
+        return ["--skim"] if self.named.is_skim else []
 
     def add_show(self, call: Call) -> None:
         """Adds what show says, with the number of packets in place of those that aren't in dispute. Of items identifiers
@@ -136,7 +128,7 @@ class Gathering:
                 return b'"disputed":true' in text
             return is_identifier(text) or not text.startswith((b'{"line":"item"', b'{"line":"piece"'))
 
-        said = self.tool.said_by(call, keeps)
+        said = list(self.tool.lines_of(call, keeps))
         self.lines += [{"line": "asked", "command": "show"}, {"line": "packets", "packets": packets}, *said]
 
     def indexes(self) -> list[int]:
@@ -153,37 +145,30 @@ class Gathering:
         said = self.counted(call)
         if said["line"] != "uncounted" or said["said"] != NO_LAST:
             return said
-        last = self.last_unit(index_sid)
-        if last is None:
-            return said
-        if last >= UNITS:
-            return uncounted(TOO_MANY)
+        last = last_unit(self.lines, index_sid)
+        if last is None or last >= UNITS:
+            return said if last is None else uncounted(TOO_MANY)
         return self.counted(self.tool.call(self.units_words(index_sid, "--from", "0", "--to", str(last)), sources))
 
     def counted(self, call: Call) -> Line:
         """The last line of a call of units, or why there is none."""
         try:
-            return self.tool.said_by(call, lambda text: not text.startswith(b'{"line":"unit"'))[-1]
+            return list(self.tool.lines_of(call, lambda text: not text.startswith(b'{"line":"unit"')))[-1]
         except ToolFault as fault:
-            for reason in (TOO_MANY, NO_LAST):
-                if fault.says(reason):
-                    return uncounted(reason)
+            if fault.last_line() in (TOO_MANY, NO_LAST):
+                return uncounted(fault.last_line())
             raise
 
-    def last_unit(self, index_sid: int) -> int | None:
-        """The last edit unit of an index by the track of its package, if that has a duration."""
-        package = next((line["of-package"] for line in self.lines if line["line"] == "container"
-                        and line.get("index-sid") == index_sid), None)  # fmt: skip
-        tracks = [
-            line
-            for line in self.lines
-            if line["line"] == "track" and line.get("of-package") == package and "id" in line
-        ]
-        for kind in ("picture", "sound", "data"):
-            for track in tracks:
-                if track["kind"] == kind:
-                    return max(track["origin"], 0) + track["duration"] - 1 if track["duration"] else None
-        return None
+
+def last_unit(lines: Iterable[Line], index_sid: int) -> int | None:
+    """The last edit unit of an index by what `describe` says among these lines."""
+    packages = Packages()
+    described, command = [], None
+    for line in lines:
+        command = line["command"] if line["line"] == "asked" else command
+        described += [line] if command == "describe" else []
+    take_lines(described, packages.takers())
+    return packages.last_unit(index_sid)
 
 
 def is_small_catalogue(sources: Sources) -> bool:

@@ -1,4 +1,5 @@
 """The commands that print what is in the database."""
+from __future__ import annotations
 
 from mxf.archive import answering, database, printing
 from mxf.archive.words import Words
@@ -8,8 +9,8 @@ def list(words: Words) -> int:
     """Prints recordings, all of them or those of which something holds."""
     with database.reading(words.database) as connection:
         what = "unverified" if words.days is not None else words.what
-        texts = answering.listed(connection, what, words.days, words.form)
-    printing.print_made(words.form, texts)
+        rows = answering.listed(connection, what, words.days)
+    printing.print_answer(words.form, answering.HEADS, rows, answering.layout_of(rows))
     return 0
 
 

@@ -5,10 +5,10 @@ import sqlite3
 from sqlite3 import Connection
 
 from mxf.archive import database, storing
-from mxf.archive.faults import DATA, READ, OwnFault, tell_own
-from mxf.archive.json_lines import Line, line_of
 from mxf.archive.rows import Recording, recordings_of
 from mxf.archive.words import Words
+from mxf.faults import DATA, READ, OwnFault, tell_own
+from mxf.lines import Line, LineFault, line_of
 
 
 def load(words: Words) -> int:
@@ -32,10 +32,10 @@ def load(words: Words) -> int:
 
 
 def store_news(connection: Connection, recording: Recording, path: str) -> bool:
-    """Puts a recording of a file into the database, if it is newer than what is there. Whether it is."""
-    if recording.state["gathered"] <= storing.last_gathered(connection, recording.name):
-        return False
+    """Puts a recording of a file into the database, if it is news. Whether it is."""
     try:
+        if not storing.is_news(connection, recording):
+            return False
         storing.store(connection, recording)
     except (
         sqlite3.IntegrityError,
@@ -52,8 +52,8 @@ def lines_of(path: str) -> list[Line]:
     """The lines of a file; - is standard input."""
     try:
         with open(0 if path == "-" else path, "rb", closefd=path != "-") as file:
-            return [line_of(text, path) for text in file]
+            return [line_of(text) for text in file]
     except OSError as fault:
         raise OwnFault(READ, f"read fault: {path}: {fault.strerror}") from fault
-    except OwnFault as fault:
+    except LineFault as fault:
         raise OwnFault(DATA, f"bad lines: {path}: a line is no JSON of mxf_archive") from fault

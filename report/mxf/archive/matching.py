@@ -7,9 +7,11 @@ from collections.abc import Iterable
 from sqlite3 import Connection
 from typing import Any, NamedTuple
 
-from mxf.archive import asking, database, printing
-from mxf.archive.faults import USAGE, OwnFault, tell_own
-from mxf.archive.json_lines import Line
+from mxf.archive import database, origins, printing
+from mxf.calling import Tool
+from mxf.faults import USAGE, OwnFault, tell_own
+from mxf.lines import ItemLine, Line, checked
+from mxf.sources import Sources
 from mxf.archive.words import Words
 
 # By which identifiers candidates are found: those of packages and modifications, and if none has one, those of any set,
@@ -35,25 +37,25 @@ class Candidate(NamedTuple):
 
 def match(words: Words) -> int:
     """Prints of which recording each fragment is, and where it lies in it. The status is that of mxf_tool."""
-    sources = asking.sources_of(words.source, words.sources)
+    sources = origins.named_sources(words.source, words.sources)
     if not sources.each():
         raise OwnFault(USAGE, "no source is named")
-    tool = asking.Tool()
+    tool = Tool()
     held = {identifier for source in sources.each() for identifier in identifiers_of(tool, source)}
     with database.reading(words.database) as connection:
         candidates = [
             one for recording in candidates_of(connection, held) for one in catalogues_of(connection, recording)
         ]
-    lines = found_in(tool, candidates, sources) if candidates else []
+    status, lines = found_in(tool, candidates, sources) if candidates else (1, [])
     rows = [row_of(line, sources.each(), candidates) for line in lines if line["line"] != "fragments"]
     printing.print_answer(words.form, HEADS, rows)
-    return tool.status if candidates else 1
+    return status
 
 
-def identifiers_of(tool: asking.Tool, source: str) -> Iterable[tuple[str, bytes]]:
+def identifiers_of(tool: Tool, source: str) -> Iterable[tuple[str, bytes]]:
     """What the sets of a fragment identify."""
-    lines = tool.ask(["show"], asking.Sources([source]), asking.is_identifier)
-    return filter(None, map(asking.identifier_of, lines))
+    lines = tool.ask(["show"], Sources([source]), origins.is_identifier)
+    return filter(None, (origins.identifier_of(checked(line, ItemLine)) for line in lines))
 
 
 def candidates_of(connection: Connection, held: set[tuple[str, bytes]]) -> list[int]:
@@ -77,15 +79,17 @@ def catalogues_of(connection: Connection, recording: int) -> list[Candidate]:
     return there
 
 
-def found_in(tool: asking.Tool, candidates: list[Candidate], sources: asking.Sources) -> list[Line]:
-    """What `find` prints of the fragments in the candidates, whose numbers are their places. A path with a newline stands
-    in no list, so such candidates come first."""
+def found_in(tool: Tool, candidates: list[Candidate], sources: Sources) -> tuple[int, list[Line]]:
+    """The status of `find`, and what it prints of the fragments in the candidates, whose numbers are their places. A path
+    with a newline stands in no list, so such candidates come first."""
     candidates.sort(key=lambda one: "\n" not in one.path)
     named = [part for one in candidates if "\n" in one.path for part in ("--in", f"cat:{one.path}")]
     with tempfile.NamedTemporaryFile(prefix="mxf_archive.") as file:
         file.write("".join(f"cat:{one.path}\n" for one in candidates if "\n" not in one.path).encode())
         file.flush()
-        return tool.ask(["find", *named, "--recordings", file.name], sources)
+        call = tool.call(["find", *named, "--recordings", file.name], sources)
+        lines = list(tool.lines_of(call))
+        return call.status, lines
 
 
 def row_of(line: Line, fragments: list[str], candidates: list[Candidate]) -> tuple[Any, ...]:

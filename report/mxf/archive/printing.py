@@ -2,18 +2,15 @@
 from __future__ import annotations
 
 import csv
+import json
 import sys
-from collections.abc import Iterable, Iterator, Sequence
-from itertools import chain, islice, repeat
+from collections.abc import Iterable, Sequence
 from typing import Any
-
-from mxf.archive.json_lines import texts_of
 
 # Characters of control, line ends of Unicode, and marks of direction: a terminal may obey them. Each is shown as ?.
 CONTROL = dict.fromkeys((*range(0x20), *range(0x7F, 0xA0), *range(0x2028, 0x202F), *range(0x2066, 0x206A)), "?")
-ASCII = bytes(ord("?") if code in CONTROL else code for code in range(256))  # each byte of ASCII as it is shown
 
-BLOCK = 500  # lines that are printed at once. Memory that is used again takes less time than new memory.
+ENCODER = json.JSONEncoder(ensure_ascii=False, separators=(",", ":"))
 
 Cells = Sequence[Any]  # the values of a row or a column
 Part = tuple[str, Sequence[str], Sequence[Cells]]  # a table with its name: its heads and its rows
@@ -29,52 +26,33 @@ def shown(text: str) -> str:
     return text if text.isprintable() else text.translate(CONTROL)
 
 
-def is_plain(text: str) -> bool:
-    """Whether a text is ASCII without characters of control. To ask of each character whether it can be printed takes
-    several times as long."""
-    encoded = text.encode()
-    return encoded.isascii() and encoded.translate(ASCII) == encoded
-
-
-def blocks_of(texts: Iterable[str]) -> Iterator[list[str]]:
-    """Texts, so many at once."""
-    texts = iter(texts)
-    return iter(lambda: list(islice(texts, BLOCK)), [])
-
-
-def print_texts(texts: Iterable[str], end: str) -> None:
-    """Prints texts, each with this end."""
-    for block in blocks_of(texts):
-        sys.stdout.write(end.join(block) + end)
-
-
 def print_lines(lines: Iterable[str]) -> None:
     """Prints the lines of a table."""
-    for block in blocks_of(lines):
-        safe = block if is_plain("".join(block)) else map(shown, block)
-        sys.stdout.write("\n".join(safe) + "\n")
+    sys.stdout.writelines(f"{shown(line)}\n" for line in lines)
 
 
 def print_laid_out(layout: str, heads: Cells, rows: Iterable[Cells]) -> None:
     """Prints the lines of a table by a layout for %."""
-    print_lines(map(layout.__mod__, chain((heads,), rows)))
+    print_lines([layout % tuple(heads)])
+    print_lines(layout % tuple("-" if value is None else value for value in row) for row in rows)
 
 
-def laid_out(head: str, column: Cells, is_last: bool) -> Iterable[str]:
+def laid_out(head: str, column: Cells, is_last: bool) -> list[str]:
     """A head and the cells below it, - if there is none, each as wide as the widest: numbers stand on the right, and nothing
     stands after the last column."""
-    kinds = set(map(type, column))
-    cells = [head, *(column if kinds <= {str} else ("-" if value is None else str(value) for value in column))]
-    if is_last and int not in kinds:
+    cells = [head, *("-" if value is None else str(value) for value in column)]
+    is_number = any(isinstance(value, int) for value in column)
+    if is_last and not is_number:
         return cells
-    return map(str.rjust if int in kinds else str.ljust, cells, repeat(max(map(len, cells))))
+    width = max(map(len, cells))
+    return [text.rjust(width) if is_number else text.ljust(width) for text in cells]
 
 
 def print_table(heads: Sequence[str], rows: Iterable[Cells]) -> None:
     """Prints columns side by side."""
     columns = list(zip(*rows)) or [()] * len(heads)
-    are_last = [*repeat(False, len(heads) - 1), True]
-    print_lines(map("  ".join, zip(*map(laid_out, heads, columns, are_last))))
+    last = len(heads) - 1
+    print_lines(map("  ".join, zip(*(laid_out(head, columns[place], place == last) for place, head in enumerate(heads)))))
 
 
 def print_csv(heads: Sequence[str], rows: Iterable[Cells]) -> None:
@@ -91,23 +69,18 @@ def print_json(heads: Sequence[str], rows: Iterable[Cells]) -> None:
 
 def print_objects(lines: Iterable[object]) -> None:
     """Prints JSON objects, each on a line of its own."""
-    sys.stdout.writelines(f"{line}\n" for line in texts_of(lines))
+    sys.stdout.writelines(f"{ENCODER.encode(line)}\n" for line in lines)
 
 
 FORMS = {"table": print_table, "csv": print_csv, "json": print_json}
 
 
-def print_answer(form: str, heads: Sequence[str], rows: Iterable[Cells]) -> None:
-    """Prints rows in a form of FORMS."""
-    FORMS[form](heads, rows)
-
-
-def print_made(form: str, texts: Cells) -> None:
-    """Prints rows in a form of FORMS of which each is a text already: a line of a table, of CSV or of JSON."""
-    if form == "table":
-        print_lines(texts)
+def print_answer(form: str, heads: Sequence[str], rows: Iterable[Cells], layout: str | None = None) -> None:
+    """Prints rows in a form of FORMS: a table by a layout for %, if there is one."""
+    if form == "table" and layout is not None:
+        print_laid_out(layout, heads, rows)
     else:
-        print_texts(texts, "\r\n" if form == "csv" else "\n")
+        FORMS[form](heads, rows)
 
 
 def print_parts(form: str, parts: Sequence[Part]) -> None:

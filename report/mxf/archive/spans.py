@@ -3,8 +3,8 @@ from __future__ import annotations
 
 from collections.abc import Iterator
 
-from mxf.archive.json_lines import Line
-from mxf.archive.timecodes import HOURS, Counting
+from mxf.lines import ClockLine, Line, TimecodeLine
+from mxf.timecodes import HOURS, Counting
 
 
 class Span:
@@ -43,20 +43,20 @@ class Rate:
         return whole + (2 * rest + whole % 2 > self.below)
 
 
-def span_of_clock(line: Line, rate: Rate | None) -> Span:
+def span_of_clock(line: ClockLine, rate: Rate | None) -> Span:
     """The timecodes of a run of a clock. At this rate its positions follow one another, if that is known: a run that is
     longer than a day has all timecodes. One without an end has all from the first one up to midnight, as far as is known.
     """
     counting = Counting(line["base"], ";" in line["first"])
     begin, day = counting.number(line["first"]), counting.day()
-    if line["count"] is None:
+    if line["count"] is None or line["last"] is None:
         return Span(line["first"], day - begin, counting, True)
     is_long = rate is not None and line["count"] * rate.below >= 86400 * rate.above
     count = day if is_long else (counting.number(line["last"]) - begin) % day + 1
     return Span(line["first"], count, counting, False)
 
 
-def span_of_component(line: Line, rate: Rate | None) -> Span | None:
+def span_of_component(line: TimecodeLine, rate: Rate | None) -> Span | None:
     """The timecodes of a timecode component in a track of this rate; None if it says none."""
     if line["at"] is None or not line["base"]:
         return None

@@ -1,13 +1,15 @@
 """What is written to the database: recordings, and what comes of verifying them."""
 from __future__ import annotations
 
+import sqlite3
 from sqlite3 import Connection
 
-from mxf.archive import moments, schema
+from mxf import moments
+from mxf.archive import schema
 from mxf.archive.answering import identity_of
-from mxf.archive.json_lines import Line
-from mxf.archive.rows import UNREADABLE, Recording, Row, number_of
-from mxf.archive.texts import words_of
+from mxf.archive.rows import Recording, Row, number_of
+from mxf.lines import Line, PacketLine, checked, end_of_packet
+from mxf.standing import UNREADABLE
 
 # The counts of a state by which it is said to have changed.
 COUNTS = ("packets", "held", "missing", "findings", "disputes", "orders")
@@ -29,13 +31,21 @@ def is_known(connection: Connection, name: str) -> int | None:
     return found["id"] if found else None
 
 
-def last_gathered(connection: Connection, name: str) -> str:
-    """When the last state of a recording was gathered; an empty text if there is none."""
-    found = connection.execute(
-        "SELECT s.gathered FROM recordings r JOIN states s ON s.recording = r.id AND s.number = r.state WHERE r.name = ?",
-        (name,),
-    ).fetchone()
-    return str(found["gathered"]) if found else ""
+def is_news(connection: Connection, recording: Recording) -> bool:
+    """Whether a recording is newer than what the database has of its name, or was gathered at the same time and is none of
+    the states of that time. A state that was kept by an earlier version has no digest, and is known by its counts."""
+    question = "SELECT s.* FROM states s JOIN recordings r ON r.id = s.recording WHERE r.name = ? ORDER BY s.number"
+    states = connection.execute(question, (recording.name,)).fetchall()
+    gathered = moments.fine(recording.state["gathered"])
+    last = moments.fine(states[-1]["gathered"]) if states else ""
+    known = [state for state in states if moments.fine(state["gathered"]) == gathered]
+    return gathered > last or gathered == last and not any(is_state(state, recording.state) for state in known)
+
+
+def is_state(kept: sqlite3.Row, state: Row) -> bool:
+    """Whether a state is one that is kept."""
+    names = COUNTS if kept["digest"] is None else ("digest",)
+    return all(kept[name] == state[name] for name in names)
 
 
 def store(connection: Connection, recording: Recording) -> bool:
@@ -52,7 +62,8 @@ def store(connection: Connection, recording: Recording) -> bool:
             connection.execute(f"DELETE FROM {table} WHERE recording = ?", (identity,))
     for table, rows in recording.rows.items():
         insert(connection, table, identity, rows)
-    store_texts(connection, identity, recording)
+    texts = [(identity, what, text) for what, text in recording.texts]
+    connection.executemany("INSERT INTO texts (recording, what, text) VALUES (?, ?, ?)", texts)
     number = connection.execute(
         "SELECT coalesce(max(number), 0) + 1 FROM states WHERE recording = ?", (identity,)
     ).fetchone()[0]
@@ -64,19 +75,9 @@ def store(connection: Connection, recording: Recording) -> bool:
     return known is not None
 
 
-def store_texts(connection: Connection, identity: int, recording: Recording) -> None:
-    """Adds the texts by whose words the recording is found, and with each word what `find` prints of its text."""
-    for what, text in recording.texts:
-        added = connection.execute("INSERT INTO texts (recording, what, text) VALUES (?, ?, ?)", (identity, what, text))
-        found = (added.lastrowid, recording.name, schema.FOUND % (f"name of {what}", text))
-        words = [(word, *found) for word in dict.fromkeys(words_of(text))]
-        connection.executemany("INSERT INTO words (word, text, found_in, found_line) VALUES (?, ?, ?, ?)", words)
-
-
 def settle(connection: Connection, identity: int) -> None:
     """Sets what follows of a recording from its states and its verifications: whether its counts are others than on the
-    first day, when it was last found whole as its reference says, whether it is damaged, and what a list prints of it.
-    """
+    first day, when it was last found whole as its reference says, and whether it is damaged."""
     differs = " OR ".join(f"a.{name} IS NOT z.{name}" for name in COUNTS)
     codes = ", ".join(f"'{code}'" for code in UNREADABLE)
     last = "(SELECT max(number) FROM verifications WHERE recording = :id)"
@@ -91,7 +92,6 @@ def settle(connection: Connection, identity: int) -> None:
             OR EXISTS (SELECT 1 FROM verifications WHERE recording = :id AND number = {last} AND differs > 0)
           WHERE id = :id""", {"id": identity}
     )  # fmt: skip
-    connection.execute(f"{schema.LISTED} WHERE id = ?", (identity,))
 
 
 def store_verification(
@@ -122,5 +122,5 @@ def difference_of(line: Line, words: list[str]) -> Row:
     row = {"what": line["line"], "source": words[line["source"] - 1] if "source" in line else None}
     if "start" in line:
         return {**row, "start": line["start"], "end": line["end"], "kind": None, "key": None}
-    end = line["offset"] + 16 + line["width"] + line["length"]
+    end = end_of_packet(checked(line, PacketLine))
     return {**row, "start": line["offset"], "end": end, "kind": line["kind"], "key": line["key"]}

@@ -5,7 +5,28 @@ import argparse
 from collections.abc import Callable, Sequence
 from typing import Any, NoReturn
 
-Words = argparse.Namespace
+
+class Words(argparse.Namespace):
+    """The words of a call: those of its command are there."""
+
+    command: str
+    database: str
+    name: str  # none of a list
+    source: list[str]
+    sources: str | None
+    catalogue: str | None
+    skim: bool
+    listed: str | None
+    jobs: int
+    what: str
+    days: int | None
+    form: str
+    word: list[str]
+    by: str
+    merge: int
+    against: list[str]
+    file: list[str]
+
 
 DESCRIPTION = (
     "Keeps what mxf_tool says of the recordings of an archive in a database, and answers what is asked of all."
@@ -43,6 +64,13 @@ def number(text: str) -> int:
     return int(text)
 
 
+def number_from_1(text: str) -> int:
+    """A number that isn't 0."""
+    if number(text) == 0:
+        raise argparse.ArgumentTypeError("a number from 1 on is wanted")
+    return number(text)
+
+
 def word(text: str) -> str:
     """A word that is no option."""
     return text.removeprefix(BEHIND)
@@ -53,9 +81,9 @@ def add_database(command: argparse.ArgumentParser) -> None:
     command.add_argument("database", metavar="DB", type=word, help="the file of the database")
 
 
-def add_name(command: argparse.ArgumentParser) -> None:
+def add_name(command: argparse.ArgumentParser, **more: Any) -> None:
     """The word that names a recording."""
-    command.add_argument("name", metavar="NAME", type=word, help="the name of the recording")
+    command.add_argument("name", metavar="NAME", type=word, help="the name of the recording", **more)
 
 
 def add_sources(command: argparse.ArgumentParser) -> None:
@@ -74,12 +102,31 @@ def add_forms(command: argparse.ArgumentParser) -> None:
 def of_add(command: argparse.ArgumentParser) -> None:
     """The words of add."""
     add_database(command)
-    of_lines(command)
+    add_name(command, nargs="?")
+    add_asked(command)
+    said = "a list of recordings, each a line with its name and its sources, and a tab before each source; - is standard input"
+    command.add_argument("--list", dest="listed", metavar="FILE", help=said)
+    command.add_argument("--jobs", metavar="N", type=number_from_1, default=1, help="how many of a list are asked for at once (1)")
+
+
+def check_add(words: Words) -> None:
+    """Sees that a recording is named, or a list and nothing of one recording."""
+    if words.listed is None and words.name is None:
+        raise argparse.ArgumentTypeError("the following arguments are required: NAME")
+    if words.listed is None and words.jobs != 1:
+        raise argparse.ArgumentTypeError("argument --jobs: not allowed without argument --list")
+    if words.listed is not None and (words.name is not None or words.sources is not None or words.catalogue is not None):
+        raise argparse.ArgumentTypeError("argument --list: not allowed with NAME, --sources or --catalogue")
 
 
 def of_lines(command: argparse.ArgumentParser) -> None:
     """The words of lines."""
     add_name(command)
+    add_asked(command)
+
+
+def add_asked(command: argparse.ArgumentParser) -> None:
+    """The words that say what is asked of a recording."""
     command.add_argument("--catalogue", metavar="FILE", help="a saved catalogue of it, asked in place of its sources")
     command.add_argument("--skim", action="store_true", help="pass over essence, as mxf_tool does")
     add_sources(command)
@@ -160,6 +207,9 @@ COMMANDS: dict[str, tuple[str, Callable[[argparse.ArgumentParser], None]]] = {
     "load": ("put recordings into the database of which lines were printed", of_load),
 }
 
+# What is seen to beyond that.
+CHECKS: dict[str, Callable[[Words], None]] = {"add": check_add}
+
 
 def parsers() -> tuple[argparse.ArgumentParser, dict[str, argparse.ArgumentParser]]:
     """What reads the first word, and what reads the others of each command."""
@@ -174,9 +224,18 @@ def parsers() -> tuple[argparse.ArgumentParser, dict[str, argparse.ArgumentParse
     return program, each
 
 
-def read_words(given: Sequence[str]) -> Words:
-    """The fields of the words of a call. Help that is asked for is printed, and ends the program."""
-    program, commands = parsers()
+def read_words(given: Sequence[str]) -> Words | None:
+    """The fields of the words of a call; None if help is asked for, which is printed."""
+    try:
+        return words_by(given, *parsers())
+    except SystemExit:
+        return None
+
+
+def words_by(
+    given: Sequence[str], program: argparse.ArgumentParser, commands: dict[str, argparse.ArgumentParser]
+) -> Words:  # fmt: skip
+    """The fields of the words of a call, by what reads them."""
     for place, text in enumerate(given, 1):
         if not is_text(text):
             program.error(f"argument {place} is not UTF-8")
@@ -187,9 +246,15 @@ def read_words(given: Sequence[str]) -> Words:
     if not front or front[0] not in commands:
         program.parse_args(front[:1])
     command = commands[front[0]]
-    words, unknown = command.parse_known_intermixed_args([*front[1:], *given[end : end + 1], *behind])
+    words = Words()
+    rest = [*front[1:], *given[end : end + 1], *behind]
+    _, unknown = command.parse_known_intermixed_args(rest, namespace=words)
     if unknown:
         command.error(f"unrecognized arguments: {' '.join(map(word, unknown))}")
+    try:
+        CHECKS.get(front[0], lambda _: None)(words)
+    except argparse.ArgumentTypeError as fault:
+        command.error(str(fault))
     return words
 
 

@@ -1,19 +1,8 @@
 """Timecodes, and the clocks of indexes."""
 from __future__ import annotations
 
-import re
-
 from mxf.lines import ClockLine
-
-# A timecode: two digits each, and two to five of the frames.
-TIMECODE = re.compile(r"[0-9]{2}:[0-9]{2}:[0-9]{2}[:;][0-9]{2,5}")
-
-
-def frames_before(timecode: str, base: int) -> int:
-    """How many frames of a day come before that of a timecode, at so many a second. One with `;` is of drop frame."""
-    minutes = 60 * int(timecode[:2]) + int(timecode[3:5])
-    skipped = base // 15 * (minutes - minutes // 10) if timecode[8] == ";" else 0
-    return (60 * minutes + int(timecode[6:8])) * base + int(timecode[9:]) - skipped
+from mxf.timecodes import Counting
 
 
 class ClockRun:
@@ -21,22 +10,22 @@ class ClockRun:
 
     def __init__(self, number: int, line: ClockLine) -> None:
         self.number = number
-        self.base, self.is_drop = line["base"], ";" in line["first"]
-        self.first, count = frames_before(line["first"], self.base), line["count"]
-        self.day = 2589408 * self.base // 30 if self.is_drop else 86400 * self.base
+        self.counting = Counting(line["base"], ";" in line["first"])
+        self.first, count = self.counting.number(line["first"]), line["count"]
+        self.day = self.counting.day()
         self.position = line["position"]
         self.end = self.position + (2**64 if count is None else count)
         self.is_long, self.timecodes, self.each = True, self.day, 1
-        if count is not None and count <= self.day:
+        if count is not None and line["last"] is not None and count <= self.day:
             self.is_long = False
-            self.timecodes = (frames_before(line["last"], self.base) - self.first) % self.day + 1
+            self.timecodes = (self.counting.number(line["last"]) - self.first) % self.day + 1
             self.each = max(1, count // self.timecodes)
 
     def before(self, timecode: str) -> int | None:
         """How many timecodes of the run come before one on its first day, if it may have that."""
-        if (timecode[8] == ";") != self.is_drop:
+        if (timecode[8] == ";") != self.counting.is_drop:
             return None
-        before = (frames_before(timecode, self.base) - self.first) % self.day
+        before = (self.counting.number(timecode) - self.first) % self.day
         return before if before < self.timecodes else None
 
 

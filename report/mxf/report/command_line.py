@@ -5,18 +5,17 @@ import argparse
 import os
 import pathlib
 import re
-import signal
-import sys
 
+from mxf.faults import OUTPUT, USAGE, OwnFault
+from mxf.files import check_place, write_whole
 from mxf.report.asked import Words
-from mxf.calling import Tool
-from mxf.report.clocks import TIMECODE
+from mxf.report.asking import Asking, is_skim
 from mxf.report.database_page import page_of_database
-from mxf.faults import OUTPUT, USAGE, OwnFault, ToolFault
 from mxf.report.folder_page import page_of_folder
 from mxf.report.recording_page import page_of_recording
-from mxf.sources import is_skim, sources_of
-from mxf.report.writing import check_place, is_replaceable, write_page
+from mxf.running import end_by_signals, status_of
+from mxf.sources import check_read_often, sources_of
+from mxf.timecodes import is_timecode
 
 
 def digits(text: str) -> str:
@@ -28,7 +27,7 @@ def digits(text: str) -> str:
 
 def edit_unit(text: str) -> str:
     """A number of digits alone, or a timecode."""
-    if not re.fullmatch(r"[0-9]+", text) and not TIMECODE.fullmatch(text):
+    if not re.fullmatch(r"[0-9]+", text) and not is_timecode(text):
         raise argparse.ArgumentTypeError("an edit unit is a number of digits alone, or a timecode HH:MM:SS:FF")
     return text
 
@@ -64,8 +63,18 @@ def parser() -> argparse.ArgumentParser:
     return words
 
 
-def write_report(words: Words) -> None:
-    """Makes the page and writes it."""
+def is_replaceable(path: pathlib.Path) -> bool:
+    """Whether a page may take the place of what is there: nothing, an empty file or a page."""
+    if not path.exists():
+        return True
+    if not path.is_file():
+        return False
+    with open(path, "rb") as file:
+        return file.read(15).upper() in (b"", b"<!DOCTYPE HTML>")
+
+
+def write_report(words: Words) -> int:
+    """Makes the page and writes it; the status."""
     path = pathlib.Path(os.path.realpath(words.out))
     try:
         if not is_replaceable(path):
@@ -76,11 +85,13 @@ def write_report(words: Words) -> None:
         elif words.index_of is not None:
             text = page_of_folder(pathlib.Path(words.index_of), words)
         else:
-            sources = sources_of(words)
-            text = page_of_recording(Tool(sources, is_skim(words, sources)), words)
-        write_page(path, text)
+            sources = sources_of(words.source, words.sources)
+            check_read_often(words.against)
+            text = page_of_recording(Asking(sources, is_skim(words, sources)), words)
+        write_whole(path, text.encode("utf-8", "replace"))
     except OSError as fault:
         raise OwnFault(OUTPUT, f"write fault: {words.out}: {fault.strerror}") from fault
+    return 0
 
 
 def check_words(accepted: argparse.ArgumentParser, words: Words) -> None:
@@ -97,28 +108,11 @@ def check_words(accepted: argparse.ArgumentParser, words: Words) -> None:
         accepted.error(f"{many[0]} reads no recording, so it takes no --read and no --skim")
 
 
-def end_by_signals() -> None:
-    """Lets a signal that ends this program end its calls too, and remove what they wrote, as an interrupt does."""
-    for number in (signal.SIGHUP, signal.SIGTERM):
-        if signal.getsignal(number) == signal.SIG_DFL:
-            signal.signal(number, lambda number, _: sys.exit(128 + number))
-
-
 def main() -> int:
-    """Runs the program, and ends with its status."""
+    """Runs the program, and answers its status."""
     accepted = parser()
     words = Words()
     accepted.parse_intermixed_args(namespace=words)
     check_words(accepted, words)
     end_by_signals()
-    try:
-        write_report(words)
-    except ToolFault as fault:
-        sys.stderr.buffer.write(fault.message)
-        return fault.status
-    except OwnFault as fault:
-        print(f"mxf_report: {fault}", file=sys.stderr)
-        return fault.status
-    except KeyboardInterrupt:
-        return 130
-    return 0
+    return status_of(lambda: write_report(words))

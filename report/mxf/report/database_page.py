@@ -1,17 +1,18 @@
 """The page of the recordings of a database."""
 from __future__ import annotations
 
-import importlib
-import json
 import os
 import pathlib
-from typing import Any, NamedTuple
+from sqlite3 import Row
+from typing import NamedTuple
 
+from mxf.archive import answering, database
+from mxf.archive.printing import number_or_none
 from mxf.report.asked import Words
-from mxf.faults import OwnFault
 from mxf.report.many import Kind, link_to, page_of_many, share_of
 from mxf.report.tables import Cells
 from mxf.report.verdicts import OF_DATABASE, Verdict, first_of
+from mxf.standing import is_lacking
 
 KIND = Kind(
     verdicts=OF_DATABASE,
@@ -44,7 +45,7 @@ class Kept(NamedTuple):
             self.differs,
             self.is_damaged,
             self.disputes,
-            self.missing or self.orders,
+            is_lacking(self.missing, self.orders),
             self.findings,
             self.end is None,
         )
@@ -52,26 +53,18 @@ class Kept(NamedTuple):
 
 
 def kept_in(path: str) -> list[Kept]:
-    """The recordings of a database of mxf_archive, by its own parts, which stand beside those of this program. They are
-    loaded for this page alone."""
-    answering, database, faults = (
-        importlib.import_module(f"archive.{part}") for part in ("answering", "database", "faults")
-    )
-    try:
-        with database.reading(path) as connection:
-            return [kept_of(dict(row)) for row in connection.execute(answering.OVERVIEW)]
-    except faults.OwnFault as fault:
-        raise OwnFault(fault.status, str(fault)) from fault
+    """The recordings of a database of mxf_archive."""
+    with database.reading(path) as connection:
+        return [kept_of(row) for row in connection.execute(answering.OVERVIEW)]
 
 
-def kept_of(row: dict[str, Any]) -> Kept:
+def kept_of(row: Row) -> Kept:
     """A recording by its row. A number that is large stands as text."""
-    row = {**row, **json.loads(row["listed_json"])}
-    end = None if row["end"] is None else int(row["end"])
     missing, orders, findings, disputes = (int(row[name]) for name in ("missing", "orders", "findings", "disputes"))
-    described = (row["name"], row["length"], row["timecode"])
+    described = (row["title"], row["length"], row["timecode"])
     counts = missing, orders, findings, disputes
-    return Kept(row["recording"], described, end, *counts, row["verified"], bool(row["is_damaged"]), row["differs"])
+    end = number_or_none(row["end"])
+    return Kept(row["name"], described, end, *counts, row["verified"], bool(row["is_damaged"]), row["differs"])
 
 
 def row_of(one: Kept, page: pathlib.Path) -> Cells:

@@ -6,16 +6,16 @@ from typing import NamedTuple
 
 from mxf.report.asked import Words
 from mxf.report.bounds import CELLS, INDEXES, UNITS
-from mxf.calling import Tool
-from mxf.report.clocks import TIMECODE
+from mxf.report.asking import Asking
 from mxf.report.described import Described
 from mxf.faults import ToolFault
-from mxf.lines import take_lines
+from mxf.lines import UnitLine, take_lines
 from mxf.report.planned import Checked, Planned
 from mxf.report.shown import Mapped, Shown
 from mxf.report.strips import OrderedUnits, Strip
 from mxf.report.told import Told, told_of
 from mxf.report.verified import Verified
+from mxf.timecodes import is_timecode
 
 
 class Facts(NamedTuple):
@@ -37,7 +37,7 @@ class Known(NamedTuple):
     """What is known of a recording when its edit units are asked for: whom to ask, the orders, what it is, and the options
     that name units."""
 
-    tool: Tool
+    tool: Asking
     planned: Planned
     described: Described
     span: list[str]
@@ -48,7 +48,7 @@ def indexes_of(known: Known, shown: Shown, words: Words) -> Sequence[int | None]
     or several do, the program is asked without an index."""
     if words.index is not None:
         return [int(words.index)]
-    if not any(TIMECODE.fullmatch(word) for word in known.span):
+    if not any(map(is_timecode, known.span)):
         return sorted(shown.index_sids)[:INDEXES]
     clocked: list[int | None] = list(known.described.clocks)
     return clocked if len(clocked) == 1 else [None]
@@ -77,22 +77,22 @@ def strip_of(known: Known, index_sid: int | None, span: list[str]) -> Strip:
     return strip
 
 
-def first_unit(tool: Tool, index_sid: int | None, span: list[str]) -> int:
+def first_unit(tool: Asking, index_sid: int | None, span: list[str]) -> int:
     """The first edit unit that is asked for: the number that is named, or the first unit of the timecode, or 0."""
     word = span[1] if span[:1] == ["--from"] else "0"
-    if not TIMECODE.fullmatch(word):
+    if not is_timecode(word):
         return int(word)
     units: list[int] = []
     lines = tool.ask("units", "--index", str(index_sid), "--from", word, "--to", word)
-    take_lines(lines, {"unit": lambda line: units.append(line["unit"])})
+    take_lines(lines, {"unit": (UnitLine, lambda line: units.append(line["unit"]))})
     return min(units)
 
 
 def strip_without(fault: ToolFault, known: Known, strip: Strip, span: list[str]) -> Strip:
     """The strip of an index whose last unit isn't known, up to the last one of its track if the header metadata says that;
     or of the first units of one that has too many."""
-    is_endless = fault.says("no last unit")
-    if not is_endless and not fault.says("too many units"):
+    is_endless = fault.last_line() == "no last unit"
+    if not is_endless and fault.last_line() != "too many units":
         raise fault
     first = first_unit(known.tool, strip.index_sid, span)
     last, has_more, told = first + UNITS - 1, True, []
@@ -128,7 +128,7 @@ def verified_of(known: Known, words: Words, strips: list[Strip]) -> list[Verifie
     return verified or [Verified(known.tool.ask("verify", *against), None)]
 
 
-def facts_of(tool: Tool, words: Words) -> Facts:
+def facts_of(tool: Asking, words: Words) -> Facts:
     """Asks for all that a page says."""
     mapped = Mapped(tool.ask("map", "--extents", "--columns", str(CELLS), "--rows", "1"))
     shown = Shown(tool.ask("show"), mapped.numbers["cell"])

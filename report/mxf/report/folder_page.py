@@ -9,9 +9,10 @@ from typing import NamedTuple
 
 from mxf.report.asked import Words
 from mxf.faults import READ, OwnFault
-from mxf.lines import lines_of
+from mxf.lines import line_of
 from mxf.report.many import Kind, link_to, page_of_many, share_of
 from mxf.report.tables import Cells
+from mxf.standing import is_lacking
 from mxf.report.verdicts import OF_FOLDER, Verdict, first_of
 
 KIND = Kind(
@@ -45,7 +46,7 @@ def end_of(folder: pathlib.Path, name: str) -> int | None:
     """Where the plan of a recording says that it ends, if it does."""
     try:
         with open(folder / f"{name}.plan", "rb") as plan:
-            numbers = [line for line in lines_of(plan) if line["line"] == "planned"]
+            numbers = [line for line in map(line_of, plan) if line["line"] == "planned"]
     except (OSError, ValueError):
         return None
     end: int | None = numbers[-1].get("end") if numbers else None
@@ -85,7 +86,7 @@ class Recording(NamedTuple):
             verify in (0, 1) and not self.is_as_on_first_day(),
             bool(self.verified) and verify not in (0, 1),
             self.damaged,
-            self.missing or self.ordered,
+            is_lacking(self.missing or 0, self.ordered or 0),
             self.check,
             None in (self.check, self.ordered, self.missing, self.end),
         )

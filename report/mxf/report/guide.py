@@ -80,7 +80,6 @@ STOPS = {
     "too-far": "The packet there would end too far away. Its length is damaged, or the OFFSET is wrong.",
     "no-start": "No packet begins in what was searched of this range.",
 }
-DAMAGED = ("not-ul", "bad-length", "too-far")  # those of a damaged piece, as examples/archive counts them
 
 # What `truncated` says if a range is among the sources: then the bytes of the packet count that are there.
 CUT_BESIDE_RANGES = "It ends inside a packet. The orders say what to restore."

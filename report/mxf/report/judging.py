@@ -6,6 +6,7 @@ from collections.abc import Iterator
 from mxf.report.facts import Facts
 from mxf.lines import end_of_packet
 from mxf.report.verdicts import OF_RECORDING, Verdict, first_of
+from mxf.standing import is_lacking
 from mxf.report.verified import Verified
 from mxf.report.wording import are_text, bytes_text, count_text
 
@@ -82,7 +83,7 @@ def verdict_of(facts: Facts) -> Verdict:
         has_nothing(facts),
         numbers["disputed"],
         differs_of(facts),
-        planned["ranges"] or numbers["missing"],
+        is_lacking(numbers["missing"], planned["ranges"]),
         doubts_of(facts),
         facts.checked.damaged.count,
         facts.checked.count,

@@ -5,7 +5,8 @@ import itertools
 from collections.abc import Iterator
 
 from mxf.report.bounds import NAMES
-from mxf.report.described import Described, Package
+from mxf.packages import Package
+from mxf.report.described import Described
 from mxf.report.elements import Element, add, add_foreign, add_marked
 from mxf.report.facts import Facts
 from mxf.report.judging import parts_of, verdict_of
@@ -81,7 +82,7 @@ def undescribed_text(described: Described) -> str:
 
 def description_rows(described: Described, main: Package) -> Iterator[tuple[str, str]]:
     """The rows of what the recording is: a name and a text."""
-    yield "Name", described.name() or "not stated"
+    yield "Name", described.title() or "not stated"
     track = main.essence_track()
     yield "Length", length_text(track) if track else "not known"
     yield "Start timecode", main.timecode or "not stated"

@@ -2,13 +2,12 @@
 from __future__ import annotations
 
 import base64
-import contextlib
-import datetime
 import hashlib
-import os
 import pathlib
+import time
 import xml.etree.ElementTree as tree
 
+from mxf import moments
 from mxf.report.drawings import add_patterns
 from mxf.report.elements import Element, add, clean, group_numbers
 
@@ -23,13 +22,8 @@ SCRIPT = "\n" + (FOLDER / "page.js").read_text(encoding="utf-8")
 
 
 def made_text() -> str:
-    """When the page is made: at the time that SOURCE_DATE_EPOCH says, or now if it says none that can be."""
-    epoch = os.environ.get("SOURCE_DATE_EPOCH", "")
-    now = datetime.datetime.now(datetime.timezone.utc)
-    if epoch.isdigit():
-        with contextlib.suppress(ValueError, OverflowError, OSError):
-            now = datetime.datetime.fromtimestamp(int(epoch), datetime.timezone.utc)
-    return now.strftime("%Y-%m-%d %H:%M UTC")
+    """When the page is made."""
+    return time.strftime("%Y-%m-%d %H:%M UTC", time.gmtime(moments.now()))
 
 
 def new_page(title: str, allowed: str = "") -> tuple[Element, Element]:

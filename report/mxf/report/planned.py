@@ -4,12 +4,11 @@ from __future__ import annotations
 import re
 from collections.abc import Iterable
 
-from mxf.report.guide import DAMAGED
-
 from mxf.lines import (
     DisputedPlaceLine, FindingLine, FindingsLine, Line, PlannedLine, RestoreLine, StopLine, UnitsLine, take_lines,
 )  # fmt: skip
 from mxf.report.rows import Rows
+from mxf.standing import is_damaged_at
 
 # The hint of a source whose partition packs all say that it begins elsewhere.
 SHIFTED = re.compile(r"(by its partition packs )(.*)( begins at \d+: OFFSET is \d+ too (?:high|low))")
@@ -26,11 +25,15 @@ class Checked:
         self.hints: list[str] = []
         self.damaged: Rows[StopLine] = Rows()
         self.codes: dict[str, Rows[FindingLine]] = {}
-        take_lines(lines, {"stop": self.take_stop, "finding": self.take_finding, "findings": self.take_findings})
+        take_lines(lines, {
+            "stop": (StopLine, self.take_stop),
+            "finding": (FindingLine, self.take_finding),
+            "findings": (FindingsLine, self.take_findings),
+        })  # fmt: skip
 
     def take_stop(self, line: StopLine) -> None:
         """How a source ends."""
-        if line["stop"] in DAMAGED:
+        if is_damaged_at(line["stop"]):
             self.damaged.add(line)
 
     def take_finding(self, line: FindingLine) -> None:
@@ -56,10 +59,10 @@ class Planned:
         self.units: UnitsLine | None = None
         self.numbers: PlannedLine = {"ranges": 0, "bytes": 0, "open": 0, "end": None}
         take_lines(lines, {
-            "restore": self.orders.add,
-            "disputed": self.disputed.add,
-            "planned": self.take_planned,
-            "units": self.take_units,
+            "restore": (RestoreLine, self.orders.add),
+            "disputed": (DisputedPlaceLine, self.disputed.add),
+            "planned": (PlannedLine, self.take_planned),
+            "units": (UnitsLine, self.take_units),
         })  # fmt: skip
 
     def take_planned(self, line: PlannedLine) -> None:

@@ -4,7 +4,9 @@ from __future__ import annotations
 import tempfile
 
 from mxf.report.asked import Words
-from mxf.calling import Tool
+from mxf.faults import NO_PROGRAM, OwnFault
+from mxf.lines import LineFault
+from mxf.report.asking import Asking
 from mxf.report.comparing import add_disputes, add_findings, add_reference, add_sources
 from mxf.report.contents import add_metadata, add_partitions, add_recording
 from mxf.report.elements import add, clean
@@ -24,11 +26,14 @@ def title_of(told: Told) -> str:
     return file_of(told.sources.kept[0]["word"]) + (f" and {count_text(more, 'more source')}" if more else "")
 
 
-def page_of_recording(tool: Tool, words: Words) -> str:
+def page_of_recording(tool: Asking, words: Words) -> str:
     """The page of one recording."""
     with tempfile.TemporaryDirectory(prefix="mxf_report.") as folder:
         tool.join(folder)
-        facts = facts_of(tool, words)
+        try:
+            facts = facts_of(tool, words)
+        except LineFault as fault:
+            raise OwnFault(NO_PROGRAM, f"{tool.program()} prints {fault}") from fault
     page, body = new_page(words.title or title_of(facts.told))
     parts = (
         add_skim, add_description, add_verdict, add_orders, add_recording, add_units, add_disputes, add_reference,

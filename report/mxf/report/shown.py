@@ -4,15 +4,14 @@ from __future__ import annotations
 import array
 import bisect
 import collections
-from collections.abc import Callable, Iterable, Sequence
-from typing import Any, NamedTuple
-
-from mxf.report.bounds import NAMES, NODES
+from collections.abc import Iterable, Sequence
+from typing import NamedTuple
 
 from mxf.lines import (
-    ChainLine, CopyLine, ExtentLine, GapLine, Line, MapLine, NoteLine, PartitionLine, PieceLine, PreferredLine, ReferenceLine,
-    RipEntryLine, RipLine, RowLine, SegmentLine, end_of_packet, take_lines,
+    AnyLine, ChainLine, CopyLine, ExtentLine, Line, MapLine, NoteLine, PartitionLine, PieceLine, PreferredLine, RangeLine,
+    ReferenceLine, RipEntryLine, RipLine, RowLine, SegmentLine, Takers, end_of_packet, take_lines,
 )  # fmt: skip
+from mxf.report.bounds import NAMES, NODES
 from mxf.report.rows import Rows
 
 # The lines that say what the set of an identification or of a package says.
@@ -29,7 +28,8 @@ class Mapped:
         self.numbers: MapLine = {"end": 0, "held": 0, "hand": 0, "missing": 0, "gaps": 0, "disputed": 0, "cell": 1}
         self.cells = ""
         self.extents: Rows[ExtentLine] = Rows()
-        take_lines(lines, {"map": self.take_map, "row": self.take_row, "extent": self.extents.add})
+        takers = {"map": (MapLine, self.take_map), "row": (RowLine, self.take_row), "extent": (ExtentLine, self.extents.add)}
+        take_lines(lines, takers)
 
     def take_map(self, line: MapLine) -> None:
         """The numbers."""
@@ -91,22 +91,22 @@ class Shown:
         self.index_sids: set[int] = set()
         take_lines(lines, self.takers())
 
-    def takers(self) -> dict[str, Callable[[Any], None]]:
+    def takers(self) -> Takers:
         """What takes the lines, by their names."""
         return {
-            **dict.fromkeys(DETAILS, self.take_detail),
-            "piece": self.pieces.add,
-            "note": self.take_note,
-            "gap": self.take_gap,
-            "partition": self.take_partition,
-            "chain": self.take_chain,
-            "copy": self.copies.add,
-            "preferred": self.take_preferred,
-            "identification": self.take_reference,
-            "package": self.take_reference,
-            "segment": self.take_segment,
-            "rip": self.take_rip,
-            "rip-entry": self.take_rip_entry,
+            **{name: (AnyLine, self.take_detail) for name in DETAILS},
+            "piece": (PieceLine, self.pieces.add),
+            "note": (NoteLine, self.take_note),
+            "gap": (RangeLine, self.take_gap),
+            "partition": (PartitionLine, self.take_partition),
+            "chain": (ChainLine, self.take_chain),
+            "copy": (CopyLine, self.copies.add),
+            "preferred": (PreferredLine, self.take_preferred),
+            "identification": (ReferenceLine, self.take_reference),
+            "package": (ReferenceLine, self.take_reference),
+            "segment": (SegmentLine, self.take_segment),
+            "rip": (RipLine, self.take_rip),
+            "rip-entry": (RipEntryLine, self.take_rip_entry),
         }
 
     def take_note(self, line: NoteLine) -> None:
@@ -119,7 +119,7 @@ class Shown:
         if line["disputed"]:
             self.readings.add(line)
 
-    def take_gap(self, line: GapLine) -> None:
+    def take_gap(self, line: RangeLine) -> None:
         """A gap. A head before it isn't of a packet that was passed over, for then the value would be held."""
         self.cut_heads += len(between(self.values, line["start"], line["start"] + 1))
 

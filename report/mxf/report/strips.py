@@ -89,7 +89,7 @@ class Strip:
 
     def take_units(self, lines: Iterable[Line]) -> None:
         """Takes what `units` says."""
-        take_lines(lines, {"unit": self.take_unit, "units": self.take_total})
+        take_lines(lines, {"unit": (UnitLine, self.take_unit), "units": (UnitsLine, self.take_total)})
 
     def take_total(self, line: UnitsLine) -> None:
         """Takes how many units there are."""

@@ -5,8 +5,8 @@ import collections
 import os
 from collections.abc import Iterable
 
-from mxf.calling import Tool
-from mxf.lines import Line, SourceLine, take_lines
+from mxf.lines import Line, NoteLine, SourceLine, take_lines
+from mxf.report.asking import Asking
 from mxf.report.rows import Rows
 from mxf.report.shown import Readings, Shown
 
@@ -26,7 +26,7 @@ class Told:
         self.readings = Readings()
         self.has_ranges = False
         self.names: dict[int, str] = {}
-        take_lines(lines, {"source": self.take_source, "disputed": self.readings.add})
+        take_lines(lines, {"source": (SourceLine, self.take_source), "disputed": (NoteLine, self.readings.add)})
         files = collections.Counter(file_of(one["word"]) for one in self.sources.kept)
         for one in self.sources.kept:
             file = file_of(one["word"])
@@ -38,11 +38,12 @@ class Told:
         self.has_ranges |= line["word"].startswith("range:")
 
 
-def told_of(tool: Tool, shown: Shown) -> Told:
+def told_of(tool: Asking, shown: Shown) -> Told:
     """What `sources` says. It reads essence, so if that is passed over it isn't asked: then the sources are known by their
     words, and the readings by what `show` says of them."""
     if not tool.is_skimming:
         return Told(tool.ask("sources"))
-    told = Told({"line": "source", "source": number, "word": word} for number, word in enumerate(tool.sources.each, 1))
+    words = [os.fsencode(word).decode("utf-8", "replace") for word in tool.sources.each()]
+    told = Told({"line": "source", "source": number, "word": word} for number, word in enumerate(words, 1))
     told.readings = shown.readings
     return told

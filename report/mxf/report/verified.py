@@ -23,13 +23,13 @@ class Verified:
             "packets": 0, "all-packets": 0, "bytes": 0, "all-bytes": 0, "differs": 0, "cut": 0, "unknown": 0,
         }  # fmt: skip
         take_lines(lines, {
-            "differs": self.differs.add,
-            "cut": self.cut.add,
-            "unknown": self.unknown.add,
-            "stop": self.take_stop,
-            "unverified": self.take_unverified,
-            "units": self.take_units,
-            "verified": self.take_verified,
+            "differs": (DiffersLine, self.differs.add),
+            "cut": (PacketLine, self.cut.add),
+            "unknown": (RangeLine, self.unknown.add),
+            "stop": (StopLine, self.take_stop),
+            "unverified": (RangeLine, self.take_unverified),
+            "units": (VerifiedUnitsLine, self.take_units),
+            "verified": (VerifiedLine, self.take_verified),
         })  # fmt: skip
 
     def take_stop(self, line: StopLine) -> None:

@@ -1,15 +1,17 @@
 """Timecodes, which number the frames of a day."""
 from __future__ import annotations
 
+import re
+
 HOURS = 24
+
+# Two digits each of hours, minutes and seconds, and two to five of the frames. Those of drop frame have a semicolon.
+TIMECODE = re.compile(r"[0-9]{2}:[0-9]{2}:[0-9]{2}[:;][0-9]{2,5}")
 
 
 def is_timecode(text: str) -> bool:
-    """Whether a text has the form of a timecode: two digits each of hours, minutes and seconds, and two to five of the
-    frames."""
-    digits = text[:2] + text[3:5] + text[6:8] + text[9:]
-    is_parted = text[2:3] == text[5:6] == ":" and text[8:9] in (":", ";")
-    return is_parted and 8 <= len(digits) <= 11 and digits.isascii() and digits.isdigit()
+    """Whether a text has the form of a timecode."""
+    return TIMECODE.fullmatch(text) is not None
 
 
 def is_within(timecode: str, first: str, last: str) -> bool:
