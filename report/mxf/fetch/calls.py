@@ -1,11 +1,11 @@
 """The commands look, units and whole, each with what is got."""
 from __future__ import annotations
 
-import sys
 from typing import NamedTuple
 
 from mxf.fetch.asking import Asking
 from mxf.fetch.getting import Getting
+from mxf.faults import tell
 from mxf.fetch import looking
 from mxf.fetch.minutes import Asked, Minute, get_units
 from mxf.fetch.spans import OPEN, Span, missing
@@ -37,10 +37,10 @@ def look(call: Call) -> int:
     """Gets what says what the recording is, and prints that, and what is wrong as far as it is known."""
     looking.look(call.getting, call.asking)
     described = call.asking.ask("describe")
-    sys.stdout.flush()
-    sys.stdout.buffer.write(described.printed)
-    for text in looking.findings(call.asking):
-        print(text)
+    for text in described.texts:
+        print(text.decode("utf-8", "replace"))
+    for told in looking.findings(call.asking):
+        print(told)
     call.tell("looked")
     return described.status
 
@@ -54,7 +54,7 @@ def units(call: Call) -> int:
 
 def tell_minute(call: Call, minute: Minute) -> None:
     """Prints what came of edit units."""
-    sys.stderr.buffer.write(minute.said)
+    tell(minute.said)
     if minute.counted is not None:
         print(minute.counted.text())
     call.tell("fetched")

@@ -5,7 +5,7 @@ import dataclasses
 from collections.abc import Iterable
 from fractions import Fraction
 
-from mxf.archive.timecodes import Counting
+from mxf.timecodes import Counting
 from mxf.lines import Line
 
 

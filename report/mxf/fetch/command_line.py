@@ -1,16 +1,14 @@
 """How mxf_fetch is run by its words."""
 from __future__ import annotations
 
-import errno
 import os
 import shutil
-import signal
 import sys
 import tempfile
 from collections.abc import Callable
 from pathlib import Path
 
-from mxf.faults import NO_PROGRAM, OUTPUT, OwnFault, ToolFault
+from mxf.faults import NO_PROGRAM, OwnFault, tell_own
 from mxf.fetch import calls
 from mxf.fetch.asking import Asking
 from mxf.fetch.calls import Call
@@ -20,6 +18,7 @@ from mxf.fetch.folder import Folder, Kind
 from mxf.fetch.getting import Getting
 from mxf.fetch.places import CommandPlace, PathPlace, Place
 from mxf.fetch.words import Words, read_words
+from mxf.running import end_by_signals, printed_by
 
 COMMAND = "cmd:"
 SCHEMES = ("http://", "https://")
@@ -69,43 +68,17 @@ def run_in(path: Path, words: Words) -> int:
         folder.close()
 
 
-def status_of(words: Words) -> int:
-    """Runs the command, says what went wrong, and answers the status."""
+def run_bounded(given: list[str]) -> int:
+    """Runs the command that the words of a call name. What would be more than it may get is said."""
+    words = read_words(given)
+    end_by_signals()
     try:
         return run(words)
-    except ToolFault as fault:
-        sys.stdout.flush()
-        sys.stderr.buffer.write(fault.message)
-        return fault.status
-    except OwnFault as fault:
-        print(f"mxf_fetch: {fault}", file=sys.stderr)
-        return fault.status
     except Bounded as fault:
-        print(f"mxf_fetch: {fault}", file=sys.stderr)
+        tell_own(str(fault))
         return 1
-    except KeyboardInterrupt:
-        return 128 + signal.SIGINT
-
-
-def end_by_signals() -> None:
-    """Lets a signal that ends this program end what it has begun too, and remove what nobody keeps, as an interrupt does."""
-    for number in (signal.SIGHUP, signal.SIGTERM):
-        if signal.getsignal(number) == signal.SIG_DFL:
-            signal.signal(number, lambda number, _: sys.exit(128 + number))
 
 
 def main() -> int:
-    """Runs the program, and answers its status. All that it prints is written then."""
-    words = read_words(sys.argv[1:])
-    end_by_signals()
-    try:
-        if sys.stdout is None:
-            raise OSError(errno.EBADF, os.strerror(errno.EBADF))
-        status = status_of(words)
-        sys.stdout.flush()
-        return status
-    except OSError as fault:
-        # Nothing that is left for a closed standard output may be written at the end.
-        os.dup2(os.open(os.devnull, os.O_WRONLY), 1)
-        print(f"mxf_fetch: write fault: {fault.filename or 'standard output'}: {fault.strerror}", file=sys.stderr)
-        return OUTPUT
+    """Runs the program, and answers its status."""
+    return printed_by(lambda: run_bounded(sys.argv[1:]))

@@ -80,7 +80,7 @@ def units_of(asking: Asking, first: str | None, last: str | None, index: int) ->
     try:
         return lines_of_units(asking, first, last, index)
     except ToolFault as fault:
-        if not fault.says(TOO_MANY):
+        if fault.last_line() != TOO_MANY:
             raise
     return [*lines_of_units(asking, first, first, index), *lines_of_units(asking, last, last, index)]
 
