@@ -10,7 +10,7 @@ class Bounded(Exception):
     """A round would get more bytes than a call may get. Nothing of it is begun."""
 
     def __init__(self, wanted: int, most: int) -> None:
-        super().__init__(f"{wanted} bytes are wanted, and {most} is the most: --most {wanted} gets them")
+        super().__init__(f"{wanted} bytes are wanted so far, and --most is {most}")
 
 
 def changed(shown: str, begun: str) -> OwnFault:
