@@ -84,6 +84,11 @@ def bytes_of(folder: Path) -> bytes:
     return whole
 
 
+def size_of(folder: Path) -> int:
+    """How many bytes the ranges of a folder have."""
+    return sum(path.stat().st_size for path in folder.glob("*.range"))
+
+
 def recordings(folder: Path) -> list[Path]:
     """The recordings that are asked for: the examples, the worked files, and one of many partitions if ffmpeg is there."""
     found = sorted((TOP / "examples").glob("*.mxf")) + sorted((TOP / "tests/worked").glob("*.bin"))
@@ -237,12 +242,16 @@ def try_whole(tests: Tests, server: Nginx, path: Path) -> None:
     words = [FETCH, "whole", server.url(f"slow/{path.name}"), "--into", folder, "--jobs", "3"]
     chance = random.Random(17)
     server.logged()
-    for _ in range(KILLS):
-        call = subprocess.Popen([*map(str, words)], env={**os.environ, "MXF_TOOL": tests.tool}, stdout=subprocess.DEVNULL)
-        time.sleep(chance.uniform(0.05, 0.4))
+    for kill in range(KILLS):
+        call = subprocess.Popen([*map(str, words)], env={**os.environ, "MXF_TOOL": tests.tool}, stdout=subprocess.DEVNULL, stderr=subprocess.DEVNULL)
+        # Every other one goes on until something comes.
+        before = size_of(folder)
+        while kill % 2 and call.poll() is None and size_of(folder) == before:
+            time.sleep(0.01)
+        time.sleep(chance.uniform(0, 0.2))
         call.send_signal(chance.choice((signal.SIGKILL, signal.SIGKILL, signal.SIGTERM, signal.SIGINT)))
         call.wait()
-    held = sum(one.stat().st_size for one in folder.glob("*.range"))
+    held = size_of(folder)
     server.logged()
     tests.verdict(f"{KILLS} kills leave something to get", 0 < held < len(data), held)
     ran = tests.fetch(*words[1:])

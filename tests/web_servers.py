@@ -237,11 +237,18 @@ class Misbehaving(http.server.BaseHTTPRequestHandler):
         self.send(int(self.path.split("/")[2].partition("?")[0]), b"", {})
 
 
+class Server(http.server.ThreadingHTTPServer):
+    """A server that says nothing of who hangs up."""
+
+    def handle_error(self, request: object, address: object) -> None:
+        """Nobody is told."""
+
+
 @contextlib.contextmanager
 def misbehaving(data: bytes) -> Iterator[int]:
     """The server that misbehaves with these bytes, until the block ends: its port."""
     Misbehaving.data = data
-    server = http.server.ThreadingHTTPServer(("127.0.0.1", 0), Misbehaving)
+    server = Server(("127.0.0.1", 0), Misbehaving)
     thread = threading.Thread(target=server.serve_forever, daemon=True)
     thread.start()
     try:

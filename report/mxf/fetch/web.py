@@ -23,6 +23,8 @@ TRIES = 5  # that follow one that failed
 LEAST, GREATEST = 0.5, 30.0  # seconds between two of them
 STATUSES = (429, *range(500, 600))  # that may be another the next time
 
+EARLY = "the answer ended early"
+
 CONTENT_RANGE = re.compile(r"bytes ([0-9]{1,19})-([0-9]{1,19})/([0-9]{1,19}|\*)")
 NO_RANGE = re.compile(r"bytes \*/([0-9]{1,19})")  # of a status 416
 
@@ -94,15 +96,16 @@ class WebPlace:
         """The bytes of the span. What is left of it is asked for again if an answer ends early."""
         at, patience = span.start, Patience(TRIES)
         while at < end_of(span, recording):
-            before, told = at, "the answer ended early"
+            before = at
             try:
                 for block in self.answer(Span(at, end_of(span, recording)), recording):
                     at += len(block)
                     yield block
             except (requests.RequestException, HTTPError) as fault:
-                told = self.told(fault)
-            if at < end_of(span, recording):
-                patience = self.again(patience if at == before else Patience(TRIES), told)
+                patience = self.again(patience if at == before else Patience(TRIES), self.told(fault))
+            else:
+                if at == before:
+                    return
 
     def again(self, patience: Patience, told: str) -> Patience:
         """Waits until the next try, if there is one."""
@@ -128,7 +131,7 @@ class WebPlace:
             while left:
                 block = response.raw.read(min(BLOCK, left), decode_content=False)
                 if not block:
-                    return
+                    raise HTTPError(EARLY)
                 left -= len(block)
                 yield block
 
@@ -236,4 +239,4 @@ def way_text(fault: BaseException, timeout: float) -> str:
         if isinstance(cause, OSError) and cause.strerror:
             return cause.strerror
         cause = cause.__cause__ or cause.__context__
-    return "the connection broke"
+    return EARLY
