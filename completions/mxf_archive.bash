@@ -36,7 +36,8 @@ _mxf_archive_words() {
   case $1:$2 in
     *:--against) echo "$forms" ;;
     *:--by) echo 'name offset' ;;
-    add:* | lines:*) echo "$forms --catalogue --skim --sources --help" ;;
+    add:*) echo "$forms --catalogue --skim --sources --list --jobs --help" ;;
+    lines:*) echo "$forms --catalogue --skim --sources --help" ;;
     verify:*) echo "$forms --against --sources --help" ;;
     match:*) echo "$forms --sources --csv --json --help" ;;
     list:*) echo '--missing --damaged --disputed --changed --unverified-since --csv --json --help' ;;
@@ -59,8 +60,8 @@ _mxf_archive() {
     return
   fi
   case $before in
-    --catalogue | --sources) _mxf_archive_paths '' "$word" && return ;;
-    --unverified-since | --merge) return ;;
+    --catalogue | --sources | --list) _mxf_archive_paths '' "$word" && return ;;
+    --unverified-since | --merge | --jobs) return ;;
   esac
   _mxf_archive_source "$word" && return
   # The database is the first word of each command but one, and load takes files alone.

@@ -404,7 +404,9 @@ def check_plans(database, document):
     connection = opened(database)
     asked = [text for words in ASKED for text in statements_of([words[0], database, *words[1:]])]
     told = questions_of(document)
-    questions = [text for text in (*asked, *told) if text.lstrip().startswith("SELECT") and OF_ALL_ROWS not in text]
+    # FTS5 asks its own tables by itself.
+    left_out = (OF_ALL_ROWS, "FROM 'main'.'words_")
+    questions = [text for text in (*asked, *told) if text.lstrip().startswith("SELECT") and not any(one in text for one in left_out)]
     if len(questions) < len(ASKED):
         print(f"{len(questions)} questions")
     for question in questions:

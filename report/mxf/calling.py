@@ -5,7 +5,6 @@ import contextlib
 import os
 import pathlib
 import subprocess
-import tempfile
 import threading
 from collections.abc import Callable, Iterator, Sequence
 from types import TracebackType
@@ -43,6 +42,11 @@ def current(name: str, version: str) -> str:
     return str(built) if built.is_file() else name
 
 
+def file_without_name() -> IO[bytes]:
+    """A file in memory, which ends with the programs that have it open."""
+    return open(os.memfd_create("mxf"), "w+b")
+
+
 class Call:
     """A call of a program. It begins when it is told to, at the latest when its lines are asked for. What it says of
     faults is kept, or goes where that of this program goes. The call is over when its block ends, and is ended if that ends
@@ -59,11 +63,10 @@ class Call:
         """Starts the program, if that wasn't done. What it is given and what it says of faults are files without a name, so
         neither program waits for the other."""
         if self.process is None:
-            self.faults = tempfile.TemporaryFile() if self.is_kept else None
-            with tempfile.TemporaryFile() if self.given else open(os.devnull, "rb") as given:
-                if self.given:
-                    given.write(self.given)
-                    given.seek(0)
+            self.faults = file_without_name() if self.is_kept else None
+            with file_without_name() as given:
+                given.write(self.given)
+                given.seek(0)
                 self.process = self.started(given)
         return self.process
 

@@ -4,8 +4,10 @@ from __future__ import annotations
 import os
 import re
 import time
+from typing import TYPE_CHECKING
 
-from mxf.lines import StampLine
+if TYPE_CHECKING:
+    from mxf.lines import StampLine
 
 DAY = 24 * 60 * 60  # seconds
 TIMES = range(-62_135_596_800, 253_402_300_800)  # from the first second of the year 1 to the last of 9999

@@ -33,8 +33,11 @@ LISTS = {
 
 # What a page of all recordings shows: the row of a list, whether each is damaged, and how many packets differed when it was
 # last verified.
-OVERVIEW = LISTED.replace("AS verified", """AS verified, r.is_damaged,
-  coalesce((SELECT v.differs FROM verifications v WHERE v.recording = r.id ORDER BY v.number DESC LIMIT 1), 0) AS differs""")
+OVERVIEW = LISTED.replace(
+    "AS verified",
+    """AS verified, r.is_damaged,
+  coalesce((SELECT v.differs FROM verifications v WHERE v.recording = r.id ORDER BY v.number DESC LIMIT 1), 0) AS differs""",
+)
 
 # What `show` prints of a recording, table by table.
 SHOWN = {

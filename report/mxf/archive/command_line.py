@@ -1,17 +1,18 @@
 """How mxf_archive is run by its words."""
 from __future__ import annotations
 
+import importlib
 import sys
-from collections.abc import Callable, Sequence
+from collections.abc import Sequence
 
-from mxf.archive import adding, finding, listing, loading, matching, verifying
-from mxf.archive.words import WordFault, Words, read_words
+from mxf.archive.words import WordFault, read_words
 from mxf.faults import USAGE, tell
 from mxf.running import end_by_signals, printed_by
 
-RUN: dict[str, Callable[[Words], int]] = {
-    "add": adding.add, "list": listing.list, "find": finding.find, "show": listing.show, "orders": listing.orders,
-    "verify": verifying.verify, "match": matching.match, "lines": adding.lines, "load": loading.load,
+# The module that has each command as a function of its name. It is loaded for that command alone.
+MODULES = {
+    "add": "adding", "list": "listing", "find": "finding", "show": "listing", "orders": "listing",
+    "verify": "verifying", "match": "matching", "lines": "adding", "load": "loading",
 }  # fmt: skip
 
 
@@ -25,7 +26,8 @@ def run(given: Sequence[str]) -> int:
     if words is None:
         return 0  # help was asked for, and is printed
     end_by_signals()
-    return RUN[words.command](words)
+    status: int = getattr(importlib.import_module(f"mxf.archive.{MODULES[words.command]}"), words.command)(words)
+    return status
 
 
 def main() -> int:

@@ -98,9 +98,7 @@ def found_by_timecode(connection: Connection, timecode: str) -> Found:
             if timecodes.is_within(timecode, row["first"], row["last"]) and has_label(row["base"], row["is_drop"])]  # fmt: skip
     clocked = {row["recording"] for row in rows if row["clock"] is not None}
     return {
-        (row["recording"], *told_by(row))
-        for row in rows
-        if row["clock"] is not None or row["recording"] not in clocked
+        (row["recording"], *told_by(row)) for row in rows if row["clock"] is not None or row["recording"] not in clocked
     }
 
 

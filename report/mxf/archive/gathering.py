@@ -77,7 +77,9 @@ class Gathering:
         with self.opened:
             sources = self.named.asked() or self.joined()
             self.is_beside = self.is_beside and is_small_catalogue(sources)
-            calls = self.begun([self.tool.call([command, *self.skimming()], sources, not self.is_beside) for command in COMMANDS])
+            calls = self.begun(
+                [self.tool.call([command, *self.skimming()], sources, not self.is_beside) for command in COMMANDS]
+            )
             for line in self.origins:
                 if line["form"] == "cat":
                     line["sha256"] = sha256_of(line["path"])

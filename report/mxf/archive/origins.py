@@ -3,6 +3,7 @@ from __future__ import annotations
 
 import contextlib
 import os
+import re
 
 from mxf import moments
 from mxf.faults import READ, OwnFault
@@ -12,7 +13,7 @@ from mxf.sources import Source, Sources, source_of, sources_of
 # Tags of sets whose values tell recordings apart (ST 377-1), and what each is: the identifier of the set, of a package, and
 # of the modification by which a set or a program came.
 IDENTIFIERS = {"3c0a": "instance", "4401": "package", "3c09": "generation", "0102": "generation"}
-IDENTIFIED = tuple(b'"tag":"%s"' % tag.encode() for tag in IDENTIFIERS)
+IDENTIFIED = re.compile(rb'\{"line":"item","offset":\d+,"tag":"(?:%s)"' % "|".join(IDENTIFIERS).encode())
 
 
 def named_sources(words: list[str], path: str | None) -> Sources:
@@ -26,7 +27,13 @@ def named_sources(words: list[str], path: str | None) -> Sources:
 def origin_of(number: int, source: Source) -> Line:
     """What is known of the file of a source without its bytes: its path, its size and the time of its last change. That
     of a catalogue has to be there."""
-    named = {"number": number, "form": source.form, "offset": source.offset(), "path": source.path, "word": source.word()}
+    named = {
+        "number": number,
+        "form": source.form,
+        "offset": source.offset(),
+        "path": source.path,
+        "word": source.word(),
+    }
     origin: Line = {"line": "origin", **named, "size": None, "modified": None, "sha256": None}
     with contextlib.suppress(OSError, ValueError):
         found = os.stat(source.path)
@@ -41,7 +48,7 @@ def origin_of(number: int, source: Source) -> Line:
 
 def is_identifier(text: bytes) -> bool:
     """Whether a line of show is an item with an identifier."""
-    return text.startswith(b'{"line":"item"') and any(tag in text for tag in IDENTIFIED)
+    return IDENTIFIED.match(text) is not None
 
 
 def identifier_of(line: ItemLine) -> tuple[str, bytes] | None:

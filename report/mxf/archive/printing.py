@@ -52,7 +52,9 @@ def print_table(heads: Sequence[str], rows: Iterable[Cells]) -> None:
     """Prints columns side by side."""
     columns = list(zip(*rows)) or [()] * len(heads)
     last = len(heads) - 1
-    print_lines(map("  ".join, zip(*(laid_out(head, columns[place], place == last) for place, head in enumerate(heads)))))
+    print_lines(
+        map("  ".join, zip(*(laid_out(head, columns[place], place == last) for place, head in enumerate(heads))))
+    )
 
 
 def print_csv(heads: Sequence[str], rows: Iterable[Cells]) -> None:

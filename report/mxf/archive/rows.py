@@ -12,6 +12,7 @@ from mxf.archive import spans
 from mxf.archive.gathering import FORMAT
 from mxf.archive.origins import identifier_of
 from mxf.faults import DATA, OwnFault
+
 from mxf.lines import (
     AnyLine, ChainLine, ClipLine, ClockLine, ContainerLine, DescribedLine, DisputeLine, EssenceLine, FindingLine, ItemLine,
     Line, LineFault, MapCounts, NameLine, OrderLine, PackageLine, PackLine, PictureLine, PlannedLine, ReferenceLine, SoundLine,
@@ -252,7 +253,9 @@ class Recording:
 
     def take_picture(self, line: PictureLine) -> None:
         """What it says of a picture."""
-        row = columns_of(line, "width", "height", "display-width", "display-height", "layout", "aspect", "depth", "coding")
+        row = columns_of(
+            line, "width", "height", "display-width", "display-height", "layout", "aspect", "depth", "coding"
+        )
         self.add_component("pictures", **self.essence, **row)
 
     def take_sound(self, line: SoundLine) -> None:

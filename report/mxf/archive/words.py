@@ -81,14 +81,14 @@ def add_database(command: argparse.ArgumentParser) -> None:
     command.add_argument("database", metavar="DB", type=word, help="the file of the database")
 
 
-def add_name(command: argparse.ArgumentParser, **more: Any) -> None:
+def add_name(command: argparse.ArgumentParser) -> None:
     """The word that names a recording."""
-    command.add_argument("name", metavar="NAME", type=word, help="the name of the recording", **more)
+    command.add_argument("name", metavar="NAME", type=word, help="the name of the recording")
 
 
-def add_sources(command: argparse.ArgumentParser) -> None:
+def add_sources(command: argparse.ArgumentParser, metavar: str = "SRC", said: str = "a source") -> None:
     """The words that name sources, and the option of a list of them."""
-    command.add_argument("source", metavar="SRC", nargs="*", default=[], type=word, help="a source")
+    command.add_argument("source", metavar=metavar, nargs="*", default=[], type=word, help=said)
     command.add_argument("--sources", metavar="FILE", help="a list of sources, one a line; - is standard input")
 
 
@@ -102,20 +102,21 @@ def add_forms(command: argparse.ArgumentParser) -> None:
 def of_add(command: argparse.ArgumentParser) -> None:
     """The words of add."""
     add_database(command)
-    add_name(command, nargs="?")
-    add_asked(command)
+    add_asked(command, metavar="NAME SRC", said="the name of the recording, and its sources")
     said = "a list of recordings, each a line with its name and its sources, and a tab before each source; - is standard input"
     command.add_argument("--list", dest="listed", metavar="FILE", help=said)
-    command.add_argument("--jobs", metavar="N", type=number_from_1, default=1, help="how many of a list are asked for at once (1)")
+    said = "how many of a list are asked for at once (1)"
+    command.add_argument("--jobs", metavar="N", type=number_from_1, default=1, help=said)
 
 
 def check_add(words: Words) -> None:
-    """Sees that a recording is named, or a list and nothing of one recording."""
-    if words.listed is None and words.name is None:
+    """Takes the name of a recording, which stands before its sources. Either that is named or a list."""
+    words.name, words.source = next(iter(words.source), ""), words.source[1:]
+    if words.listed is None and not words.name:
         raise argparse.ArgumentTypeError("the following arguments are required: NAME")
     if words.listed is None and words.jobs != 1:
         raise argparse.ArgumentTypeError("argument --jobs: not allowed without argument --list")
-    if words.listed is not None and (words.name is not None or words.sources is not None or words.catalogue is not None):
+    if words.listed is not None and (words.name or words.sources is not None or words.catalogue is not None):
         raise argparse.ArgumentTypeError("argument --list: not allowed with NAME, --sources or --catalogue")
 
 
@@ -125,11 +126,11 @@ def of_lines(command: argparse.ArgumentParser) -> None:
     add_asked(command)
 
 
-def add_asked(command: argparse.ArgumentParser) -> None:
+def add_asked(command: argparse.ArgumentParser, **named: str) -> None:
     """The words that say what is asked of a recording."""
     command.add_argument("--catalogue", metavar="FILE", help="a saved catalogue of it, asked in place of its sources")
     command.add_argument("--skim", action="store_true", help="pass over essence, as mxf_tool does")
-    add_sources(command)
+    add_sources(command, **named)
 
 
 def of_list(command: argparse.ArgumentParser) -> None:
@@ -211,48 +212,49 @@ COMMANDS: dict[str, tuple[str, Callable[[argparse.ArgumentParser], None]]] = {
 CHECKS: dict[str, Callable[[Words], None]] = {"add": check_add}
 
 
-def parsers() -> tuple[argparse.ArgumentParser, dict[str, argparse.ArgumentParser]]:
-    """What reads the first word, and what reads the others of each command."""
+def program_parser() -> argparse.ArgumentParser:
+    """What reads the first word, the name of a command."""
     program = Parser("mxf_archive", DESCRIPTION, epilog=EPILOG)
     commands = program.add_subparsers(metavar="COMMAND", required=True)
-    each: dict[str, argparse.ArgumentParser] = {}
-    for name, (said, add_words) in COMMANDS.items():
-        described = f"{said[0].upper()}{said[1:]}."
-        each[name] = commands.add_parser(name, help=said, description=described)
-        each[name].set_defaults(command=name)
-        add_words(each[name])
-    return program, each
+    for name, (said, _) in COMMANDS.items():
+        commands.add_parser(name, help=said, description=said)
+    return program
+
+
+def command_parser(name: str) -> argparse.ArgumentParser:
+    """What reads the other words of a command."""
+    said, add_words = COMMANDS[name]
+    command = Parser(f"mxf_archive {name}", f"{said[0].upper()}{said[1:]}.")
+    command.set_defaults(command=name)
+    add_words(command)
+    return command
 
 
 def read_words(given: Sequence[str]) -> Words | None:
     """The fields of the words of a call; None if help is asked for, which is printed."""
-    try:
-        return words_by(given, *parsers())
-    except SystemExit:
-        return None
-
-
-def words_by(
-    given: Sequence[str], program: argparse.ArgumentParser, commands: dict[str, argparse.ArgumentParser]
-) -> Words:  # fmt: skip
-    """The fields of the words of a call, by what reads them."""
     for place, text in enumerate(given, 1):
         if not is_text(text):
-            program.error(f"argument {place} is not UTF-8")
+            program_parser().error(f"argument {place} is not UTF-8")
     end = given.index("--") if "--" in given else len(given)
     # An option -h of argparse would be taken for -hyphen too.
     front = ["--help" if text == "-h" else text for text in given[:end]]
     behind = [BEHIND + text for text in given[end + 1 :]]
-    if not front or front[0] not in commands:
-        program.parse_args(front[:1])
-    command = commands[front[0]]
+    try:
+        if not front or front[0] not in COMMANDS:
+            program_parser().parse_args(front[:1])
+        return words_of(command_parser(front[0]), [*front[1:], *given[end : end + 1], *behind])
+    except SystemExit:
+        return None
+
+
+def words_of(command: argparse.ArgumentParser, given: Sequence[str]) -> Words:
+    """The fields of the words of a command."""
     words = Words()
-    rest = [*front[1:], *given[end : end + 1], *behind]
-    _, unknown = command.parse_known_intermixed_args(rest, namespace=words)
+    _, unknown = command.parse_known_intermixed_args(given, namespace=words)
     if unknown:
         command.error(f"unrecognized arguments: {' '.join(map(word, unknown))}")
     try:
-        CHECKS.get(front[0], lambda _: None)(words)
+        CHECKS.get(words.command, lambda _: None)(words)
     except argparse.ArgumentTypeError as fault:
         command.error(str(fault))
     return words

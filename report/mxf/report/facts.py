@@ -55,7 +55,10 @@ def indexes_of(known: Known, shown: Shown, words: Words) -> Sequence[int | None]
 
 
 # What is said of edit units if header metadata are ordered in their place.
-NO_TIMECODES = "No timecode is known yet, since no finished header metadata are held. What is ordered for these edit units brings them."
+NO_TIMECODES = (
+    "No timecode is known yet, since no finished header metadata are held. "
+    "What is ordered for these edit units brings them."
+)
 
 
 def strip_of(known: Known, index_sid: int | None, span: list[str]) -> Strip:

@@ -28,7 +28,11 @@ class Mapped:
         self.numbers: MapLine = {"end": 0, "held": 0, "hand": 0, "missing": 0, "gaps": 0, "disputed": 0, "cell": 1}
         self.cells = ""
         self.extents: Rows[ExtentLine] = Rows()
-        takers = {"map": (MapLine, self.take_map), "row": (RowLine, self.take_row), "extent": (ExtentLine, self.extents.add)}
+        takers = {
+            "map": (MapLine, self.take_map),
+            "row": (RowLine, self.take_row),
+            "extent": (ExtentLine, self.extents.add),
+        }
         take_lines(lines, takers)
 
     def take_map(self, line: MapLine) -> None:
