@@ -120,7 +120,9 @@ def try_looks(tests: Tests, server: Nginx, files: list[Path]) -> None:
         requests, came = ran.got()
         tests.verdict(f"look at {path.name}: describe", ran.out.startswith(said) and said != "", ran)
         tests.verdict(f"look at {path.name}: requests", requests == len(logged), (ran, logged))
-        tests.verdict(f"look at {path.name}: bytes", came == sum(int(row[1]) for row in logged if row[0] == "206"), logged)
+        tests.verdict(
+            f"look at {path.name}: bytes", came == sum(int(row[1]) for row in logged if row[0] == "206"), logged
+        )
         tests.verdict(f"look at {path.name} as a file", tests.fetch("look", path).out == ran.out)
         if path.name == "long.mxf":
             tests.verdict("look at long.mxf gets little", came <= 16384 * 16 < path.stat().st_size // 8, ran)
@@ -153,7 +155,21 @@ def try_units(tests: Tests, server: Nginx, files: list[Path]) -> None:
 
 def pictures_of(path: Path) -> list[str]:
     """The digests of the pictures that ffmpeg decodes of a file."""
-    words = ["ffmpeg", "-nostdin", "-v", "error", "-i", path, "-map", "0:v", "-vsync", "passthrough", "-f", "framemd5", "-"]
+    words = [
+        "ffmpeg",
+        "-nostdin",
+        "-v",
+        "error",
+        "-i",
+        path,
+        "-map",
+        "0:v",
+        "-vsync",
+        "passthrough",
+        "-f",
+        "framemd5",
+        "-",
+    ]
     printed = subprocess.run(words, capture_output=True, text=True, check=False).stdout
     return [line.split(",")[-1].strip() for line in printed.splitlines() if line and not line.startswith("#")]
 
@@ -208,12 +224,16 @@ def try_clips(tests: Tests, server: Nginx, root: Path) -> None:
     tests.verdict("and gets nothing", server.logged() == [] and out.read_bytes() == b"kept")
     ran = tests.fetch(*words, "--out", out, "--force")
     tests.verdict("clip replaces it with --force", ran.status == 0 and len(out.read_bytes()) > 4, ran)
-    told = subprocess.run(["ffprobe", "-v", "error", "-show_entries", "format_tags=timecode", out], capture_output=True, text=True)
+    told = subprocess.run(
+        ["ffprobe", "-v", "error", "-show_entries", "format_tags=timecode", out], capture_output=True, text=True
+    )
     tests.verdict("the file says its timecode", f"timecode={ran.out.split()[-3]}\n" in told.stdout, (ran, told))
     sparse = tests.folder / "sparse.mxf"
     ran = tests.fetch(*words, "--sparse", sparse)
     size = sparse.stat().st_size
-    tests.verdict("--sparse leaves a file of the size of the recording", size == (root / "long.mxf").stat().st_size, ran)
+    tests.verdict(
+        "--sparse leaves a file of the size of the recording", size == (root / "long.mxf").stat().st_size, ran
+    )
     tests.verdict("of which little is on the disk", sparse.stat().st_blocks * 512 < size // 2)
     stops = tests.asked("show", "--skim", f"at:0:{sparse}").splitlines()[0]
     tests.verdict("in which packets follow one another", stops.endswith("stop end"), stops)
@@ -221,14 +241,18 @@ def try_clips(tests: Tests, server: Nginx, root: Path) -> None:
     no_player.mkdir()
     (no_player / "python3").symlink_to(sys.executable)
     server.logged()
-    tests.fails("clip without ffmpeg", 69, "clip needs ffmpeg", *words, "--out", tests.folder / "x.mxf", PATH=str(no_player))
+    tests.fails(
+        "clip without ffmpeg", 69, "clip needs ffmpeg", *words, "--out", tests.folder / "x.mxf", PATH=str(no_player)
+    )
     tests.verdict("is said before anything is got", server.logged() == [])
 
 
 def try_sound(tests: Tests, server: Nginx, root: Path) -> None:
     """A clip of sound alone has the samples that are asked for."""
     out = tests.folder / "clip.wav"
-    ran = tests.fetch("clip", server.url("opatom_pcm.mxf"), "--from", "00:00:00:01", "--to", "00:00:00:02", "--out", out)
+    ran = tests.fetch(
+        "clip", server.url("opatom_pcm.mxf"), "--from", "00:00:00:01", "--to", "00:00:00:02", "--out", out
+    )
     words = ["ffmpeg", "-nostdin", "-v", "error", "-i", out, "-f", "s16le", "-"]
     samples = subprocess.run(words, capture_output=True, check=False).stdout
     # The value of its only packet of essence begins at 5657, and a frame has 1,920 samples of two bytes.
@@ -243,7 +267,12 @@ def try_whole(tests: Tests, server: Nginx, path: Path) -> None:
     chance = random.Random(17)
     server.logged()
     for kill in range(KILLS):
-        call = subprocess.Popen([*map(str, words)], env={**os.environ, "MXF_TOOL": tests.tool}, stdout=subprocess.DEVNULL, stderr=subprocess.DEVNULL)
+        call = subprocess.Popen(
+            [*map(str, words)],
+            env={**os.environ, "MXF_TOOL": tests.tool},
+            stdout=subprocess.DEVNULL,
+            stderr=subprocess.DEVNULL,
+        )
         # Every other one goes on until something comes.
         before = size_of(folder)
         while kill % 2 and call.poll() is None and size_of(folder) == before:

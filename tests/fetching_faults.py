@@ -19,19 +19,33 @@ def try_faults(tests: Any, server: Nginx) -> None:
     where, folder = server.url("op1a_jpeg2000.mxf"), tests.folder / "faults"
     tests.fails("a file that isn't there", 3, "the server answers 404 Not Found", "look", server.url("none.mxf"))
     tests.fails("nobody listens", 3, "Connection refused", "look", f"http://127.0.0.1:{free_port()}/x")
-    tests.fails("no such host", 3, "read fault: http://no.such.host.invalid/x: ", "look", "http://no.such.host.invalid/x")
+    tests.fails(
+        "no such host", 3, "read fault: http://no.such.host.invalid/x: ", "look", "http://no.such.host.invalid/x"
+    )
     tests.fails("whole without a folder", 2, "--into", "whole", where)
     tests.fails("no command", 2, "usage: mxf_fetch", where)
     tests.fails("a bad timecode", 2, "an edit unit is", "units", where, "--from", "x", "--to", "1")
-    tests.fails("no such units", 2, "no unit at 09:00:00:00\n", "units", where, "--from", "09:00:00:00", "--to", "09:00:00:01")
+    tests.fails(
+        "no such units", 2, "no unit at 09:00:00:00\n", "units", where, "--from", "09:00:00:00", "--to", "09:00:00:01"
+    )
     tests.fails("no program mxf_tool", 69, "/none/mxf_tool can't be run", "look", where, MXF_TOOL="/none/mxf_tool")
-    tests.fails("more bytes than may be got", 1, "65536 bytes are wanted so far, and --most is 1000", "look", where, "--most", 1000)
+    tests.fails(
+        "more bytes than may be got",
+        1,
+        "65536 bytes are wanted so far, and --most is 1000",
+        "look",
+        where,
+        "--most",
+        1000,
+    )
     blocked = tests.folder / "blocked"
     blocked.mkdir()
     (blocked / "requests.py").write_text("raise ImportError('no requests')\n")
     tests.fails("no library for http", 69, "python3-requests", "look", where, PYTHONPATH=str(blocked))
     ran = tests.fetch("look", where, "--into", folder)
-    tests.fails("a folder of another recording", 2, f"it has ranges of {where}", "look", server.url("M.bin"), "--into", folder)
+    tests.fails(
+        "a folder of another recording", 2, f"it has ranges of {where}", "look", server.url("M.bin"), "--into", folder
+    )
     opened = os.open(folder, os.O_RDONLY)
     fcntl.flock(opened, fcntl.LOCK_EX)
     tests.fails("a folder that another run has", 6, "another run of mxf_fetch has it", "look", where, "--into", folder)
@@ -39,11 +53,15 @@ def try_faults(tests: Any, server: Nginx) -> None:
     (folder / "fetched.json").unlink()
     tests.fails("ranges of whom nobody knows", 2, "no fetched.json that says of what", "look", where, "--into", folder)
     (folder / "fetched.json").write_text("{")
-    tests.fails("a state that isn't one", 3, "fetched.json: it isn't as mxf_fetch writes it", "look", where, "--into", folder)
+    tests.fails(
+        "a state that isn't one", 3, "fetched.json: it isn't as mxf_fetch writes it", "look", where, "--into", folder
+    )
     tests.fails("a folder that can't be made", 6, "write fault: ", "look", where, "--into", tests.folder / "spy/x")
     with open("/dev/full", "w", encoding="utf-8") as full:
         words = [sys.executable, tests.fetch_program, "look", where]
-        full_run = subprocess.run(words, stdout=full, stderr=subprocess.PIPE, env={**os.environ, "MXF_TOOL": tests.tool})
+        full_run = subprocess.run(
+            words, stdout=full, stderr=subprocess.PIPE, env={**os.environ, "MXF_TOOL": tests.tool}
+        )
     tests.verdict("an answer that can't be written", full_run.returncode == 6, full_run)
     tests.verdict("a look before", ran.status == 0, ran)
 
@@ -57,7 +75,9 @@ def try_misbehaving(tests: Any, base: str, data: bytes, seen: Any) -> None:
     def same(name: str, path: str, *words: object) -> Any:
         """A look that says what one at the file says."""
         ran = tests.fetch("look", f"{base}/{path}", *words)
-        tests.verdict(name, ran.out.rpartition("looked")[0] == wanted.out.rpartition("looked")[0] and ran.status == 0, ran)
+        tests.verdict(
+            name, ran.out.rpartition("looked")[0] == wanted.out.rpartition("looked")[0] and ran.status == 0, ran
+        )
         return ran
 
     same("a server as it should be", "right")
@@ -76,7 +96,15 @@ def try_misbehaving(tests: Any, base: str, data: bytes, seen: Any) -> None:
     try_endings(tests, base, data)
     for path in ("changes", "matches", "modified", "grows"):
         folder = tests.folder / path
-        tests.fails(f"a recording that {path}", 4, f"has changed since {folder} was begun", "look", f"{base}/{path}", "--into", folder)
+        tests.fails(
+            f"a recording that {path}",
+            4,
+            f"has changed since {folder} was begun",
+            "look",
+            f"{base}/{path}",
+            "--into",
+            folder,
+        )
         held = sum(one.stat().st_size for one in folder.glob("*.range"))
         tests.verdict(f"and nothing is mixed: {path}", held == 65536, held)
     tests.fails("without a folder", 4, "has changed since this call was begun", "look", f"{base}/changes/2")
@@ -88,9 +116,17 @@ def try_misbehaving(tests: Any, base: str, data: bytes, seen: Any) -> None:
     tests.fails("a size of 2^63", 3, f"its size {2**63} is above the greatest", "look", f"{base}/vast")
     tests.fails("another coding", 3, "in the coding gzip", "look", f"{base}/zipped")
     tests.fails("an empty recording", 3, "it is empty", "look", f"{base}/empty")
-    for status, said in ((401, "401 Unauthorized"), (403, "403 Forbidden"), (404, "404 Not Found"), (416, "416 "), (418, "418 ")):
+    for status, said in (
+        (401, "401 Unauthorized"),
+        (403, "403 Forbidden"),
+        (404, "404 Not Found"),
+        (416, "416 "),
+        (418, "418 "),
+    ):
         path = f"{base}/status/{status}"
-        tests.fails(f"status {status}", 3, f"read fault: {path}: the server answers {said}", "look", f"{path}?key=secret")
+        tests.fails(
+            f"status {status}", 3, f"read fault: {path}: the server answers {said}", "look", f"{path}?key=secret"
+        )
 
 
 def try_endings(tests: Any, base: str, data: bytes) -> None:
@@ -108,7 +144,10 @@ def try_redirects(tests: Any, base: str, seen: Any, same: Any) -> None:
     header = ("--header", "X-Key: hidden", "--header", "Authorization: hidden too")
     same("a redirect to another host", "redirect", *header)
     names = [set(headers) for path, headers in seen.headers_seen if path == "/right/redirected"]
-    tests.verdict("doesn't get the headers of the call", names != [] and not any(name & {"X-Key", "Authorization"} for name in names))
+    tests.verdict(
+        "doesn't get the headers of the call",
+        names != [] and not any(name & {"X-Key", "Authorization"} for name in names),
+    )
     same("a redirect to the same host", "near", *header)
     names = [set(headers) for path, headers in seen.headers_seen if path == "/right/near"]
     tests.verdict("gets them", names != [] and all({"X-Key", "Authorization"} <= name for name in names), names)
@@ -157,6 +196,8 @@ def try_places(tests: Any, root: Path) -> None:
     tests.fetch("look", changing, "--into", kept)
     os.utime(changing, (0, 0))
     (kept / "0.range").write_bytes((kept / "0.range").read_bytes()[:9000])
-    tests.fails("a file that has changed", 4, f"{changing} has changed since {kept} was begun", "look", changing, "--into", kept)
+    tests.fails(
+        "a file that has changed", 4, f"{changing} has changed since {kept} was begun", "look", changing, "--into", kept
+    )
     state = json.loads((kept / "fetched.json").read_text())
     tests.verdict("fetched.json names the file", state["where"] == str(changing), state)

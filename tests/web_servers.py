@@ -7,6 +7,7 @@ import http.server
 import re
 import socket
 import subprocess
+import sys
 import threading
 import time
 from collections.abc import Iterator
@@ -257,3 +258,14 @@ def misbehaving(data: bytes) -> Iterator[int]:
         server.shutdown()
         thread.join()
         server.server_close()
+
+
+def main() -> None:
+    """Serves the files of a folder by nginx, until standard input ends: web_servers.py ROOT FOLDER. Prints the address."""
+    with nginx(Path(sys.argv[1]), Path(sys.argv[2])) as server:
+        print(server.url(""), flush=True)
+        sys.stdin.read()
+
+
+if __name__ == "__main__":
+    main()

@@ -6,6 +6,7 @@ from typing import NamedTuple
 from mxf.calling import Call, program
 from mxf.faults import NO_PROGRAM, OwnFault, ToolFault
 from mxf.fetch.folder import Folder
+from mxf.fetch.forms import formed
 from mxf.lines import Line, LineFault, line_of
 from mxf.sources import Sources
 
@@ -20,7 +21,7 @@ class Answer(NamedTuple):
     def lines(self) -> list[Line]:
         """The lines, which are JSON."""
         try:
-            return [line_of(text) for text in self.texts]
+            return [formed(line_of(text)) for text in self.texts]
         except LineFault as fault:
             raise OwnFault(NO_PROGRAM, f"{program()} prints {fault}") from fault
 

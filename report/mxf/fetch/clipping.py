@@ -15,6 +15,7 @@ from mxf.faults import NO_PROGRAM, OUTPUT, USAGE, OwnFault
 from mxf.fetch import looking
 from mxf.fetch.calls import Call, tell_minute
 from mxf.fetch.cuts import Cut, cut_of
+from mxf.fetch.forms import end_of
 from mxf.fetch.minutes import get_units
 from mxf.fetch.sparse import layout_of, write_sparse
 from mxf.fetch.spans import Span
@@ -144,7 +145,7 @@ def first_values(sparse: Path, shown: list[Line], key: Span) -> set[str]:
     spans = [key]
     for line in shown:
         if line["line"] == "note" and key.start <= line["offset"] < key.end:
-            spans.append(Span(line["end"] - line["length"], line["end"]))
+            spans.append(Span(end_of(line) - line["length"], end_of(line)))
     digests = set()
     with open(sparse, "rb") as file:
         for span in spans:

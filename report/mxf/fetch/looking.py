@@ -5,6 +5,7 @@ from collections.abc import Iterable, Iterator
 
 from mxf.faults import READ, OwnFault
 from mxf.fetch.asking import Asking
+from mxf.fetch.forms import end_of
 from mxf.fetch.getting import Getting
 from mxf.fetch.spans import Span
 from mxf.lines import Line
@@ -71,7 +72,7 @@ def heads(lines: Iterable[Line]) -> Iterator[Span]:
     """The packets of the structure of which only the head is held, as `show` prints them."""
     for line in lines:
         if line["line"] == "note" and line["head"] and line["kind"] not in PASSED and line["length"] <= LARGEST:
-            yield Span(line["offset"], line["end"])
+            yield Span(line["offset"], end_of(line))
 
 
 def findings(asking: Asking) -> Iterator[str]:

@@ -7,6 +7,7 @@ from pathlib import Path
 from typing import IO, NamedTuple
 
 from mxf.fetch.folder import Folder
+from mxf.fetch.forms import end_of
 from mxf.fetch.places import read_blocks
 from mxf.fetch.spans import Span, together
 from mxf.lines import Line
@@ -37,7 +38,7 @@ def layout_of(notes: Iterable[Line], units: Span) -> Layout:
     for note in notes:
         if note["line"] != "note":
             continue
-        span, is_contained = Span(note["offset"], note["end"]), note["key"][16:24] == CONTAINED
+        span, is_contained = Span(note["offset"], end_of(note)), note["key"][16:24] == CONTAINED
         if not is_contained or (span.start < units.end and units.start < span.end):
             kept.append(span)
         elif is_first:
