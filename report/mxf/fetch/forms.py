@@ -26,11 +26,8 @@ class UnitLine(UnitWords):
 # A segment of an index table: how fast the units go, one number over another.
 SegmentLine = TypedDict("SegmentLine", {"index-sid": int, "rate": int, "base": int})
 
-# Bytes that aren't held.
-GapLine = TypedDict("GapLine", {"start": int, "end": int})
-
 FORMS: dict[str, Any] = {
-    "restore": RestoreLine, "note": PacketLine, "gap": GapLine, "finding": FindingLine, "units": UnitsLine,
+    "restore": RestoreLine, "note": PacketLine, "gap": RangeLine, "finding": FindingLine, "units": UnitsLine,
     "unit": UnitLine, "clock": ClockLine, "segment": SegmentLine,
 }  # fmt: skip
 
