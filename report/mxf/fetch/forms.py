@@ -8,6 +8,7 @@ from mxf.lines import (
     FindingLine,
     Line,
     PacketLine,
+    RangeLine,
     RestoreLine,
     UnitsLine,
     UnitWords,
