@@ -22,6 +22,11 @@ def try_faults(tests: Any, server: Nginx) -> None:
     tests.fails(
         "no such host", 3, "read fault: http://no.such.host.invalid/x: ", "look", "http://no.such.host.invalid/x"
     )
+    tests.fails("a URL that is none", 2, "bad URL: ", "look", "http://[::1/x")
+    for url in ("http://127.0.0.1:99999/x", "http://a..b/x"):
+        tests.fails(
+            f"no request can be made of {url}", 3, f"read fault: {url}: no request can be made", "look", f"{url}?k=v"
+        )
     tests.fails("whole without a folder", 2, "--into", "whole", where)
     tests.fails("no command", 2, "usage: mxf_fetch", where)
     tests.fails("a bad timecode", 2, "an edit unit is", "units", where, "--from", "x", "--to", "1")

@@ -35,8 +35,7 @@ def clip(call: Call) -> int:
     path = Path(words.out or words.sparse or "")
     if words.out is not None and shutil.which(PLAYER) is None:
         raise OwnFault(NO_PROGRAM, f"clip needs {PLAYER}, and there is none on the PATH")
-    if path.exists() and not words.force:
-        raise OwnFault(USAGE, f"bad output: {path}: it is there, and --force isn't given")
+    check_free(path, words.force)
     with beside(path) as part:
         looking.look(call.getting, call.asking)
         minute = get_units(call.getting, call.asking, call.asked())
@@ -45,9 +44,16 @@ def clip(call: Call) -> int:
             return minute.status or 1
         cut = cut_of(call.asking, call.asked(), minute.counted)
         make(call, cut, part)
+        check_free(path, words.force)
         os.replace(part, path)
     print(f"clipped {path} from {begin_text(call, cut)} to {unit_text(words.last)}")
     return 0
+
+
+def check_free(path: Path, may_replace: bool) -> None:
+    """Sees that no file is replaced that may not be."""
+    if path.exists() and not may_replace:
+        raise OwnFault(USAGE, f"bad output: {path}: it is there, and --force isn't given")
 
 
 @contextlib.contextmanager

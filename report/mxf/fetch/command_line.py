@@ -8,7 +8,7 @@ import tempfile
 from collections.abc import Callable
 from pathlib import Path
 
-from mxf.faults import NO_PROGRAM, OwnFault, tell_own
+from mxf.faults import NO_PROGRAM, USAGE, OwnFault, tell_own
 from mxf.fetch import calls
 from mxf.fetch.asking import Asking
 from mxf.fetch.calls import Call
@@ -40,7 +40,10 @@ def place_of(words: Words) -> tuple[Place, str]:
     except ImportError as fault:
         told = f"http needs requests of Python (python3-requests of Debian): {fault.msg}"
         raise OwnFault(NO_PROGRAM, told) from fault
-    place = WebPlace(where, words.headers, words.timeout, words.jobs)
+    try:
+        place = WebPlace(where, words.headers, words.timeout, words.jobs)
+    except ValueError as fault:
+        raise OwnFault(USAGE, f"bad URL: {fault}") from fault
     return place, place.shown
 
 

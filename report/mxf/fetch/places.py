@@ -50,7 +50,7 @@ class CommandPlace:
 
     def blocks(self, span: Span, recording: Recording) -> Generator[bytes, None, None]:
         """The bytes that the command prints, up to the end of the span. One that prints fewer says where the recording ends,
-        unless it fails."""
+        and so does one that has nothing behind a byte. One that fails says nothing."""
         end = "-" if span.end == OPEN else str(span.end)
         process = self.begun([str(span.start), end])
         printed, left = process.stdout, span.length
@@ -67,7 +67,7 @@ class CommandPlace:
         if process.returncode and left:
             told = f"{self.command} {span.start} {end} ended with status {process.returncode}"
             raise OwnFault(READ, f"read fault: {recording.shown}: {told}")
-        if left and left < span.length:
+        if left and (left < span.length or (span.start and span.end == OPEN)):
             recording.meet(Identity(size=span.end - left))
 
     def begun(self, words: list[str]) -> subprocess.Popen[bytes]:

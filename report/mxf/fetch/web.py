@@ -10,7 +10,7 @@ from urllib.parse import urlsplit, urlunsplit
 import requests
 import urllib3
 from requests.adapters import HTTPAdapter
-from urllib3.exceptions import HTTPError, MaxRetryError, NewConnectionError
+from urllib3.exceptions import HTTPError, LocationValueError, MaxRetryError, NewConnectionError
 from urllib3.util.retry import Retry
 
 from mxf.faults import READ, OwnFault
@@ -29,7 +29,12 @@ CONTENT_RANGE = re.compile(r"bytes ([0-9]{1,19})-([0-9]{1,19})/([0-9]{1,19}|\*)"
 NO_RANGE = re.compile(r"bytes \*/([0-9]{1,19})")  # of a status 416
 
 # Faults of a URL, or of one that a redirect leads to; and those that stay however often it is tried.
-BAD_URL = (requests.exceptions.InvalidURL, requests.exceptions.InvalidSchema, requests.exceptions.MissingSchema)
+BAD_URL = (
+    requests.exceptions.InvalidURL,
+    requests.exceptions.InvalidSchema,
+    requests.exceptions.MissingSchema,
+    LocationValueError,
+)
 LASTING = (requests.exceptions.SSLError, requests.TooManyRedirects, *BAD_URL)
 
 Headers = dict[str, str]
