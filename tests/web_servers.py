@@ -4,6 +4,7 @@ from __future__ import annotations
 import contextlib
 import dataclasses
 import http.server
+import os
 import re
 import socket
 import subprocess
@@ -15,6 +16,7 @@ from pathlib import Path
 
 CONFIGURATION = """
 daemon off;
+{user}
 worker_processes 1;
 pid {folder}/nginx.pid;
 error_log {folder}/error.log;
@@ -72,7 +74,9 @@ def nginx(root: Path, folder: Path, rate: str = "300k") -> Iterator[Nginx]:
     port = free_port()
     (folder / "users").write_text("operator:{PLAIN}s3cret/word\n")
     configuration = folder / "nginx.conf"
-    configuration.write_text(CONFIGURATION.format(folder=folder, root=root, port=port, rate=rate))
+    # What root starts would run as somebody who may not read the folder.
+    user = "user root;" if os.geteuid() == 0 else ""
+    configuration.write_text(CONFIGURATION.format(user=user, folder=folder, root=root, port=port, rate=rate))
     server = subprocess.Popen(["nginx", "-p", folder, "-c", configuration], stderr=subprocess.DEVNULL)
     try:
         for _ in range(200):
