@@ -5,6 +5,7 @@ import concurrent.futures
 import contextlib
 import itertools
 import os
+import sqlite3
 import sys
 import time
 from collections.abc import Iterable, Iterator
@@ -14,7 +15,7 @@ from mxf.archive.gathering import Gathering, Named
 from mxf.archive.rows import Recording, recordings_of
 from mxf.archive.words import Words
 from mxf.calling import Tool
-from mxf.faults import NO_PROGRAM, UNWRITTEN, USAGE, OwnFault, ToolFault, tell, tell_own
+from mxf.faults import NO_PROGRAM, USAGE, OwnFault, ToolFault, tell, tell_own
 from mxf.sources import check_read_often
 
 WAITING = 2  # recordings that are asked for ahead of each that is kept
@@ -76,10 +77,11 @@ def add_list(path: str, words: Words) -> int:
     try:
         with database.writer(words.database, is_new=True) as writer, jobs_of(tool, recordings, words.jobs) as done:
             for named, job in done:
+                progress.clear()
                 try:
                     keep(writer, job.result())
-                except (ToolFault, OwnFault) as fault:
-                    if fault.status == UNWRITTEN:
+                except (ToolFault, OwnFault, OSError) as fault:
+                    if is_of_all(fault, job):
                         raise
                     failed[named.name] = cause_of(fault)
                 progress.tell(len(failed))
@@ -91,11 +93,16 @@ def add_list(path: str, words: Words) -> int:
     return 1 if failed else 0
 
 
-def cause_of(fault: ToolFault | OwnFault) -> str:
+def is_of_all(fault: Exception, job: concurrent.futures.Future[Recording]) -> bool:
+    """Whether a fault is none of a recording: what was asked of it came, and the database takes what it may have."""
+    return job.exception() is None and not isinstance(fault.__cause__, sqlite3.IntegrityError)
+
+
+def cause_of(fault: ToolFault | OwnFault | OSError) -> str:
     """What is said of a fault, in a line."""
-    if isinstance(fault, OwnFault):
-        return str(fault)
-    return printing.shown(fault.last_line()) or f"mxf_tool ended with status {fault.status}"
+    if isinstance(fault, ToolFault):
+        return printing.shown(fault.last_line()) or f"mxf_tool ended with status {fault.status}"
+    return str(fault)
 
 
 Job = tuple[Named, "concurrent.futures.Future[Recording]"]
@@ -143,6 +150,11 @@ class Progress:
         if self.is_shown and (now - self.told > self.SECONDS or self.done == self.count):
             self.told = now
             tell(f"\r{self.done} of {self.count} recordings{f', {failed} failed' if failed else ''}\033[K".encode())
+
+    def clear(self) -> None:
+        """Makes room for a line of the answer."""
+        if self.is_shown and sys.stdout.isatty():
+            tell(b"\r\033[K")
 
     def end(self) -> None:
         """Ends the line."""

@@ -21,6 +21,9 @@ def check_library() -> None:
     if sqlite3.sqlite_version_info < schema.SQLITE:
         least = ".".join(str(part) for part in schema.SQLITE[:2])
         raise OwnFault(NO_PROGRAM, f"SQLite {least} is needed, and this Python has {sqlite3.sqlite_version}")
+    with contextlib.closing(sqlite3.connect(":memory:")) as connection:
+        if not connection.execute("SELECT sqlite_compileoption_used('ENABLE_FTS5')").fetchone()[0]:
+            raise OwnFault(NO_PROGRAM, "SQLite with FTS5 is needed, and this Python has one without")
 
 
 def address_of(path: str, mode: str) -> str:

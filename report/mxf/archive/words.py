@@ -252,7 +252,9 @@ def words_of(command: argparse.ArgumentParser, given: Sequence[str]) -> Words:
     words = Words()
     _, unknown = command.parse_known_intermixed_args(given, namespace=words)
     if unknown:
-        command.error(f"unrecognized arguments: {' '.join(map(word, unknown))}")
+        # Words behind an unknown option stand among the unknown ones too.
+        options = [one for one in unknown if one.startswith("-")]
+        command.error(f"unrecognized arguments: {' '.join(map(word, options or unknown))}")
     try:
         CHECKS.get(words.command, lambda _: None)(words)
     except argparse.ArgumentTypeError as fault:
