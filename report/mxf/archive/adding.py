@@ -5,7 +5,6 @@ import concurrent.futures
 import contextlib
 import itertools
 import os
-import sqlite3
 import sys
 import time
 from collections.abc import Iterable, Iterator
@@ -16,6 +15,7 @@ from mxf.archive.rows import Recording, recordings_of
 from mxf.archive.words import Words
 from mxf.calling import Tool
 from mxf.faults import NO_PROGRAM, USAGE, OwnFault, ToolFault, tell, tell_own
+from mxf.lines import Line
 from mxf.sources import check_read_often
 
 WAITING = 2  # recordings that are asked for ahead of each that is kept
@@ -31,9 +31,13 @@ def named_by(words: Words) -> Named:
     return Named(words.name, sources, words.catalogue, words.skim)
 
 
-def recording_of(tool: Tool, named: Named, is_beside: bool) -> Recording:
-    """A recording, as mxf_tool tells it."""
-    lines = Gathering(tool, named, is_beside).gather()
+def gathered(tool: Tool, named: Named, is_beside: bool) -> list[Line]:
+    """The lines of a recording, as mxf_tool tells it."""
+    return Gathering(tool, named, is_beside).gather()
+
+
+def recording_of(tool: Tool, lines: list[Line]) -> Recording:
+    """The recording of these lines."""
     try:
         (recording,) = recordings_of(lines, tool.program)
     except OwnFault as fault:
@@ -41,9 +45,11 @@ def recording_of(tool: Tool, named: Named, is_beside: bool) -> Recording:
     return recording
 
 
-def keep(writer: database.Writer, recording: Recording) -> None:
+def keep(writer: database.Writer, tool: Tool, recording: Recording) -> None:
     """Puts a recording into the database, and says so."""
-    with writer.transaction() as connection:
+    with writer.transaction() as connection, storing.bad_values(
+        f"{tool.program} prints a value that is none", NO_PROGRAM
+    ):
         was_known = storing.store(connection, recording)
     print("replaced" if was_known else "added", printing.cell(recording.name))
 
@@ -54,15 +60,16 @@ def add(words: Words) -> int:
         return add_list(words.listed, words)
     named = named_by(words)
     database.check_place(words.database)
-    recording = recording_of(Tool(), named, is_beside=True)
+    tool = Tool()
+    recording = recording_of(tool, gathered(tool, named, is_beside=True))
     with database.writer(words.database, is_new=True) as writer:
-        keep(writer, recording)
+        keep(writer, tool, recording)
     return 0
 
 
 def lines(words: Words) -> int:
     """Prints the lines of a recording, which load takes."""
-    printing.print_objects(Gathering(Tool(), named_by(words), is_beside=True).gather())
+    printing.print_objects(gathered(Tool(), named_by(words), is_beside=True))
     return 0
 
 
@@ -79,9 +86,10 @@ def add_list(path: str, words: Words) -> int:
             for named, job in done:
                 progress.clear()
                 try:
-                    keep(writer, job.result())
+                    keep(writer, tool, recording_of(tool, job.result()))
                 except (ToolFault, OwnFault, OSError) as fault:
-                    if is_of_all(fault, job):
+                    # Where the database or the answer can't be written, no other recording can be kept either.
+                    if not job.exception() and not (isinstance(fault, OwnFault) and fault.status == NO_PROGRAM):
                         raise
                     failed[named.name] = cause_of(fault)
                 progress.tell(len(failed))
@@ -93,11 +101,6 @@ def add_list(path: str, words: Words) -> int:
     return 1 if failed else 0
 
 
-def is_of_all(fault: Exception, job: concurrent.futures.Future[Recording]) -> bool:
-    """Whether a fault is none of a recording: what was asked of it came, and the database takes what it may have."""
-    return job.exception() is None and not isinstance(fault.__cause__, sqlite3.IntegrityError)
-
-
 def cause_of(fault: ToolFault | OwnFault | OSError) -> str:
     """What is said of a fault, in a line."""
     if isinstance(fault, ToolFault):
@@ -105,7 +108,7 @@ def cause_of(fault: ToolFault | OwnFault | OSError) -> str:
     return str(fault)
 
 
-Job = tuple[Named, "concurrent.futures.Future[Recording]"]
+Job = tuple[Named, "concurrent.futures.Future[list[Line]]"]
 
 
 @contextlib.contextmanager
@@ -124,10 +127,10 @@ def done_of(
     tool: Tool, threads: concurrent.futures.Executor, recordings: Iterator[Named], most: int
 ) -> Iterator[Job]:  # fmt: skip
     """Each recording as soon as all is asked of it. So many are asked for ahead at most."""
-    waiting: dict[concurrent.futures.Future[Recording], Named] = {}
+    waiting: dict[concurrent.futures.Future[list[Line]], Named] = {}
     while True:
         for named in itertools.islice(recordings, most - len(waiting)):
-            waiting[threads.submit(recording_of, tool, named, is_beside=False)] = named
+            waiting[threads.submit(gathered, tool, named, is_beside=False)] = named
         if not waiting:
             return
         for job in concurrent.futures.wait(waiting, return_when=concurrent.futures.FIRST_COMPLETED).done:

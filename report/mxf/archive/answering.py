@@ -15,11 +15,11 @@ HEADS = ("recording", "name", "length", "timecode", "end", "missing", "orders", 
 # How a line of a list is laid out behind the name of the recording and its own name.
 LAYOUT = "%-12s  %-11s  %13s  %13s  %6s  %8s  %8s  %s"
 
-LISTED = """
-SELECT r.name, r.title, r.length, r.timecode, s."end", s.missing, s.orders, s.findings, s.disputes,
-  nullif(r.verified, '') AS verified
-FROM recordings r JOIN states s ON s.recording = r.id AND s.number = r.state
-"""
+# What a list has of recordings, by their last states.
+ROW = """r.name, r.title, r.length, r.timecode, s."end", s.missing, s.orders, s.findings, s.disputes,
+  nullif(r.verified, '') AS verified"""
+STATED = "recordings r JOIN states s ON s.recording = r.id AND s.number = r.state"
+LISTED = f"SELECT {ROW} FROM {STATED} "
 
 # What is listed, by the option.
 LISTS = {
@@ -33,11 +33,11 @@ LISTS = {
 
 # What a page of all recordings shows: the row of a list, whether each is damaged, and how many packets differed when it was
 # last verified.
-OVERVIEW = LISTED.replace(
-    "AS verified",
-    """AS verified, r.is_damaged,
-  coalesce((SELECT v.differs FROM verifications v WHERE v.recording = r.id ORDER BY v.number DESC LIMIT 1), 0) AS differs""",
-)
+OVERVIEW = f"""
+SELECT {ROW}, r.is_damaged,
+  coalesce((SELECT v.differs FROM verifications v WHERE v.recording = r.id ORDER BY v.number DESC LIMIT 1), 0) AS differs
+FROM {STATED} ORDER BY r.name
+"""
 
 # What `show` prints of a recording, table by table.
 SHOWN = {

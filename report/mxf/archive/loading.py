@@ -1,7 +1,6 @@
 """The command that puts recordings into the database by lines that were printed."""
 from __future__ import annotations
 
-import sqlite3
 from sqlite3 import Connection
 
 from mxf.archive import database, storing
@@ -33,19 +32,11 @@ def load(words: Words) -> int:
 
 def store_news(connection: Connection, recording: Recording, path: str) -> bool:
     """Puts a recording of a file into the database, if it is news. Whether it is."""
-    try:
-        if not storing.is_news(connection, recording):
-            return False
-        storing.store(connection, recording)
-    except (
-        sqlite3.IntegrityError,
-        sqlite3.InterfaceError,
-        sqlite3.ProgrammingError,
-        ValueError,
-        OverflowError,
-    ) as fault:
-        raise OwnFault(DATA, f"bad lines: {path}: {recording.name}: {fault}") from fault
-    return True
+    with storing.bad_values(f"bad lines: {path}: {recording.name}", DATA):
+        is_news = storing.is_news(connection, recording)
+        if is_news:
+            storing.store(connection, recording)
+    return is_news
 
 
 def lines_of(path: str) -> list[Line]:

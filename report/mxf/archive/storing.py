@@ -1,18 +1,36 @@
 """What is written to the database: recordings, and what comes of verifying them."""
 from __future__ import annotations
 
+import contextlib
 import sqlite3
+from collections.abc import Iterator
 from sqlite3 import Connection
 
 from mxf import moments
 from mxf.archive import schema
 from mxf.archive.answering import identity_of
 from mxf.archive.rows import Recording, Row, number_of
+from mxf.faults import OwnFault
 from mxf.lines import Line, PacketLine, checked, end_of_packet
 from mxf.standing import UNREADABLE
 
 # The counts of a state by which it is said to have changed.
 COUNTS = ("packets", "held", "missing", "findings", "disputes", "orders")
+
+
+@contextlib.contextmanager
+def bad_values(what: str, status: int) -> Iterator[None]:
+    """Says a value that the tables don't take as a fault of this status."""
+    try:
+        yield
+    except (
+        sqlite3.IntegrityError,
+        sqlite3.InterfaceError,
+        sqlite3.ProgrammingError,
+        ValueError,
+        OverflowError,
+    ) as fault:
+        raise OwnFault(status, f"{what}: {fault}") from fault
 
 
 def insert(connection: Connection, table: str, recording: int, rows: list[Row]) -> None:
