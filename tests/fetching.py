@@ -105,7 +105,7 @@ def make_long(path: Path, length: int) -> None:
     """A recording of long GOP with partitions, whose timecode begins at 10:00:00:00."""
     pictures = ["-f", "lavfi", "-i", f"testsrc2=size=320x180:rate=25:duration={length}"]
     sound = ["-f", "lavfi", "-i", f"sine=sample_rate=48000:duration={length}"]
-    how = ["-c:v", "mpeg2video", "-g", "12", "-bf", "2", "-b:v", "1500k", "-c:a", "pcm_s16le", "-bitexact"]
+    how = ["-c:v", "mpeg2video", "-g", "12", "-bf", "2", "-b:v", "1500k", "-c:a", "pcm_s16le", "-bitexact", "-threads", "1"]
     words = ["ffmpeg", "-nostdin", "-v", "error", *pictures, *sound, *how, "-timecode", "10:00:00:00", path]
     subprocess.run(words, check=True)
 

@@ -16,7 +16,7 @@ from web_servers import Nginx, free_port
 
 def try_faults(tests: Any, server: Nginx) -> None:
     """Faults of the words and of the folder."""
-    where, folder = server.url("op1a_jpeg2000.mxf"), tests.folder / "faults"
+    where = server.url("op1a_jpeg2000.mxf")
     tests.fails("a file that isn't there", 3, "the server answers 404 Not Found", "look", server.url("none.mxf"))
     tests.fails("nobody listens", 3, "Connection refused", "look", f"http://127.0.0.1:{free_port()}/x")
     tests.fails(
@@ -47,6 +47,12 @@ def try_faults(tests: Any, server: Nginx) -> None:
     blocked.mkdir()
     (blocked / "requests.py").write_text("raise ImportError('no requests')\n")
     tests.fails("no library for http", 69, "python3-requests", "look", where, PYTHONPATH=str(blocked))
+    try_folders(tests, server, where)
+
+
+def try_folders(tests: Any, server: Nginx, where: str) -> None:
+    """Faults of a folder, and of standard output."""
+    folder = tests.folder / "faults"
     ran = tests.fetch("look", where, "--into", folder)
     tests.fails(
         "a folder of another recording", 2, f"it has ranges of {where}", "look", server.url("M.bin"), "--into", folder
@@ -91,30 +97,9 @@ def try_misbehaving(tests: Any, base: str, data: bytes, seen: Any) -> None:
     tests.verdict("unless the whole is small", ran.status == 0 and ran.got() == (1, 40000), ran)
     tests.fails("another range", 3, "bytes 0-65535 were asked for, and the server sends", "look", f"{base}/other-range")
     tests.fails("no Content-Range", 3, "and the server sends none", "look", f"{base}/no-content-range")
-    same("answers that are shorter than the range", "shorter")
-    begun = time.monotonic()
-    same("503 twice", "busy")
-    tests.verdict("is waited for", time.monotonic() - begun > 1.4)
-    begun = time.monotonic()
-    same("429 with Retry-After", "later")
-    tests.verdict("as long as it says", time.monotonic() - begun > 0.9)
+    try_waits(tests, base, same)
     try_endings(tests, base, data)
-    for path in ("changes", "matches", "modified", "grows"):
-        folder = tests.folder / path
-        tests.fails(
-            f"a recording that {path}",
-            4,
-            f"has changed since {folder} was begun",
-            "look",
-            f"{base}/{path}",
-            "--into",
-            folder,
-        )
-        held = sum(one.stat().st_size for one in folder.glob("*.range"))
-        tests.verdict(f"and nothing is mixed: {path}", held == 65536, held)
-    tests.fails("without a folder", 4, "has changed since this call was begun", "look", f"{base}/changes/2")
-    matches = [headers.get("If-Match") for path, headers in seen.headers_seen if path == "/matches"]
-    tests.verdict("If-Match has the ETag", matches[1:] != [] and set(matches[1:]) == {'"one"'}, matches)
+    try_changes(tests, base, seen)
     try_redirects(tests, base, seen, same)
     same("an answer in small parts", "slow", "--timeout", 1)
     same("an answer that comes late", "stuck", "--timeout", 1)
@@ -134,11 +119,43 @@ def try_misbehaving(tests: Any, base: str, data: bytes, seen: Any) -> None:
         )
 
 
+def try_waits(tests: Any, base: str, same: Any) -> None:
+    """Answers that are shorter, or come later."""
+    same("answers that are shorter than the range", "shorter")
+    begun = time.monotonic()
+    same("503 twice", "busy")
+    tests.verdict("is waited for", time.monotonic() - begun > 1.4)
+    begun = time.monotonic()
+    same("429 with Retry-After", "later")
+    tests.verdict("as long as it says", time.monotonic() - begun > 0.9)
+
+
+def try_changes(tests: Any, base: str, seen: Any) -> None:
+    """A recording that is replaced meanwhile."""
+    for path in ("changes", "matches", "modified", "grows"):
+        folder = tests.folder / path
+        tests.fails(
+            f"a recording that {path}",
+            4,
+            f"has changed since {folder} was begun",
+            "look",
+            f"{base}/{path}",
+            "--into",
+            folder,
+        )
+        held = sum(one.stat().st_size for one in folder.glob("*.range"))
+        tests.verdict(f"and nothing is mixed: {path}", held == 65536, held)
+    tests.fails("without a folder", 4, "has changed since this call was begun", "look", f"{base}/changes/2")
+    matches = [headers.get("If-Match") for path, headers in seen.headers_seen if path == "/matches"]
+    tests.verdict("If-Match has the ETag", matches[1:] != [] and set(matches[1:]) == {'"one"'}, matches)
+
+
 def try_endings(tests: Any, base: str, data: bytes) -> None:
     """Answers that end early, of which what came is kept, and a server that is never available."""
     folder = tests.folder / "endings"
     ran = tests.fetch("whole", f"{base}/ends-early", "--into", folder)
-    whole = b"".join(path.read_bytes() for path in folder.glob("*.range"))
+    ranges = sorted(folder.glob("*.range"), key=lambda path: int(path.stem))
+    whole = b"".join(path.read_bytes() for path in ranges)
     tests.verdict("a body that ends early is gone on with", ran.status == 0 and whole == data, (ran, len(whole)))
     tests.verdict("and nothing comes twice", ran.got()[1] == len(data), ran)
     tests.fails("503 each time", 3, "the server answers 503 Service Unavailable", "look", f"{base}/broken")
@@ -187,13 +204,22 @@ def try_places(tests: Any, root: Path) -> None:
     source = f"range:0:{folder}/0.range"
     ran = tests.fetch("units", "cmd:false", *span, source)
     tests.verdict("sources that are there are asked too", ran.status == 0 and ran.got() == (0, 0), ran)
+    try_commands(tests, path, where)
+    try_paths(tests, root, path)
+
+
+def try_commands(tests: Any, path: Path, where: str) -> None:
+    """The whole by a command, and commands that do nothing right."""
     whole = tests.folder / "whole by command"
-    log.unlink()
     ran = tests.fetch("whole", where, "--into", whole)
     came = b"".join(one.read_bytes() for one in sorted(whole.glob("*.range")))
     tests.verdict("whole by a command", ran.status == 0 and came == path.read_bytes(), ran)
     tests.fails("a command that fails", 3, "ended with status 7", "look", "cmd:exit 7;")
     tests.fails("a command that prints nothing", 3, "it is empty", "look", "cmd:true")
+
+
+def try_paths(tests: Any, root: Path, path: Path) -> None:
+    """Files that can't be read, or change."""
     tests.fails("a file that isn't there", 3, "/none/x: No such file or directory", "look", "/none/x")
     tests.fails("a folder in place of a file", 3, "read fault: ", "look", root)
     changing, kept = tests.folder / "changing.mxf", tests.folder / "kept"

@@ -37,7 +37,7 @@ class Asking:
         """What a command answers. It passes over essence. A call that fails is a fault, with what it said."""
         sources = Sources([], [*self.sources, *self.folder.sources()])
         with Call([program(), command, "--skim", *options, *sources.handed()], sources.given()) as call:
-            texts = list(call.texts())
+            texts = [text for block in call.blocks() for text in block.split(b"\n")]
         if call.status not in (0, 1):
             raise ToolFault(call.status if call.status > 0 else 128 - call.status, call.said)
         return Answer(texts, call.said, call.status)

@@ -64,7 +64,7 @@ def whole(call: Call) -> int:
     """Gets all that isn't there."""
     getting = call.getting
     if getting.size is None and not getting.folder.held():
-        getting.get([Span(0, LEAST_PART)])
+        getting.get([Span(0, looking.FRONT)])
     getting.get(parts_of(missing([Span(0, OPEN if getting.size is None else getting.size)], getting.folder.held())))
     call.tell("fetched")
     return 0 if getting.size is not None and not getting.lacks([Span(0, getting.size)]) else 1
