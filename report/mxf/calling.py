@@ -2,6 +2,7 @@
 from __future__ import annotations
 
 import contextlib
+import io
 import os
 import pathlib
 import subprocess
@@ -20,8 +21,10 @@ CLOSING = {
     "units": "units", "verify": "verified", "describe": "packages", "find": "fragments",
 }  # fmt: skip
 
-# Whether a line is kept, by its text.
-Keeps = Callable[[bytes], bool]
+BLOCK = 1 << 16  # bytes of lines that are looked at together, at least
+
+# What of whole lines is kept, each by itself. That of many lines takes less time together than of each.
+Keeps = Callable[[bytes], list[bytes]]
 
 
 def program() -> str:
@@ -78,12 +81,18 @@ class Call:
         except OSError as fault:
             raise OwnFault(NO_PROGRAM, f"{self.words[0]} can't be run: {fault.strerror}") from fault
 
-    def texts(self) -> Iterator[bytes]:
-        """The lines that it prints, without their ends. After the last one its status is known, and what it said."""
+    def blocks(self) -> Iterator[bytes]:
+        """What it prints, some whole lines at once. After the last one its status is known, and what it said."""
         printed = self.begin().stdout
-        assert printed is not None  # it is a pipe
-        for line in printed:
-            yield line[:-1] if line.endswith(b"\n") else line
+        assert isinstance(printed, io.BufferedReader)  # it is a pipe
+        rest = b""
+        while read := printed.read1(BLOCK):
+            whole, end, begun = read.rpartition(b"\n")
+            if end:
+                yield rest + whole
+            rest = begun if end else rest + begun
+        if rest:
+            yield rest
         self.end()
 
     def end(self) -> None:
@@ -131,7 +140,7 @@ class Tool:
         """What the program calls itself. From then on the program that is current is asked."""
         if self.told is None:
             with Call([self.program, "--version"], is_kept=False) as call:
-                texts = list(call.texts())
+                texts = list(call.blocks())
             if call.status != 0:
                 raise OwnFault(NO_PROGRAM, f"{self.program} --version ended with status {call.status}")
             self.told = b"\n".join(texts).decode("utf-8", "replace").strip()
@@ -165,18 +174,16 @@ class Tool:
             for call in [*self.running]:
                 call.stop()
 
-    def lines_of(self, call: Call, keeps: Keeps = lambda _: True) -> Iterator[Line]:
+    def lines_of(self, call: Call, keeps: Keeps = bytes.splitlines) -> Iterator[Line]:
         """The lines of a call, which may have begun, as far as they are kept. A call that fails is a fault after its last
         line, and so is one that prints what isn't of mxf_tool, or not the line that it prints whatever it finds."""
         name, command = call.words[:2]
         closing, is_whole, fault = b'{"line":"%s"' % CLOSING[command].encode(), False, ""
         with self.begun(call):
-            for text in call.texts():
-                is_whole = is_whole or text.startswith(closing)
-                if fault or not keeps(text):
-                    continue
+            for block in call.blocks():
+                is_whole = is_whole or closing in block
                 try:
-                    yield line_of(text)
+                    yield from map(line_of, () if fault else keeps(block))
                 except LineFault as bad:
                     fault = f"{name} prints {bad}"
         if call.status not in (0, 1):
@@ -184,6 +191,6 @@ class Tool:
         if fault or not is_whole:
             raise OwnFault(NO_PROGRAM, fault or f"{name} {command} prints no line {CLOSING[command]}")
 
-    def ask(self, words: Sequence[str], sources: Sources, keeps: Keeps = lambda _: True) -> list[Line]:
+    def ask(self, words: Sequence[str], sources: Sources, keeps: Keeps = bytes.splitlines) -> list[Line]:
         """The lines that a command prints of the sources, as far as they are kept."""
         return list(self.lines_of(self.call(words, sources), keeps))

@@ -13,7 +13,7 @@ from typing import NamedTuple
 
 from mxf import moments
 from mxf.archive.origins import is_identifier, origin_of
-from mxf.calling import Call, Tool
+from mxf.calling import Call, Keeps, Tool
 from mxf.faults import ToolFault
 from mxf.files import sha256_of
 from mxf.lines import Line, take_lines
@@ -27,6 +27,11 @@ SMALL = 1 << 24  # bytes of a catalogue that several calls may hold at once
 
 # What is asked of a recording first, in this order.
 COMMANDS = ("show", "describe", "check", "plan", "map")
+
+# Lines of `show` of which few are kept: packets in dispute, and identifiers.
+NOTE = b'{"line":"note"'
+PASSED = (b'{"line":"item"', b'{"line":"piece"')
+DISPUTED = b'"disputed":true'
 
 # Why mxf_tool doesn't count edit units.
 TOO_MANY, NO_LAST = "too many units", "no last unit"
@@ -88,7 +93,7 @@ class Gathering:
             self.begun([*units.values()][:1])
             for command, call in zip(COMMANDS[1:], calls[1:]):
                 self.lines.append({"line": "asked", "command": command})
-                self.lines += self.tool.lines_of(call, lambda text: not text.startswith(b'{"line":"row"'))
+                self.lines += self.tool.lines_of(call, without(b'{"line":"row"'))
             for index_sid, call in units.items():
                 self.lines.append({"line": "asked", "command": "units", "index-sid": index_sid})
                 self.lines.append(self.units_of(index_sid, call, sources))
@@ -110,7 +115,7 @@ class Gathering:
         list(self.tool.lines_of(join))
         if join.status == 1:
             self.lines.append({"line": "asked", "command": "check"})
-            self.lines += self.tool.ask(["check"], self.named.sources, lambda text: text.startswith(b'{"line":"stop"'))
+            self.lines += [line for line in self.tool.ask(["check"], self.named.sources) if line["line"] == "stop"]
         return Sources([Source("cat", "", joined).word()])
 
     def skimming(self) -> list[str]:
@@ -122,13 +127,13 @@ class Gathering:
         are kept."""
         packets = 0
 
-        def keeps(text: bytes) -> bool:
-            """Whether a line is kept. All packets are counted."""
+        def keeps(block: bytes) -> list[bytes]:
+            """The lines that are kept. All packets are counted."""
             nonlocal packets
-            if text.startswith(b'{"line":"note"'):
-                packets += 1
-                return b'"disputed":true' in text
-            return is_identifier(text) or not text.startswith((b'{"line":"item"', b'{"line":"piece"'))
+            packets += block.count(NOTE)
+            return [
+                text for text in block.splitlines() if (DISPUTED in text if text.startswith(NOTE) else is_told(text))
+            ]
 
         said = list(self.tool.lines_of(call, keeps))
         self.lines += [{"line": "asked", "command": "show"}, {"line": "packets", "packets": packets}, *said]
@@ -155,11 +160,21 @@ class Gathering:
     def counted(self, call: Call) -> Line:
         """The last line of a call of units, or why there is none."""
         try:
-            return list(self.tool.lines_of(call, lambda text: not text.startswith(b'{"line":"unit"')))[-1]
+            return list(self.tool.lines_of(call, without(b'{"line":"unit"')))[-1]
         except ToolFault as fault:
             if fault.last_line() in (TOO_MANY, NO_LAST):
                 return uncounted(fault.last_line())
             raise
+
+
+def without(beginning: bytes) -> Keeps:
+    """What keeps the lines that don't begin so."""
+    return lambda block: [text for text in block.splitlines() if not text.startswith(beginning)]
+
+
+def is_told(text: bytes) -> bool:
+    """Whether a line of `show` that is no packet is kept."""
+    return not text.startswith(PASSED) or is_identifier(text)
 
 
 def last_unit(lines: Iterable[Line], index_sid: int) -> int | None:

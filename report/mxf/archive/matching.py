@@ -54,7 +54,7 @@ def match(words: Words) -> int:
 
 def identifiers_of(tool: Tool, source: str) -> Iterable[tuple[str, bytes]]:
     """What the sets of a fragment identify."""
-    lines = tool.ask(["show"], Sources([source]), origins.is_identifier)
+    lines = tool.ask(["show"], Sources([source]), origins.identifiers_in)
     return filter(None, (origins.identifier_of(checked(line, ItemLine)) for line in lines))
 
 

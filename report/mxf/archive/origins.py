@@ -51,6 +51,11 @@ def is_identifier(text: bytes) -> bool:
     return IDENTIFIED.match(text) is not None
 
 
+def identifiers_in(block: bytes) -> list[bytes]:
+    """Those of some lines of show that are items with an identifier."""
+    return list(filter(is_identifier, block.splitlines()))
+
+
 def identifier_of(line: ItemLine) -> tuple[str, bytes] | None:
     """What an item identifies, and the identifier; None if it has none. One of zeros is none."""
     if line["tag"] not in IDENTIFIERS or not (line["value"] or "").strip("0"):
