@@ -1,2 +1,3 @@
 pub mod KeyLaws
 pub mod LoneLaws
+pub mod SoundLaws

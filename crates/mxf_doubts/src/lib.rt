@@ -1,6 +1,7 @@
 //! Strange packets: keys that damage makes and ordinary writers don't (this project's profile).
 #![tactic(auto)]
 
+mod sound;
 mod strange;
 
 pub use strange::{Keys, is_container_packet, lone_by_definition};
