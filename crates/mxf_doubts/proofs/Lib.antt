@@ -1,3 +1,4 @@
+pub mod ClassLaws
 pub mod KeyLaws
 pub mod LoneLaws
 pub mod SoundLaws

@@ -8,8 +8,14 @@ use Rattle.std.proofs.Common.{IfOk, Result, Ok, Err}
 use Rattle.std.specs.List.Sorted.{IsNonDecreasingBy, IsPermutation}
 use Rattle.std.proofs.lemmas.List.Sorted.{list_any-IsPermutation}
 use Rattle.mxf_klv.proofs.Lists.{In-at}
+use Rattle.mxf_views.proofs.Common.{Option, Some, None, NoteParts, filter_map, cons_option, end_of, IsContent}
+use Rattle.std.specs.Option.{option_map_or}
+use Rattle.mxf_views.specs.declared.copy.CopyInfo.{CopyInfo}
+use Rattle.mxf_views.specs.Copies.{copies_of}
+use Rattle.mxf_views.proofs.CopyLaws.{copies_are}
 use Rattle.mxf_doubts.specs.declared.sound.Zone.{Zone}
-use Rattle.mxf_doubts.specs.Sound.{AreReachesOf, has_all, lie_in, reaches_from}
+use Rattle.mxf_doubts.specs.Sound.{AreReachesOf, IsInSoundZone, filled_by, has_all, is_in_sound_zone, lie_in}
+use Rattle.mxf_doubts.specs.Sound.{reaches_from}
 
 pub IfOk_then : {X E : Type 0} (r : Result X E) {P Q : X → Type 0} → IfOk r P → ((x : X) → P x → Q x) → IfOk r Q
 IfOk_then (Ok x) p f = f x p
@@ -161,3 +167,40 @@ last_below offset end zones k z p up l same =
     let e = ap (λ (y : Zone). y.end) (same z) in
     let n = h.3 z in
     le-leb _ _ (omega (arith, m, e, n)))
+
+-- ---- In words of copies.
+
+filled : (offset end : ℕ) (c : CopyInfo) → IsTrue (option_map_or (has_all offset end) (filled_by c) false)
+    ↔ ((c.finished ≡ true) × ((start : ℕ) × (c.start ≡ Some start) × (start ≤ offset) × (end ≤ start + c.bytes)))
+filled offset end c = (λ t. grind (arith, and_parts, leb-true), λ s. grind (arith, and_from, le-leb))
+
+in_filled : (offset end : ℕ) (copies : List CopyInfo) → lie_in offset end (filter_map filled_by copies)
+    ≡ list_any (λ (c : CopyInfo). option_map_or (has_all offset end) (filled_by c) false) copies
+in_filled offset end [] = refl
+in_filled offset end (c ∷ copies) = elim (filled_by c) as (λ o. lie_in offset end (cons_option o (filter_map filled_by copies))
+    ≡ (option_map_or (has_all offset end) o false
+    || list_any (λ (c : CopyInfo). option_map_or (has_all offset end) (filled_by c) false) copies)) [
+  | None ↦ in_filled offset end copies
+  | Some z ↦ ap (λ b. has_all offset end z || b) (in_filled offset end copies)
+]
+
+pub in_sound_zone : (notes : List NoteParts) (n : NoteParts) → IsContent notes
+    → IsTrue (is_in_sound_zone notes n) ↔ IsInSoundZone notes n
+in_sound_zone notes n content =
+    let copied = λ (c : CopyInfo). option_map_or (has_all n.offset (end_of n)) (filled_by c) false in
+    let same = in_filled n.offset (end_of n) (copies_of notes) in (
+      λ t.
+          let s = (list_any-In copied (copies_of notes)).0 (sym same ∙ t) in
+          let f = (filled n.offset (end_of n) s.0).0 s.2 in record {
+            copy = s.0;
+            copied = (copies_are notes s.0 content).0 s.1;
+            finished = f.0;
+            start = f.1.0;
+            begins = f.1.1;
+            from = f.1.2;
+            before = f.1.3;
+          },
+      λ s.
+          same ∙ (list_any-In copied (copies_of notes)).1 (s.copy, (copies_are notes s.copy content).1 s.copied,
+          (filled n.offset (end_of n) s.copy).1 (s.finished, (s.start, s.begins, s.from, s.before))),
+    )

@@ -114,3 +114,16 @@ fits (Some class) tag = not (is_known tag rows) || is_taken class tag rows
 -- A set that keeps its value, whose items can be read, and one of them has a tag that sets of its class don't have.
 unfoldable pub is_misfit : NoteParts → Bool
 is_misfit n = option_map_or (λ items. list_any (λ (i : ItemParts). not (fits (class_of n.key) i.tag)) items) (set_items n) false
+
+-- The same in words of items and rows.
+pub record IsMisfit (n : NoteParts) : Type 0 where
+  pub items : List ItemParts
+  pub made : IsMadeUpOf n items
+  pub item : ItemParts
+  pub there : In item items
+  pub row : Row
+  pub one : In row rows
+  pub from : row.first_tag ≤ item.tag
+  pub to : item.tag ≤ row.last_tag
+  pub none : (class : ℕ) (r : Row) → class_of n.key ≡ Some class → In r rows → r.first_tag ≤ item.tag
+      → item.tag ≤ r.last_tag → r.first_class ≤ class → ¬ (class ≤ r.last_class)

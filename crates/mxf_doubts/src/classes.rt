@@ -1,9 +1,11 @@
 //! Which sets have which items (ST 377-1 and the AAF object specification, keys and local tags of sets).
-ghost use Rattle.std.specs.Prelude.{◌≡◌, not};
+ghost use Rattle.std.specs.Prelude.{◌≡◌, ◌↔◌, IsTrue, not};
 ghost use Rattle.std.specs.List.{list_any};
+ghost use Rattle.mxf_klv.specs.Bytes.{AreBytes};
+ghost use Rattle.mxf_klv.specs.Parts.{NoteParts};
 ghost use Rattle.mxf_sets.specs.Items.{ItemParts};
 ghost use Rattle.mxf_doubts.specs.Classes.{begins_as_set, class_of, fits, has_class, has_tag, is_known, is_misfit, is_taken};
-ghost use Rattle.mxf_doubts.specs.Classes.{takes};
+ghost use Rattle.mxf_doubts.specs.Classes.{IsMisfit, takes};
 
 use mxf_klv::{Note, Ul};
 use mxf_sets::Items;
@@ -164,3 +166,9 @@ pub fn is_misfit(note: &Note) -> bool
         None => false,
     }
 }
+
+/// A law of [`is_misfit`]: an item of the set has a tag that some row knows, and no row that knows the tag takes the class
+/// of the set.
+pub fn misfits_by_definition()
+    ensures { (n : NoteParts) → AreBytes n.held → IsTrue (is_misfit n) ↔ IsMisfit n }
+{}

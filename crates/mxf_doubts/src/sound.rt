@@ -1,8 +1,11 @@
 //! The zones of finished copies of the header metadata.
-ghost use Rattle.std.specs.Prelude.{◌≡◌, IfOk};
+ghost use Rattle.std.specs.Prelude.{◌≡◌, ◌↔◌, List, IfOk, IsTrue};
 ghost use Rattle.std.specs.List.{filter_map};
 ghost use Rattle.std.specs.List.Sorted.{IsNonDecreasingBy, IsPermutation};
+ghost use Rattle.mxf_catalogue.specs.Content.{IsContent};
+ghost use Rattle.mxf_klv.specs.Parts.{NoteParts};
 ghost use Rattle.mxf_doubts.specs.declared.sound.Zone.{Zone};
+ghost use Rattle.mxf_doubts.specs.Sound.{IsInSoundZone};
 ghost use Rattle.mxf_doubts.specs.Sound.{AreReachesOf, filled_by, is_in_sound_zone, lie_in, reaches_from, sound_zones};
 
 use mxf_klv::{Keyed, Note, OutOfMemory, up_to};
@@ -140,3 +143,9 @@ impl<'a> SoundZones<'a> {
         lie_in(&self.zones, note.offset(), note.end())
     }
 }
+
+/// A law of [`SoundZones::has`]: a packet lies wholly in the bytes that some finished copy fills.
+pub fn sound_zones_by_definition()
+    ensures { (notes : List NoteParts) (n : NoteParts) → IsContent notes
+        → IsTrue (is_in_sound_zone notes n) ↔ IsInSoundZone notes n }
+{}
