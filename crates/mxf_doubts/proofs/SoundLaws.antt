@@ -2,7 +2,7 @@
 use Rattle.mxf_views.proofs.Common.{◌≡◌, ◌↔◌, ◌∙◌, ◌+◌, ◌≤◌, ◌<◌, ℕ, zero, suc, Bool, true, false, List, [], ◌∷◌, ◌&&◌}
 use Rattle.mxf_views.proofs.Common.{◌||◌, sym, ap, refl, arith, length, nat_le, get_or, AllWithin, In, list_any-In}
 use Rattle.mxf_views.proofs.Common.{and_from, and_parts, list_any, IsTrue, same_bool, le-leb, leb-true, subst, cases_lt, inl, inr}
-use Rattle.mxf_views.proofs.Common.{false_from_ne_true}
+use Rattle.mxf_views.proofs.Common.{false_from_ne_true, ◌==◌, map, eq-eqb, eqb-true}
 use Rattle.std.specs.Prelude.{max}
 use Rattle.std.proofs.Common.{IfOk, Result, Ok, Err}
 use Rattle.std.specs.List.Sorted.{IsNonDecreasingBy, IsPermutation}
@@ -14,7 +14,7 @@ use Rattle.mxf_views.specs.declared.copy.CopyInfo.{CopyInfo}
 use Rattle.mxf_views.specs.Copies.{copies_of}
 use Rattle.mxf_views.proofs.CopyLaws.{copies_are}
 use Rattle.mxf_doubts.specs.declared.sound.Zone.{Zone}
-use Rattle.mxf_doubts.specs.Sound.{AreReachesOf, IsInSoundZone, filled_by, has_all, is_in_sound_zone, lie_in}
+use Rattle.mxf_doubts.specs.Sound.{AreReachesOf, IsInSoundZone, begin_at, filled_by, has_all, is_in_sound_zone, lie_in}
 use Rattle.mxf_doubts.specs.Sound.{reaches_from}
 
 pub IfOk_then : {X E : Type 0} (r : Result X E) {P Q : X → Type 0} → IfOk r P → ((x : X) → P x → Q x) → IfOk r Q
@@ -109,6 +109,10 @@ starts_rise r zones up i j d l h =
     let m = up i j d l (omega (arith, n)) in
     omega (arith, a, b, m)
 
+same_begins : (offset r : ℕ) (zones : List Zone) → begin_at offset (reaches_from r zones) ≡ begin_at offset zones
+same_begins offset r [] = refl
+same_begins offset r (z ∷ zones) = ap (λ b. z.start == offset || b) (same_begins offset (max r z.end) zones)
+
 pub are_reaches : (zones sorted reaches : List Zone) → IsPermutation zones sorted
     → IsNonDecreasingBy (λ (z : Zone). z.start) sorted → reaches ≡ reaches_from 0 sorted → AreReachesOf zones reaches
 are_reaches zones sorted reaches p up e = subst (λ (l : List Zone). AreReachesOf zones l) (sym e) record {
@@ -117,6 +121,8 @@ are_reaches zones sorted reaches p up e = subst (λ (l : List Zone). AreReachesO
   same = λ offset end.
       reached offset end 0 sorted up ∙ from_none offset end sorted
       ∙ sym (list_any-IsPermutation (has_all offset end) zones sorted p);
+  begins = λ offset.
+      same_begins offset 0 sorted ∙ sym (list_any-IsPermutation (λ (z : Zone). z.start == offset) zones sorted p);
 }
 
 
@@ -204,3 +210,16 @@ in_sound_zone notes n content =
           same ∙ (list_any-In copied (copies_of notes)).1 (s.copy, (copies_are notes s.copy content).1 s.copied,
           (filled n.offset (end_of n) s.copy).1 (s.finished, (s.start, s.begins, s.from, s.before))),
     )
+
+-- Whether a place stands among the starts is whether a zone begins there.
+pub begins_there : (offset : ℕ) (zones : List Zone) (b : Bool)
+    → IsTrue b ↔ In offset (map (λ (z : Zone). z.start) zones) → b ≡ begin_at offset zones
+begins_there offset zones b s = same_bool b (begin_at offset zones)
+    (λ t. to_any zones (s.0 t)) (λ t. s.1 (to_list zones t))
+  where
+    to_any : (zones : List Zone) → In offset (map (λ (z : Zone). z.start) zones) → begin_at offset zones ≡ true
+    to_any [] i = absurd i
+    to_any (z ∷ zones) i = grind (arith, eq-eqb, to_any zones)
+    to_list : (zones : List Zone) → begin_at offset zones ≡ true → In offset (map (λ (z : Zone). z.start) zones)
+    to_list [] t = absurd cc
+    to_list (z ∷ zones) t = grind (arith, eqb-true, to_list zones)

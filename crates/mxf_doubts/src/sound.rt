@@ -6,9 +6,9 @@ ghost use Rattle.mxf_catalogue.specs.Content.{IsContent};
 ghost use Rattle.mxf_klv.specs.Parts.{NoteParts};
 ghost use Rattle.mxf_doubts.specs.declared.sound.Zone.{Zone};
 ghost use Rattle.mxf_doubts.specs.Sound.{IsInSoundZone};
-ghost use Rattle.mxf_doubts.specs.Sound.{AreReachesOf, filled_by, is_in_sound_zone, lie_in, reaches_from, sound_zones};
+ghost use Rattle.mxf_doubts.specs.Sound.{AreReachesOf, filled_by, is_first_primer, is_in_sound_zone, lie_in, reaches_from, sound_zones};
 
-use mxf_klv::{Keyed, Note, OutOfMemory, up_to};
+use mxf_klv::{Keyed, Kind, Note, OutOfMemory, has_key, up_to};
 use mxf_views::{CopyInfo, Views};
 use std::alloc::Global;
 use std::marker::Model;
@@ -141,6 +141,16 @@ impl<'a> SoundZones<'a> {
         ensures { result ≡ is_in_sound_zone self.now note.now }
     {
         lie_in(&self.zones, note.offset(), note.end())
+    }
+
+    /// Whether a finished copy begins with the packet of a note, its primer pack: a binary search.
+    pub fn begins_with(&self, note: &Note) -> bool
+        ensures { result ≡ is_first_primer self.now note.now }
+    {
+        match note.kind() {
+            Kind::Primer => has_key(&self.zones, note.offset()),
+            _ => false,
+        }
     }
 }
 
