@@ -1,6 +1,6 @@
 #!/usr/bin/env bash
-# Installs the program, mxf_report and mxf_archive, their man pages, their completions for bash, the guides and the example
-# of an archive:
+# Installs the program, mxf_report, mxf_archive and mxf_fetch, their man pages, their completions for bash, the guides and the
+# examples for an archive:
 # install.sh [--from FOLDER | --checked] [PREFIX], by default below /usr/local. With --from they are those of a folder that
 # packaging/release made, whose sums are checked; the kit isn't needed then. Without it the proved program has to be
 # built. --checked installs the unproved one with run-time checks, which is made first if need be; its version line ends
@@ -58,15 +58,16 @@ else
   put 755 "$program" bin/mxf_tool
   rm -rf "$prefix/lib/mxf-tool/checked" "$prefix/lib/mxf-tool/run_checked"
 fi
-for name in mxf_report mxf_archive; do put 755 "$scripts/$name" "bin/$name"; done
-for file in "$scripts"/archive/*.py "$scripts"/mxf/*.{py,css,js}; do put 644 "$file" "lib/mxf-tool/${file#"$scripts"/}"; done
+for name in mxf_report mxf_archive mxf_fetch; do put 755 "$scripts/$name" "bin/$name"; done
+while IFS= read -r file; do put 644 "$scripts/$file" "lib/mxf-tool/$file"; done < <(
+  cd "$scripts" && find mxf -type f ! -path '*/__pycache__/*' | LC_ALL=C sort)
 # Who may not write there would compile the parts at each start.
-/usr/bin/python3 -m compileall -q "$prefix"/lib/mxf-tool/{archive,mxf} ||
-  echo "install.sh: the parts of mxf_report and mxf_archive aren't compiled" >&2
-for name in mxf_tool mxf_report mxf_archive; do
+/usr/bin/python3 -m compileall -q "$prefix/lib/mxf-tool/mxf" ||
+  echo "install.sh: the parts of mxf_report, mxf_archive and mxf_fetch aren't compiled" >&2
+for name in mxf_tool mxf_report mxf_archive mxf_fetch; do
   put 644 "$pages/$name.1" "share/man/man1/$name.1"
   put 644 "$completions/$name.bash" "share/bash-completion/completions/$name"
 done
-put 644 "$example/Makefile" share/mxf-tool/archive/Makefile
-for name in lacking names recording side_by_side stretches slurm/run; do put 755 "$example/$name" "share/mxf-tool/archive/$name"; done
+put 644 "$example/README.md" share/mxf-tool/archive/README.md
+for name in minute side_by_side slurm/run; do put 755 "$example/$name" "share/mxf-tool/archive/$name"; done
 for name in GUIDE FORMATS ARCHIVE; do put 644 "$pages/$name.md" "share/doc/mxf-tool/$name.md"; done

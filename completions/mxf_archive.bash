@@ -36,13 +36,18 @@ _mxf_archive_words() {
   case $1:$2 in
     *:--against) echo "$forms" ;;
     *:--by) echo 'name offset' ;;
-    add:* | lines:*) echo "$forms --catalogue --skim --sources --help" ;;
-    verify:*) echo "$forms --against --sources --help" ;;
+    add:*) echo "$forms --catalogue --skim --sources --list --jobs --help" ;;
+    lines:*) echo "$forms --catalogue --skim --sources --help" ;;
+    verify:*) echo "$forms --against --sources --jobs --csv --json --help" ;;
     match:*) echo "$forms --sources --csv --json --help" ;;
     list:*) echo '--missing --damaged --disputed --changed --unverified-since --csv --json --help' ;;
     orders:*) echo '--by --merge --csv --json --help' ;;
     find:* | show:*) echo '--csv --json --help' ;;
-    load:*) echo '--help' ;;
+    scan:*) echo '--jobs --large --joined --help' ;;
+    join:*) echo '--part --jobs --help' ;;
+    pages:*) echo '--jobs --help' ;;
+    accept:*) echo '--drop --help' ;;
+    load:* | remove:* | rename:*) echo '--help' ;;
   esac
 }
 
@@ -55,18 +60,19 @@ _mxf_archive() {
   word=${words[-1]} before=${words[-2]-}
   COMPREPLY=()
   if [ "${#words[@]}" -le 2 ]; then
-    mapfile -t COMPREPLY < <(compgen -W 'add list find show orders verify match lines load --help' -- "$word")
+    mapfile -t COMPREPLY < <(compgen -W 'scan list find show orders verify accept match pages rename remove add lines load join --help' -- "$word")
     return
   fi
   case $before in
-    --catalogue | --sources) _mxf_archive_paths '' "$word" && return ;;
-    --unverified-since | --merge) return ;;
+    --catalogue | --sources | --list | --joined) _mxf_archive_paths '' "$word" && return ;;
+    --unverified-since | --merge | --jobs | --large | --part) return ;;
   esac
   _mxf_archive_source "$word" && return
-  # The database is the first word of each command but one, and load takes files alone.
+  # The database is the first word of each command but two; scan and pages take a folder behind it, join two folders, and
+  # load files alone.
   case ${words[1]}:${#words[@]}:$word in
     lines:3:* | *:-*) ;;
-    *:3:* | load:*) _mxf_archive_paths '' "$word" && return ;;
+    *:3:* | load:* | scan:4:* | pages:4:* | join:4:*) _mxf_archive_paths '' "$word" && return ;;
   esac
   mapfile -t COMPREPLY < <(compgen -W "$(_mxf_archive_words "${words[1]}" "$before")" -- "$word")
   case ${COMPREPLY[0]-} in at: | range: | slice: | cat:) compopt -o nospace 2>/dev/null ;; esac

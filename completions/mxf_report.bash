@@ -26,7 +26,7 @@ _mxf_report() {
   esac
   COMPREPLY=()
   case $before in
-    --out | --sources | --archive | --index-of) _mxf_report_paths '' "$word" && return ;;
+    --out | --sources | --archive) _mxf_report_paths '' "$word" && return ;;
     --title | --index | --from | --to) return ;;
   esac
   # What stands before the last colon is no part of the word that readline replaces.
@@ -44,7 +44,7 @@ _mxf_report() {
       ;;
     at:* | range:* | slice:*) return ;;
   esac
-  local options='at: range: slice: cat: --out --title --index --from --to --against --read --skim --sources --archive --index-of --help'
+  local options='at: range: slice: cat: --out --title --index --from --to --against --read --skim --sources --archive --help'
   [ "$before" != --against ] || options='at: range: slice: cat:'
   mapfile -t COMPREPLY < <(compgen -W "$options" -- "$word")
   case ${COMPREPLY[0]-} in at: | range: | slice: | cat:) compopt -o nospace 2>/dev/null ;; esac

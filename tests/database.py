@@ -8,16 +8,15 @@
     tests/database.py --statements WORDS..    how many statements mxf_archive runs by these words
     tests/database.py --killed N WORDS..      mxf_archive, which is killed ahead of its statement N
     tests/database.py --made N                lines of N recordings for `mxf_archive load`
-    tests/database.py --list-anew DB          makes what lists print again, after a change of the tables by SQL
+    tests/database.py --anew DB OTHER         OTHER is made anew, and has the rows that DB has
+    tests/database.py --answers DB DOCUMENT   what mxf_archive answers of all in a database, and the questions of the document
 
 Each difference is a line. Nothing is printed of a database that is right.
 """
-import csv
 import fractions
 import importlib
 import importlib.machinery
 import importlib.util
-import io
 import json
 import math
 import os
@@ -260,35 +259,63 @@ def check_whole(database):
     lone = connection.execute("SELECT name FROM recordings r WHERE NOT EXISTS "
                               "(SELECT 1 FROM states s WHERE s.recording = r.id AND s.number = r.state)")  # fmt: skip
     differ("recordings without a state", [], [row["name"] for row in lone])
-    if connection.execute("PRAGMA user_version").fetchone()[0] > 1:
-        check_listed(connection)
+    if connection.execute("PRAGMA user_version").fetchone()[0] > 2:
+        check_words(connection)
 
 
-def check_listed(connection):
-    """Prints what lists and searches for words would print other than the tables say."""
-    rows = connection.execute('SELECT r.name AS recording, r.title AS name, r.length, r.timecode, s."end", s.missing, s.orders, '
-                              "s.findings, s.disputes, nullif(r.verified, '') AS verified, r.listed, r.listed_csv, r.listed_json "
-                              "FROM recordings r JOIN states s ON s.recording = r.id AND s.number = r.state")  # fmt: skip
-    for row in map(dict, rows):
-        listed = [row.pop(name) for name in ("listed", "listed_csv", "listed_json")]
-        cells = ["-" if value is None else str(value) for value in [*row.values()][2:]]
-        differ("the line of a list", cells, listed[0].split())
-        text = io.StringIO(newline="")
-        csv.writer(text).writerow(row.values())
-        differ("the CSV of a list", text.getvalue(), listed[1] + "\r\n")
-        differ("the JSON of a list", json.dumps(row, ensure_ascii=False, separators=(",", ":")), listed[2])
-    rows = connection.execute("SELECT r.name AS recording, t.what, t.text, w.found_in, w.found_line FROM words w JOIN texts t "
-                              "ON t.id = w.text JOIN recordings r ON r.id = t.recording")  # fmt: skip
-    for row in rows:
-        differ("what find prints", (row["recording"], f"{'name of ' + row['what']:17}  {row['text']}"), tuple(row)[3:])
+def check_words(connection):
+    """Prints it if the words of texts aren't those of the texts. The index is looked at in a copy, since that is a writing."""
+    copy = sqlite3.connect(":memory:")
+    connection.backup(copy)
+    try:
+        copy.execute("INSERT INTO words (words, rank) VALUES ('integrity-check', 1)")
+    except sqlite3.DatabaseError as fault:
+        print(f"the words of texts: {fault}")
+    copy.close()
 
 
-def list_anew(database):
-    """Makes what lists print from the tables again."""
-    archive()
-    schema = importlib.import_module("archive.schema")
-    with sqlite3.connect(database) as connection:
-        connection.execute(schema.LISTED)
+def make_anew(database, other):
+    """Makes a database by mxf_archive, and copies to it the rows of another one, table by table. Both have the columns that
+    a version before has, but for those that lists were kept in, and those that a later version has."""
+    subprocess.run([ARCHIVE, "load", other, os.devnull], stdout=subprocess.DEVNULL, check=True)
+    connection = sqlite3.connect(other)
+    connection.execute("ATTACH ? AS former", (str(database),))
+    names = "SELECT name FROM {} WHERE type = 'table' AND sql NOT LIKE 'CREATE VIRTUAL%' AND name NOT LIKE 'words%'"
+    own, former = ({row[0] for row in connection.execute(names.format(f"{place}sqlite_master"))} for place in ("", "former."))
+    for table in sorted(own & former):
+        columns = [{row[1] for row in connection.execute(f"PRAGMA {place}table_info({table})")} for place in ("", "former.")]
+        shared = ", ".join(f'"{name}"' for name in sorted(set.intersection(*columns)))
+        connection.execute(f"INSERT INTO main.{table} ({shared}) SELECT {shared} FROM former.{table}")
+    connection.commit()
+
+
+# What is asked of all in a database, to be compared with what another one answers.
+ANSWERED = (
+    *(["list", *option, *form] for option in ((), ("--missing",), ("--damaged",), ("--disputed",), ("--changed",), ("--unverified-since", "1"))
+      for form in ((), ("--csv",), ("--json",))),
+    *(["find", *words] for words in (("cup",), ("FINAL", "cup"), ("kase",), ("tape 00001",), ("recorder",), ("00:00:59;29",),
+                                     ("10:04:10:00",), ("000000000000000a",), ("0000000000000007", "--json"), ("tape", "--csv"))),
+    ["orders"], ["orders", "--by", "offset", "--json"],
+)  # fmt: skip
+
+
+def print_answers(database, document):
+    """Prints what mxf_archive answers, and what the tables answer to the questions of the document."""
+    shown = [["show", row["name"], "--json"] for row in opened(database).execute("SELECT name FROM recordings ORDER BY name")]
+    for words in (*ANSWERED, *shown):
+        print(*words, flush=True)
+        subprocess.run([ARCHIVE, words[0], database, *words[1:]], check=False)
+    for question in questions_of(document):
+        print(question)
+        for row in opened(database).execute(question):
+            print(*row, sep="|")
+
+
+def questions_of(document):
+    """The questions of the document that sqlite3 is asked."""
+    told = re.findall(r'^\$ sqlite3 \S+ "(SELECT .*)"$', pathlib.Path(document).read_text(encoding="utf-8"), re.MULTILINE)
+    assert len(told) == 10, told
+    return told
 
 
 def print_rows(database, name):
@@ -300,7 +327,7 @@ def print_rows(database, name):
     tables = [row[0] for row in connection.execute("SELECT name FROM sqlite_master WHERE type = 'table' ORDER BY name")]
     for table in tables:
         columns = [row[1] for row in connection.execute(f"PRAGMA table_info({table})")]
-        if table in ("words", "states") or "recording" not in columns:
+        if table == "states" or "recording" not in columns:
             continue
         kept = [column for column in columns if column not in ("id", "recording", *TABLES_WITH_TIMES.get(table, ()))]
         names = ", ".join(f'"{column}"' for column in kept)
@@ -320,7 +347,7 @@ def archive():
 def run_traced(words, trace):
     """Runs mxf_archive by these words, and answers its status. Each statement is handed to the function ahead of it."""
     module = archive()
-    library = importlib.import_module("archive.database").sqlite3
+    library = importlib.import_module("mxf.archive.database").sqlite3
     connect = library.connect
 
     def traced(*arguments, **options):
@@ -376,15 +403,19 @@ def check_plans(database, document):
     """Prints the questions that go through a table row by row, of mxf_archive and of the document."""
     connection = opened(database)
     asked = [text for words in ASKED for text in statements_of([words[0], database, *words[1:]])]
-    told = re.findall(r'^\$ sqlite3 \S+ "(SELECT .*)"$', pathlib.Path(document).read_text(encoding="utf-8"), re.MULTILINE)
-    questions = [text for text in (*asked, *told) if text.lstrip().startswith("SELECT") and OF_ALL_ROWS not in text]
-    if len(told) != 10 or len(questions) < len(ASKED):
-        print(f"{len(told)} questions of the document, {len(questions)} in all")
+    told = questions_of(document)
+    # FTS5 asks its own tables by itself.
+    left_out = (OF_ALL_ROWS, "FROM 'main'.'words_")
+    questions = [text for text in (*asked, *told) if text.lstrip().startswith("SELECT") and not any(one in text for one in left_out)]
+    if len(questions) < len(ASKED):
+        print(f"{len(questions)} questions")
     for question in questions:
         details = [row["detail"] for row in connection.execute(f"EXPLAIN QUERY PLAN {question}")]
         made_up = {detail.split()[1] for detail in details if detail.startswith(("CO-ROUTINE ", "MATERIALIZE "))} | {"CONSTANT", "json_each"}
         for detail in details:
-            if detail.startswith("SCAN ") and detail.split()[1] not in made_up:
+            # An index of words is looked up by a word, or by words from one up to another.
+            is_looked_up = re.fullmatch(r"SCAN \w+ VIRTUAL TABLE INDEX (0:M\d+|[1-9]\d*:)", detail)
+            if detail.startswith("SCAN ") and detail.split()[1] not in made_up and not is_looked_up:
                 print(f"{detail}: {' '.join(question.split())}")
 
 
@@ -465,8 +496,10 @@ def main(words):
         run_killed(int(words[1]), words[2:])
     elif words[:1] == ["--made"]:
         print_made(int(words[1]))
-    elif words[:1] == ["--list-anew"]:
-        list_anew(words[1])
+    elif words[:1] == ["--anew"]:
+        make_anew(*words[1:])
+    elif words[:1] == ["--answers"]:
+        print_answers(*words[1:])
     else:
         compare(words[0], words[1], words[2], words[3:])
 

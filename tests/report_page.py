@@ -29,8 +29,8 @@ TOP = pathlib.Path(__file__).resolve().parent.parent
 sys.dont_write_bytecode = True
 sys.path.append(str(TOP / "report"))
 
-from mxf import bounds, drawings, verdicts  # noqa: E402 (sys.path is set above)
-from mxf import guide as words_of_pages  # noqa: E402
+from mxf.report import bounds, drawings, verdicts  # noqa: E402 (sys.path is set above)
+from mxf.report import guide as words_of_pages  # noqa: E402
 
 EMPTY = {"meta", "br", "hr", "img", "input", "link", "base", "source", "track", "wbr", "area", "col", "embed"}
 LOADING = {

@@ -1,48 +1,30 @@
-"""Calls of mxf_tool, and the faults that they say."""
+"""Calls of mxf_tool, of which several may go on side by side."""
 from __future__ import annotations
 
-import collections
 import contextlib
 import io
-import itertools
 import os
 import pathlib
-import shlex
 import subprocess
-import tempfile
-from collections.abc import Iterator
-from typing import IO, NamedTuple
+import threading
+from collections.abc import Callable, Iterator, Sequence
+from types import TracebackType
+from typing import IO
 
-from mxf.bounds import HINTS
 from mxf.faults import NO_PROGRAM, OwnFault, ToolFault
-from mxf.lines import Line, lines_of
-
-HINT = "hint: "  # before each hint
-
-# The hint that a check read no essence, which the page says by itself.
-UNREAD = "essence wasn't read"
+from mxf.lines import Line, LineFault, line_of
+from mxf.sources import Sources
 
 # The line that each command prints whatever it finds.
 CLOSING = {
     "join": "joined", "map": "map", "show": "chain", "check": "findings", "plan": "planned", "sources": "sources",
-    "units": "units", "verify": "verified", "describe": "packages",
+    "units": "units", "verify": "verified", "describe": "packages", "find": "fragments",
 }  # fmt: skip
 
-# The commands that can pass over essence. The others tell what is in it.
-SKIMMING = {"map", "show", "check", "plan", "describe", "units"}
+BLOCK = 1 << 16  # bytes of lines that are looked at together, at least
 
-# The commands that say of a catalogue of the sources what they say of these, unless one is a range; `show` does but for
-# how the sources end.
-JOINED = {"map", "show", "plan", "describe", "units"}
-
-
-class Sources(NamedTuple):
-    """The words that name the sources, the list that is handed in through standard input, if there is one, and each source
-    by itself, in the order of their numbers."""
-
-    words: list[str]
-    listed: bytes | None
-    each: list[str]
+# What of whole lines is kept, each by itself. That of many lines takes less time together than of each.
+Keeps = Callable[[bytes], list[bytes]]
 
 
 def program() -> str:
@@ -56,102 +38,159 @@ def program() -> str:
     return next((str(place) for place in places if place.is_file()), "mxf_tool")
 
 
-class Tool:
-    """mxf_tool with the sources of a recording, and whether their essence is passed over. It keeps the calls that were
-    made, for the page to name."""
+def current(name: str, version: str) -> str:
+    """The program itself in place of the launcher of the repository, which looks at each call whether that is current."""
+    crates = pathlib.Path(name).resolve().parent / "crates"
+    built = crates / "mxf_tool" / "out" / ("checked" if version.endswith(" checked") else "") / "mxf_tool"
+    return str(built) if built.is_file() else name
 
-    def __init__(self, sources: Sources, is_skimming: bool) -> None:
-        self.program = program()
-        self.sources = sources
-        self.is_skimming = is_skimming
-        self.catalogue: str | None = None
-        self.has_asked = False
-        self.calls: list[str] = []
-        self.hints: list[str] = []
 
-    def join(self, folder: str) -> None:
-        """Reads the sources once into a catalogue, which is asked from now on where it knows as much as they do. Ranges
-        alone tell which bytes are at hand, and a skim reads little, as a catalogue does."""
-        forms = {source.partition(":")[0] for source in self.sources.each}
-        if self.is_skimming or "range" in forms or forms == {"cat"}:
-            return
-        joined = os.path.join(folder, "joined")
-        collections.deque(self.closed("join", self.lines_by(["join", "--out", joined], self.sources)), maxlen=0)
-        self.catalogue = joined
+def file_without_name() -> IO[bytes]:
+    """A file in memory, which ends with the programs that have it open."""
+    return open(os.memfd_create("mxf"), "w+b")
 
-    def ask(self, command: str, *options: str) -> Iterator[Line]:
-        """The lines that a command prints of the sources. A call that fails is a fault after its last line."""
-        if self.is_skimming and command in SKIMMING:
-            options = (*options, "--skim")
-        self.calls.append(shlex.join([command, *options]))
-        if self.catalogue is None or command not in JOINED:
-            return self.closed(command, self.lines_by([command, *options], self.sources))
-        lines = self.closed(command, self.lines_by([command, *options], Sources([f"cat:{self.catalogue}"], None, [])))
-        return itertools.chain(self.pieces(), lines) if command == "show" else lines
 
-    def pieces(self) -> Iterator[Line]:
-        """How the sources end, which a catalogue of them doesn't say, and a skim says as a reading does."""
-        shown = self.closed("show", self.lines_by(["show", "--skim"], self.sources))
-        return (line for line in shown if line["line"] == "piece")
+class Call:
+    """A call of a program. It begins when it is told to, at the latest when its lines are asked for. What it says of
+    faults is kept, or goes where that of this program goes. The call is over when its block ends, and is ended if that ends
+    by a fault."""
 
-    def closed(self, command: str, lines: Iterator[Line]) -> Iterator[Line]:
-        """The lines of a command, of which the one that it prints whatever it finds has to be there."""
-        whole = False
-        for line in lines:
-            whole = whole or line["line"] == CLOSING[command]
-            yield line
-        if not whole:
-            raise OwnFault(NO_PROGRAM, f"{self.program} {command} prints no line {CLOSING[command]}")
+    def __init__(self, words: Sequence[str], given: bytes = b"", is_kept: bool = True) -> None:
+        self.words, self.given, self.is_kept = list(words), given, is_kept
+        self.process: subprocess.Popen[bytes] | None = None
+        self.faults: IO[bytes] | None = None  # what the program says of them, if that is kept
+        self.said = b""
+        self.status = 0
 
-    def lines_by(self, words: list[str], sources: Sources) -> Iterator[Line]:
-        """The lines of a call. The first one says its faults and how far it is by itself."""
-        first, self.has_asked = not self.has_asked, True
-        with contextlib.ExitStack() as opened:
-            given = opened.enter_context(tempfile.TemporaryFile())
-            given.write(sources.listed or b"")
-            given.seek(0)
-            told = None if first else opened.enter_context(tempfile.TemporaryFile())
-            yield from self.run([self.program, *words, "--json", *sources.words], given, told)
+    def begin(self) -> subprocess.Popen[bytes]:
+        """Starts the program, if that wasn't done. What it is given and what it says of faults are files without a name, so
+        neither program waits for the other."""
+        if self.process is None:
+            self.faults = file_without_name() if self.is_kept else None
+            with file_without_name() if self.given else open(os.devnull, "rb") as given:
+                if self.given:
+                    given.write(self.given)
+                    given.seek(0)
+                self.process = self.started(given)
+        return self.process
 
-    def run(self, words: list[str], given: IO[bytes], told: IO[bytes] | None) -> Iterator[Line]:
-        """The lines of a call that reads one file and says its faults to another."""
+    def started(self, given: IO[bytes]) -> subprocess.Popen[bytes]:
+        """The program, which reads this file."""
         try:
-            process = subprocess.Popen(words, stdin=given, stdout=subprocess.PIPE, stderr=told)
+            return subprocess.Popen(self.words, stdin=given, stdout=subprocess.PIPE, stderr=self.faults)
         except OSError as fault:
-            raise OwnFault(NO_PROGRAM, f"{words[0]} can't be run: {fault.strerror}") from fault
-        cut = False
-        with process:
-            printed = process.stdout or io.BytesIO()
-            try:
-                yield from lines_of(printed)
-            except ValueError:
-                cut = True
-                collections.deque(printed, maxlen=0)
-            except (KeyboardInterrupt, SystemExit):
-                process.terminate()
-                raise
-        check_status(process.returncode, told)
-        self.hints += hints_of(told)
-        if cut:
-            raise OwnFault(NO_PROGRAM, f"{words[0]} prints a line that is no JSON of mxf_tool")
+            raise OwnFault(NO_PROGRAM, f"{self.words[0]} can't be run: {fault.strerror}") from fault
+
+    def blocks(self) -> Iterator[bytes]:
+        """What it prints, some whole lines at once. After the last one its status is known, and what it said."""
+        printed = self.begin().stdout
+        assert isinstance(printed, io.BufferedReader)  # it is a pipe
+        rest = b""
+        while read := printed.read1(BLOCK):
+            whole, end, begun = read.rpartition(b"\n")
+            if end:
+                yield rest + whole
+            rest = begun if end else rest + begun
+        if rest:
+            yield rest
+        self.end()
+
+    def end(self) -> None:
+        """Waits until the program has ended. What it prints from now on nobody reads, as it is told."""
+        if self.process is not None:
+            with self.process:
+                pass  # its end closes standard output and waits
+            self.status = self.process.returncode
+            self.process = None
+        if self.faults is not None:
+            self.faults.seek(0)
+            self.said = self.faults.read()
+            self.faults.close()
+            self.faults = None
+
+    def stop(self) -> None:
+        """Ends the program, if it runs."""
+        process = self.process  # another thread may see its end meanwhile
+        if process is not None:
+            process.terminate()
+
+    def __enter__(self) -> Call:
+        return self
+
+    def __exit__(
+        self, kind: type[BaseException] | None, fault: BaseException | None, trace: TracebackType | None
+    ) -> None:
+        if kind is not None:
+            self.stop()
+        self.end()
 
 
-def check_status(status: int, told: IO[bytes] | None) -> None:
-    """Sees that a call ended with status 0 or 1, or reports the fault that it said."""
-    if status in (0, 1):
-        return
-    message = b""
-    if told:
-        told.seek(0)
-        message = told.read()
-    raise ToolFault(status if status > 0 else 128 - status, message)
+class Tool:
+    """mxf_tool. Unless it is silent, its first call of sources says its faults and how far it is by itself."""
 
+    def __init__(self, is_silent: bool = False) -> None:
+        self.program = program()
+        self.has_called = is_silent
+        self.told: str | None = None
+        self.lock = threading.Lock()
+        self.running: set[Call] = set()
+        self.is_stopped = False
 
-def hints_of(told: IO[bytes] | None) -> list[str]:
-    """The hints that a call said, the first of them."""
-    if not told:
-        return []
-    told.seek(0)
-    lines = told.read().decode("utf-8", "replace").split("\n")
-    hints = [line[len(HINT) :] for line in lines if line.startswith(HINT)]
-    return [hint for hint in hints if not hint.startswith(UNREAD)][:HINTS]
+    def version(self) -> str:
+        """What the program calls itself. From then on the program that is current is asked."""
+        if self.told is None:
+            with Call([self.program, "--version"], is_kept=False) as call:
+                texts = list(call.blocks())
+            if call.status != 0:
+                raise OwnFault(NO_PROGRAM, f"{self.program} --version ended with status {call.status}")
+            self.told = b"\n".join(texts).decode("utf-8", "replace").strip()
+            self.program = current(self.program, self.told)
+        return self.told
+
+    def call(self, words: Sequence[str], sources: Sources, is_alone: bool = True) -> Call:
+        """The call of a command of the sources, which goes on alone or beside others."""
+        is_kept = self.has_called or not is_alone
+        self.has_called = True
+        return Call([self.program, *words, "--json", *sources.handed()], sources.given(), is_kept)
+
+    @contextlib.contextmanager
+    def begun(self, call: Call) -> Iterator[None]:
+        """A call that goes on until the block ends, or until all calls are stopped."""
+        with self.lock:
+            if self.is_stopped:
+                raise KeyboardInterrupt
+            call.begin()
+            self.running.add(call)
+        try:
+            with call:
+                yield
+        finally:
+            self.running.discard(call)
+
+    def stop(self) -> None:
+        """Ends the calls that go on in other threads, and lets none begin."""
+        with self.lock:
+            self.is_stopped = True
+            for call in [*self.running]:
+                call.stop()
+
+    def lines_of(self, call: Call, keeps: Keeps = bytes.splitlines) -> Iterator[Line]:
+        """The lines of a call, which may have begun, as far as they are kept. A call that fails is a fault after its last
+        line, and so is one that prints what isn't of mxf_tool, or not the line that it prints whatever it finds."""
+        name, command = call.words[:2]
+        closing, is_whole, fault = b'{"line":"%s"' % CLOSING[command].encode(), False, ""
+        with self.begun(call):
+            for block in call.blocks():
+                is_whole = is_whole or closing in block
+                try:
+                    yield from map(line_of, () if fault else keeps(block))
+                except LineFault as bad:
+                    fault = f"{name} prints {bad}"
+        if call.status not in (0, 1):
+            raise ToolFault(call.status if call.status > 0 else 128 - call.status, call.said)
+        if fault or not is_whole:
+            raise OwnFault(NO_PROGRAM, fault or f"{name} {command} prints no line {CLOSING[command]}")
+
+    def ask(self, words: Sequence[str], sources: Sources, keeps: Keeps = bytes.splitlines) -> list[Line]:
+        """The lines that a command prints of the sources, as far as they are kept."""
+        return list(self.lines_of(self.call(words, sources), keeps))

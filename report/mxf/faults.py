@@ -1,7 +1,12 @@
 """What can go wrong, the statuses of it, and how it is said."""
 from __future__ import annotations
 
-USAGE, READ, OUTPUT, NO_PROGRAM = 2, 3, 6, 69  # statuses that are this program's own
+import contextlib
+import os
+import sys
+
+# The statuses that are those of the programs in Python. Any other is of mxf_tool.
+USAGE, READ, OUTPUT, DATA, NO_PROGRAM, UNWRITTEN = 2, 3, 6, 65, 69, 73
 
 
 class ToolFault(Exception):
@@ -12,14 +17,26 @@ class ToolFault(Exception):
         self.status = status
         self.message = message
 
-    def says(self, words: str) -> bool:
-        """Whether these words are the last line that it said."""
-        return self.message.decode("utf-8", "replace").rstrip("\n").split("\n")[-1] == words
+    def last_line(self) -> str:
+        """The last line that it said."""
+        return self.message.decode("utf-8", "replace").rstrip("\n").split("\n")[-1]
 
 
 class OwnFault(Exception):
-    """A fault of this program: its status, and its line."""
+    """A fault of a program in Python: its status, and its line."""
 
     def __init__(self, status: int, message: str) -> None:
         super().__init__(message)
         self.status = status
+
+
+def tell(said: bytes) -> None:
+    """Says something on standard error. If that takes nothing, nobody is told."""
+    with contextlib.suppress(OSError):
+        sys.stderr.buffer.write(said)
+        sys.stderr.buffer.flush()
+
+
+def tell_own(said: str) -> None:
+    """Says a line of the program that runs, by its name."""
+    tell(f"{os.path.basename(sys.argv[0])}: {said}\n".encode("utf-8", "replace"))

@@ -1,44 +1,44 @@
-"""The lines of mxf_tool as JSON: the members of each that pages use (docs/FORMATS.md), and how lines are read and taken."""
+"""The lines of mxf_tool as JSON: the members of each that are used (docs/FORMATS.md), and how lines are read and taken."""
 from __future__ import annotations
 
+import functools
 import json
-from collections.abc import Callable, Iterable, Iterator, Mapping
-from typing import IO, Any, TypedDict
+from collections.abc import Callable, Iterable, Mapping
+from typing import Any, NoReturn, TypedDict, TypeVar, cast
 
 # A line whose form isn't looked at yet. Its member "line" is its name.
 Line = dict[str, Any]
 
+# A line of which a form is known only when its members are looked at.
+AnyLine = TypedDict("AnyLine", {"line": str})
+
+
 # Lines of `map`.
 
-MapLine = TypedDict("MapLine", {
-    "end": int, "held": int, "hand": int, "missing": int, "gaps": int, "disputed": int, "cell": int,
-})  # fmt: skip
+# How many bytes are held, at hand and missing.
+MapCounts = TypedDict("MapCounts", {"held": int, "hand": int, "missing": int})
 
 
-class RowLine(TypedDict):
-    """Some cells."""
+class MapLine(MapCounts):
+    """The numbers of a map."""
 
-    cells: str
-
-
-class ExtentLine(TypedDict):
-    """Bytes that stand alike."""
-
-    start: int
     end: int
-    length: int
-    standing: str
+    gaps: int
+    disputed: int
+    cell: int
+
+
+# Some cells.
+RowLine = TypedDict("RowLine", {"cells": str})
+
+# Bytes that stand alike.
+ExtentLine = TypedDict("ExtentLine", {"start": int, "end": int, "length": int, "standing": str})
 
 
 # Lines of `show`.
 
-
-class StopWords(TypedDict):
-    """How a source ends."""
-
-    source: int
-    offset: int
-    stop: str
+# How a source ends.
+StopWords = TypedDict("StopWords", {"source": int, "offset": int, "stop": str})
 
 
 class StopLine(StopWords, total=False):
@@ -73,11 +73,14 @@ class NoteLine(PacketLine, total=False):
     sources: list[int]
 
 
-class GapLine(TypedDict):
-    """Bytes that aren't held."""
+class DisputeLine(PacketLine):
+    """A packet in dispute, with the offset after it."""
 
-    start: int
     end: int
+
+
+# Bytes that aren't held, that weren't verified, or of which the reference says nothing.
+RangeLine = TypedDict("RangeLine", {"start": int, "end": int})
 
 
 PartitionLine = TypedDict("PartitionLine", {
@@ -86,34 +89,28 @@ PartitionLine = TypedDict("PartitionLine", {
 })  # fmt: skip
 
 
-class ChainLine(TypedDict):
-    """Whether the chain of partitions is whole."""
-
-    chain: str
+PackWords = TypedDict("PackWords", {"major": int, "minor": int, "kag": int, "this": int, "body-offset": int})
+PackQualifier = TypedDict("PackQualifier", {"qualifier": str}, total=False)
 
 
-class CopyLine(TypedDict):
-    """A copy of the header metadata."""
-
-    partition: int
-    start: int | None
-    bytes: int
-    covered: int
-    state: str
+class PackLine(PartitionLine, PackWords, PackQualifier):
+    """All of a partition pack. A pattern that is known has a qualifier."""
 
 
-class PreferredLine(TypedDict):
-    """The partition of the copy to take."""
+# A value of a set that is held.
+ItemLine = TypedDict("ItemLine", {"tag": str, "value": "str | None"})
 
-    partition: int | None
+# Whether the chain of partitions is whole.
+ChainLine = TypedDict("ChainLine", {"chain": str})
 
+# A copy of the header metadata.
+CopyLine = TypedDict("CopyLine", {"partition": int, "start": "int | None", "bytes": int, "covered": int, "state": str})
 
-class ReferenceWords(TypedDict):
-    """A reference to a set: its name, its identifier and how it stands."""
+# The partition of the copy to take.
+PreferredLine = TypedDict("PreferredLine", {"partition": "int | None"})
 
-    line: str
-    uid: str
-    target: str
+# A reference to a set: its name, its identifier and how it stands.
+ReferenceWords = TypedDict("ReferenceWords", {"line": str, "uid": str, "target": str})
 
 
 class ReferenceLine(ReferenceWords, total=False):
@@ -122,13 +119,29 @@ class ReferenceLine(ReferenceWords, total=False):
     offset: int
 
 
+# A text that a set says.
+TextLine = TypedDict("TextLine", {"text": str})
+
+# An identifier that a set says.
+UidLine = TypedDict("UidLine", {"uid": str})
+
+
+class StampLine(TypedDict):
+    """A time that a set says."""
+
+    year: int
+    month: int
+    day: int
+    hour: int
+    minute: int
+    second: int
+    quarter: int
+
+
 SegmentLine = TypedDict("SegmentLine", {"index-sid": int})
 
-
-class RipStanding(TypedDict):
-    """How random index packs stand."""
-
-    standing: str
+# How random index packs stand.
+RipStanding = TypedDict("RipStanding", {"standing": str})
 
 
 class RipLine(RipStanding, total=False):
@@ -142,19 +155,11 @@ RipEntryLine = TypedDict("RipEntryLine", {"body-sid": int, "offset": int, "stand
 
 # Lines of `check`.
 
+# A finding.
+FindingLine = TypedDict("FindingLine", {"code": str, "offset": int, "text": str})
 
-class FindingLine(TypedDict):
-    """A finding."""
-
-    code: str
-    offset: int
-    text: str
-
-
-class FindingsLine(TypedDict):
-    """How many findings there are."""
-
-    findings: int
+# How many findings there are.
+FindingsLine = TypedDict("FindingsLine", {"findings": int})
 
 
 # Lines of `plan`.
@@ -171,12 +176,14 @@ class RestoreLine(TypedDict):
     again: bool
 
 
-class DisputedPlaceLine(TypedDict):
-    """A place that matters and is in dispute."""
+class OrderLine(RestoreLine):
+    """An order with its length, if it has an end."""
 
-    offset: int
-    reason: str
-    source: int | None
+    length: int | None
+
+
+# A place that matters and is in dispute.
+DisputedPlaceLine = TypedDict("DisputedPlaceLine", {"offset": int, "reason": str, "source": "int | None"})
 
 
 PlannedLine = TypedDict("PlannedLine", {"ranges": int, "bytes": int, "open": int, "end": "int | None"})
@@ -187,12 +194,8 @@ UnitsLine = TypedDict("UnitsLine", {"units": int, "held": int, "hand": int, "fro
 
 # Lines of `sources`.
 
-
-class SourceWord(TypedDict):
-    """A source, by its number and its word."""
-
-    source: int
-    word: str
+# A source, by its number and its word.
+SourceWord = TypedDict("SourceWord", {"source": int, "word": str})
 
 
 class SourceLine(SourceWord, total=False):
@@ -203,7 +206,7 @@ class SourceLine(SourceWord, total=False):
     disputed: int
 
 
-# Lines of `describe`.
+# Lines of `describe`. Those of a package follow its line, and those of a track its line.
 
 
 class DescribedLine(TypedDict, total=False):
@@ -213,74 +216,67 @@ class DescribedLine(TypedDict, total=False):
     state: str
 
 
-class PackageLine(TypedDict, total=False):
-    """A package, or a reference that leads to none, which has no identifier."""
-
-    kind: str
-    uid: str
-
-
-class NameLine(TypedDict):
-    """The name of a package."""
-
-    text: str
-
-
+# A package, a name and a container of it, and a track, each of which is found.
+PackageLine = TypedDict("PackageLine", {"kind": str, "uid": str})
+NameLine = TypedDict("NameLine", {"text": str})
 ContainerLine = TypedDict("ContainerLine", {"body-sid": int, "index-sid": int})
 
 
-class TrackLine(TypedDict, total=False):
-    """A track, or a reference that leads to none, which has no number."""
+class TrackLine(TypedDict):
+    """A track that is found."""
 
     id: int
     kind: str | None
+    number: str
     rate: str
     origin: int
     duration: int | None
     length: str | None
 
 
-class TimecodeLine(TypedDict):
+# A component of a track: a clip or a timecode.
+ComponentLine = TypedDict("ComponentLine", {"start": "int | None", "duration": "int | None", "of-track": int})
+
+
+ClipWords = TypedDict("ClipWords", {"package": str, "track": int, "from": int})
+
+
+class ClipLine(ComponentLine, ClipWords):
+    """A clip, and what it shows."""
+
+
+# The timecode of a component.
+TimecodeWords = TypedDict("TimecodeWords", {"at": "str | None", "base": int})
+
+
+class TimecodeLine(ComponentLine, TimecodeWords):
     """A timecode component."""
 
-    at: str | None
 
-
-class EssenceLine(TypedDict, total=False):
-    """What a descriptor says of all essence."""
-
-    rate: str | None
-
+# What a descriptor says of all essence.
+EssenceLine = TypedDict("EssenceLine", {"track": "int | None", "rate": "str | None", "container": "str | None"})
 
 PictureLine = TypedDict("PictureLine", {
     "width": "int | None", "height": "int | None", "display-width": "int | None", "display-height": "int | None",
-    "layout": "int | None", "aspect": "str | None",
+    "layout": "int | None", "aspect": "str | None", "depth": "int | None", "coding": "str | None",
+})  # fmt: skip
+
+# What a descriptor says of a sound.
+SoundLine = TypedDict("SoundLine", {
+    "rate": "str | None", "channels": "int | None", "bits": "int | None", "coding": "str | None",
 })  # fmt: skip
 
 
-class SoundLine(TypedDict):
-    """What a descriptor says of a sound."""
-
-    rate: str | None
-    channels: int | None
-    bits: int | None
-
-
 ClockLine = TypedDict("ClockLine", {
-    "index-sid": int, "position": int, "count": "int | None", "first": str, "last": str, "base": int,
+    "index-sid": int, "position": int, "count": "int | None", "first": str, "last": "str | None", "base": int,
+    "by": str,
 })  # fmt: skip
 
 
 # Lines of `units`.
 
-
-class UnitWords(TypedDict):
-    """An edit unit: how it stands, and from where to where it lies."""
-
-    unit: int
-    standing: str
-    start: int | None
-    end: int | None
+# An edit unit: how it stands, and from where to where it lies.
+UnitWords = TypedDict("UnitWords", {"unit": int, "standing": str, "start": "int | None", "end": "int | None"})
 
 
 class UnitLine(UnitWords, total=False):
@@ -298,37 +294,85 @@ class DiffersLine(PacketLine):
     source: int
 
 
-class RangeLine(TypedDict):
-    """Bytes that weren't verified, or of which the reference says nothing."""
-
-    start: int
-    end: int
+# Edit units that stand alike.
+VerifiedWords = TypedDict("VerifiedWords", {"first": int, "last": int, "standing": str})
 
 
-VerifiedUnitsLine = TypedDict("VerifiedUnitsLine", {
-    "first": int, "last": int, "standing": str, "first-at": "str | None", "last-at": "str | None",
-})  # fmt: skip
+VerifiedTimes = TypedDict("VerifiedTimes", {"first-at": "str | None", "last-at": "str | None"}, total=False)
+
+
+class VerifiedUnitsLine(VerifiedWords, VerifiedTimes):
+    """The same, with their first and their last timecode if these are asked for."""
+
+
 VerifiedLine = TypedDict("VerifiedLine", {
     "packets": int, "all-packets": int, "bytes": int, "all-bytes": int, "differs": int, "cut": int, "unknown": int,
 })  # fmt: skip
 
 
-def lines_of(stream: IO[bytes]) -> Iterator[Line]:
-    """The JSON objects of a stream, one a line, each with its name."""
-    for text in stream:
-        line = json.loads(text.decode("utf-8", "replace"))
-        if not isinstance(line, dict) or not isinstance(line.get("line"), str):
-            raise ValueError("no line of mxf_tool")
-        yield line
+class LineFault(ValueError):
+    """A line that isn't one of mxf_tool, or not as its form says."""
 
 
-def take_lines(lines: Iterable[Line], takers: Mapping[str, Callable[[Any], None]]) -> None:
-    """Hands each line to what takes the lines of its name. A line of an unknown name is passed over, as one is that pages
-    don't use."""
+def refuse(constant: str) -> NoReturn:
+    """Refuses NaN and the infinities, which Python's module takes and JSON doesn't have (RFC 8259)."""
+    raise ValueError(f"{constant} is no JSON")
+
+
+DECODER = json.JSONDecoder(parse_constant=refuse)
+
+
+def line_of(text: bytes) -> Line:
+    """The JSON object of a line, which has its name."""
+    try:
+        line = DECODER.decode(text.decode("utf-8", "replace"))
+    except (ValueError, RecursionError) as fault:
+        raise LineFault("a line that is no JSON of mxf_tool") from fault
+    if not isinstance(line, dict) or not isinstance(line.get("line"), str):
+        raise LineFault("a line that is no JSON of mxf_tool")
+    return line
+
+
+Form = TypeVar("Form")
+
+# What takes lines, by their names: the form that each has, and what is done with it.
+Takers = Mapping[str, tuple[Any, Callable[[Any], None]]]
+
+TYPES = {"int": int, "str": str, "bool": bool, "list[int]": list, "None": type(None)}
+
+
+@functools.lru_cache(maxsize=None)
+def members_of(form: Any) -> dict[str, tuple[tuple[type, ...], bool]]:
+    """The members that a line of a form may have: of which types each is, and whether it always has it."""
+    texts = {
+        name: getattr(kind, "__forward_arg__", None) or kind.__name__ for name, kind in form.__annotations__.items()
+    }
+    needed = form.__required_keys__
+    return {name: (tuple(TYPES[part] for part in text.split(" | ")), name in needed) for name, text in texts.items()}
+
+
+def checked(line: Line, form: Callable[..., Form]) -> Form:
+    """A line that has the members of its form. Others don't matter."""
+    for name, (types, is_needed) in members_of(form).items():
+        if name not in line and is_needed:
+            raise LineFault(f"a line {line['line']} without {name}")
+        if name in line and not isinstance(line[name], types):
+            raise LineFault(f"a line {line['line']} with another {name}")
+    return cast(Form, line)
+
+
+def take_line(line: Line, takers: Takers) -> None:
+    """Hands a line to what takes the lines of its name. A line of an unknown name is passed over, as one is that nobody
+    uses."""
+    if line["line"] in takers:
+        form, take = takers[line["line"]]
+        take(checked(line, form))
+
+
+def take_lines(lines: Iterable[Line], takers: Takers) -> None:
+    """Hands each line to what takes the lines of its name."""
     for line in lines:
-        take = takers.get(line["line"])
-        if take is not None:
-            take(line)
+        take_line(line, takers)
 
 
 def end_of_packet(line: PacketLine) -> int:

@@ -1,21 +1,73 @@
 """The sources that words and lists name."""
 from __future__ import annotations
 
-import contextlib
 import os
-import pathlib
 import re
 import stat
+from collections.abc import Sequence
+from typing import NamedTuple
 
-from mxf.asked import Words
-from mxf.calling import Sources
 from mxf.faults import READ, USAGE, OwnFault
 
+# The forms of a source, and how many numbers stand between each and its path.
+FORMS = {"at": 1, "range": 1, "slice": 2, "cat": 0}
 
-def is_read_once(source: str) -> bool:
+# What stands before the path of a source.
+FORM = re.compile(r"(?:at:\d+|range:\d+|slice:\d+:\d+|cat):")
+
+
+class Source(NamedTuple):
+    """A source: its form, its offset and its length in the file if the form has them, and its path from the root on."""
+
+    form: str
+    numbers: str
+    path: str
+
+    def word(self) -> str:
+        """The word that names it from any folder."""
+        return ":".join(part for part in self if part)
+
+    def offset(self) -> int | None:
+        """The offset of its first byte in the recording, in bytes; a catalogue has none."""
+        return int(self.numbers.split(":")[0]) if self.numbers else None
+
+
+def source_of(word: str) -> Source:
+    """The source that a word names, whose path has to be UTF-8."""
+    form, _, rest = word.partition(":")
+    *numbers, named = rest.split(":", FORMS.get(form, 0))
+    are_digits = all(number.isascii() and number.isdigit() for number in numbers)
+    if not named or len(numbers) != FORMS.get(form) or not are_digits:
+        raise OwnFault(USAGE, f"bad source: {word}")
+    path = os.path.abspath(named)
+    if path != os.fsencode(path).decode("utf-8", "replace"):
+        raise OwnFault(USAGE, f"bad source: {word}: its folder isn't UTF-8")
+    return Source(form, ":".join(numbers), path)
+
+
+class Sources(NamedTuple):
+    """The words that name sources, and those of a list, which come after them. The list is handed in by standard input."""
+
+    words: Sequence[str]
+    listed: Sequence[str] | None = None
+
+    def each(self) -> list[str]:
+        """Each source by itself, in the order of their numbers."""
+        return [*self.words, *(self.listed or [])]
+
+    def handed(self) -> list[str]:
+        """The words by which mxf_tool is told of them."""
+        return [*(["--sources", "-"] if self.listed is not None else []), *self.words]
+
+    def given(self) -> bytes:
+        """The list that is handed in."""
+        return b"".join(os.fsencode(word) + b"\n" for word in self.listed or [])
+
+
+def is_read_once(word: str) -> bool:
     """Whether what a source names can be read only once, as a pipe can, or is what a program itself has open, which is
     another file in the programs that are asked."""
-    path = re.sub(r"^(?:at:\d+|range:\d+|slice:\d+:\d+|cat):", "", source)
+    path = os.path.abspath(FORM.sub("", word, count=1))
     if path.startswith(("/dev/std", "/dev/fd/", "/proc/")):
         return True
     try:
@@ -25,37 +77,24 @@ def is_read_once(source: str) -> bool:
     return not (stat.S_ISREG(mode) or stat.S_ISDIR(mode) or stat.S_ISBLK(mode))
 
 
-def read_input() -> bytes:
-    """The bytes of standard input, which may be closed."""
+def check_read_often(words: Sequence[str]) -> None:
+    """Sees that each source can be read more than once."""
+    for word in words:
+        if is_read_once(word):
+            raise OwnFault(USAGE, f"bad source: {word}: name a file, for it is read more than once")
+
+
+def sources_of(words: Sequence[str], path: str | None) -> Sources:
+    """The sources that the words and the list at a path name, each of which can be read more than once."""
+    sources = Sources(words, lines_of_list(path) if path is not None else None)
+    check_read_often(sources.each())
+    return sources
+
+
+def lines_of_list(path: str) -> list[str]:
+    """The lines of a list that have words; - is standard input. Bytes that aren't UTF-8 stand as in the words of a call."""
     try:
-        with open(0, "rb", closefd=False) as given:
-            return given.read()
+        with open(0 if path == "-" else path, "rb", closefd=path != "-") as file:
+            return [os.fsdecode(line) for line in file.read().split(b"\n") if line]
     except OSError as fault:
-        raise OwnFault(READ, f"read fault: -: {fault.strerror}") from fault
-
-
-def sources_of(words: Words) -> Sources:
-    """The sources that the words and the list name. A list that can be read only once is handed on. Those of the list come
-    after those of the words, and an empty line of it is none."""
-    named, text = list(words.source), b""
-    listed: bytes | None = None
-    if words.sources == "-":
-        listed = text = read_input()
-    elif words.sources is not None:
-        with contextlib.suppress(OSError):
-            text = pathlib.Path(words.sources).read_bytes()
-        listed = text if is_read_once(words.sources) else None
-    if words.sources is not None:
-        named += ["--sources", words.sources if listed is None else "-"]
-    lines = text.decode("utf-8", "replace").split("\n")
-    once = next((source for source in words.source + words.against + lines if is_read_once(source)), None)
-    if once:
-        raise OwnFault(USAGE, f"bad source: {once}: name a file, for it is read more than once")
-    each = [os.fsencode(word).decode("utf-8", "replace") for word in words.source]
-    return Sources(named, listed, each + [line for line in lines if line])
-
-
-def is_skim(words: Words, sources: Sources) -> bool:
-    """Whether essence is passed over: it is if no word asks for a reading. In catalogues alone there is none."""
-    has_essence = any(not source.startswith("cat:") for source in sources.each)
-    return has_essence and (words.skim or not (words.read or words.against))
+        raise OwnFault(READ, f"read fault: {path}: {fault.strerror}") from fault

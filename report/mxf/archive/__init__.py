@@ -1,0 +1,1 @@
+"""The database of an archive of recordings. The program stands in ../../mxf_archive."""

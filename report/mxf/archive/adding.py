@@ -1,0 +1,166 @@
+"""The commands that ask mxf_tool of recordings."""
+from __future__ import annotations
+
+import concurrent.futures
+import contextlib
+import itertools
+import os
+import sys
+import time
+from collections.abc import Iterable, Iterator
+
+from mxf.archive import database, lists, origins, printing, storing
+from mxf.archive.gathering import Gathering, Named
+from mxf.archive.rows import Recording, recordings_of
+from mxf.archive.words import Words
+from mxf.calling import Tool
+from mxf.faults import NO_PROGRAM, USAGE, OwnFault, ToolFault, tell, tell_own
+from mxf.lines import Line
+from mxf.sources import check_read_often
+
+WAITING = 2  # recordings that are asked for ahead of each that is kept
+OFTEN = 0.5  # seconds after which signals are looked for: one that comes just ahead of a wait doesn't end that
+
+
+def named_by(words: Words) -> Named:
+    """The recording that the words of add and lines name."""
+    sources = origins.named_sources(words.source, words.sources)
+    if not sources.each() and words.catalogue is None:
+        raise OwnFault(USAGE, "no source is named")
+    if words.catalogue is not None:
+        check_read_often([f"cat:{os.path.abspath(words.catalogue)}"])
+    return Named(words.name, sources, words.catalogue, words.skim)
+
+
+def gathered(tool: Tool, named: Named, is_beside: bool) -> list[Line]:
+    """The lines of a recording, as mxf_tool tells it."""
+    return Gathering(tool, named, is_beside).gather()
+
+
+def recording_of(tool: Tool, lines: list[Line]) -> Recording:
+    """The recording of these lines."""
+    try:
+        (recording,) = recordings_of(lines, tool.program)
+    except OwnFault as fault:
+        raise OwnFault(NO_PROGRAM, f"{tool.program} prints lines that mxf_archive doesn't know") from fault
+    return recording
+
+
+def keep(writer: database.Writer, tool: Tool, recording: Recording) -> None:
+    """Puts a recording into the database, and says so."""
+    with writer.transaction() as connection, storing.bad_values(
+        f"{tool.program} prints a value that is none", NO_PROGRAM
+    ):
+        was_known = storing.store(connection, recording)
+    print("replaced" if was_known else "added", printing.cell(recording.name))
+
+
+def add(words: Words) -> int:
+    """Puts recordings into the database. All is asked of a recording before that is written to."""
+    if words.listed is not None:
+        return add_list(words.listed, words)
+    named = named_by(words)
+    database.check_place(words.database)
+    tool = Tool()
+    recording = recording_of(tool, gathered(tool, named, is_beside=True))
+    with database.writer(words.database, is_new=True) as writer:
+        keep(writer, tool, recording)
+    return 0
+
+
+def lines(words: Words) -> int:
+    """Prints the lines of a recording, which load takes."""
+    printing.print_objects(gathered(Tool(), named_by(words), is_beside=True))
+    return 0
+
+
+def add_list(path: str, words: Words) -> int:
+    """Puts the recordings of a list into the database, each by itself. Those of which something fails are told at the end."""
+    recordings = lists.recordings_in(path, words.skim)
+    database.check_place(words.database)
+    tool = Tool(is_silent=True)
+    tool.version()
+    failed: dict[str, str] = {}
+    progress = Progress(len(recordings))
+    try:
+        with database.writer(words.database, is_new=True) as writer, jobs_of(tool, recordings, words.jobs) as done:
+            for named, job in done:
+                progress.clear()
+                try:
+                    keep(writer, tool, recording_of(tool, job.result()))
+                except (ToolFault, OwnFault, OSError) as fault:
+                    # Where the database or the answer can't be written, no other recording can be kept either.
+                    if not job.exception() and not (isinstance(fault, OwnFault) and fault.status == NO_PROGRAM):
+                        raise
+                    failed[named.name] = cause_of(fault)
+                progress.tell(len(failed))
+    finally:
+        progress.end()
+        for named in recordings:
+            if named.name in failed:
+                tell_own(f"{printing.cell(named.name)}: {failed[named.name]}")
+    return 1 if failed else 0
+
+
+def cause_of(fault: ToolFault | OwnFault | OSError) -> str:
+    """What is said of a fault, in a line."""
+    if isinstance(fault, ToolFault):
+        return printing.shown(fault.last_line()) or f"mxf_tool ended with status {fault.status}"
+    return str(fault)
+
+
+Job = tuple[Named, "concurrent.futures.Future[list[Line]]"]
+
+
+@contextlib.contextmanager
+def jobs_of(tool: Tool, recordings: Iterable[Named], count: int) -> Iterator[Iterator[Job]]:
+    """The recordings as they are asked for, so many side by side. If the block ends before they do, their calls end."""
+    with concurrent.futures.ThreadPoolExecutor(count) as threads:
+        try:
+            yield done_of(tool, threads, iter(recordings), WAITING * count)
+        except BaseException:
+            threads.shutdown(wait=False, cancel_futures=True)
+            tool.stop()
+            raise
+
+
+def done_of(
+    tool: Tool, threads: concurrent.futures.Executor, recordings: Iterator[Named], most: int
+) -> Iterator[Job]:  # fmt: skip
+    """Each recording as soon as all is asked of it. So many are asked for ahead at most."""
+    waiting: dict[concurrent.futures.Future[list[Line]], Named] = {}
+    while True:
+        for named in itertools.islice(recordings, most - len(waiting)):
+            waiting[threads.submit(gathered, tool, named, is_beside=False)] = named
+        if not waiting:
+            return
+        for job in concurrent.futures.wait(waiting, OFTEN, concurrent.futures.FIRST_COMPLETED).done:
+            yield waiting.pop(job), job
+
+
+class Progress:
+    """How many recordings are done, for a terminal alone."""
+
+    SECONDS = 0.1  # between two lines
+
+    def __init__(self, count: int) -> None:
+        self.count, self.done, self.told = count, 0, 0.0
+        self.is_shown = sys.stderr.isatty()
+
+    def tell(self, failed: int) -> None:
+        """Says that one more is done, and how many failed."""
+        self.done += 1
+        now = time.monotonic()
+        if self.is_shown and (now - self.told > self.SECONDS or self.done == self.count):
+            self.told = now
+            tell(f"\r{self.done} of {self.count} recordings{f', {failed} failed' if failed else ''}\033[K".encode())
+
+    def clear(self) -> None:
+        """Makes room for a line of the answer."""
+        if self.is_shown and sys.stdout.isatty():
+            tell(b"\r\033[K")
+
+    def end(self) -> None:
+        """Ends the line."""
+        if self.is_shown and self.told:
+            tell(b"\n")

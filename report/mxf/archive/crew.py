@@ -1,0 +1,81 @@
+"""Work on several recordings side by side, whose calls of programs end if this one is ended."""
+from __future__ import annotations
+
+import itertools
+import subprocess
+from collections.abc import Callable, Generator, Iterable, Sequence
+from concurrent.futures import FIRST_COMPLETED, Future, ThreadPoolExecutor, wait
+from typing import IO, NamedTuple, TypeVar
+
+from mxf.archive.adding import OFTEN, WAITING
+from mxf.calling import Call, Tool
+from mxf.faults import NO_PROGRAM, OwnFault, ToolFault
+
+Item = TypeVar("Item")
+Answer = TypeVar("Answer")
+
+
+class Ended(NamedTuple):
+    """A call that has ended: its status, what it printed, and what it said of faults."""
+
+    status: int
+    printed: bytes
+    said: bytes
+
+    def cause(self) -> str:
+        """The last line that it said of faults."""
+        return ToolFault(self.status, self.said).last_line()
+
+    def checked(self) -> Ended:
+        """The call, which has to have ended with status 0 or 1."""
+        if self.status not in (0, 1):
+            raise ToolFault(self.status if self.status > 0 else 128 - self.status, self.said)
+        return self
+
+
+class PassingCall(Call):
+    """A call of a program that has further files open."""
+
+    passed: Sequence[int] = ()
+
+    def started(self, given: IO[bytes]) -> subprocess.Popen[bytes]:
+        """The program, which reads this file."""
+        pipe = subprocess.PIPE
+        try:
+            return subprocess.Popen(self.words, stdin=given, stdout=pipe, stderr=self.faults, pass_fds=self.passed)
+        except OSError as fault:
+            raise OwnFault(NO_PROGRAM, f"{self.words[0]} can't be run: {fault.strerror}") from fault
+
+
+class Crew:
+    """Threads that call mxf_tool and other programs."""
+
+    def __init__(self, jobs: int) -> None:
+        self.jobs = jobs
+        self.tool = Tool(is_silent=True)
+
+    def call(self, words: Sequence[str], given: str = "", passed: Sequence[int] = ()) -> Ended:
+        """Calls a program, which reads what is given, and has these files open."""
+        call = PassingCall(words, given.encode())
+        call.passed = passed
+        with self.tool.begun(call):
+            printed = b"".join(text + b"\n" for text in call.texts())
+        return Ended(call.status, printed, call.said)
+
+    def each(
+        self, work: Callable[[Item], Answer], items: Iterable[Item]
+    ) -> Generator[tuple[Item, Future[Answer]], None, None]:
+        """The items, each when the work on it is done, whatever comes of it. Few of them are under way at once."""
+        rest = iter(items)
+        with ThreadPoolExecutor(self.jobs) as threads:
+            try:
+                begun = {threads.submit(work, item): item for item in itertools.islice(rest, WAITING * self.jobs)}
+                while begun:
+                    for future in wait(begun, OFTEN, FIRST_COMPLETED).done:
+                        item = begun.pop(future)
+                        begun.update((threads.submit(work, one), one) for one in itertools.islice(rest, 1))
+                        yield item, future
+            except BaseException:
+                threads.shutdown(wait=False, cancel_futures=True)
+                self.tool.stop()
+                raise

@@ -1,0 +1,199 @@
+"""What mxf_tool says of a recording, as lines of JSON: those of one `add`, which can be written to a file and loaded.
+
+The first line names the recording; a line for each source comes after it. Then a line `asked` names a command, and its
+lines follow. The last line says how many there are, so a part of them is no recording.
+"""
+from __future__ import annotations
+
+import contextlib
+import os
+import tempfile
+from collections.abc import Iterable
+from typing import NamedTuple
+
+from mxf import moments
+from mxf.archive.origins import is_identifier, origin_of
+from mxf.calling import Call, Keeps, Tool
+from mxf.faults import ToolFault
+from mxf.files import sha256_of
+from mxf.lines import Line, take_lines
+from mxf.packages import Packages
+from mxf.sources import Source, Sources, source_of
+
+FORMAT = 1  # of these lines
+INDEXES = 16  # of which edit units are counted
+UNITS = 1_000_000  # that mxf_tool reports in one call
+SMALL = 1 << 24  # bytes of a catalogue that several calls may hold at once
+
+# What is asked of a recording first, in this order.
+COMMANDS = ("show", "describe", "check", "plan", "map")
+
+# Lines of `show` of which few are kept: packets in dispute, and identifiers.
+NOTE = b'{"line":"note"'
+PASSED = (b'{"line":"item"', b'{"line":"piece"')
+DISPUTED = b'"disputed":true'
+
+# Why mxf_tool doesn't count edit units.
+TOO_MANY, NO_LAST = "too many units", "no last unit"
+
+
+class Named(NamedTuple):
+    """A recording by its words: its name, its sources, a catalogue that is asked in their place, and whether essence is
+    passed over."""
+
+    name: str
+    sources: Sources
+    catalogue: str | None = None
+    is_skim: bool = False
+
+    def asked(self) -> Sources | None:
+        """The sources that are asked as they are named: a catalogue, ranges, which tell themselves which bytes are at hand,
+        or those of a skim, which reads little. All others are joined first."""
+        forms = [source_of(word).form for word in self.sources.each()]
+        if "range" in forms:
+            return self.sources
+        if self.catalogue is not None:
+            return Sources([source_of(f"cat:{self.catalogue}").word()])
+        return self.sources if self.is_skim or forms == ["cat"] else None
+
+    def origins(self) -> list[Line]:
+        """A line for each source, and for the catalogue."""
+        lines = [origin_of(number, source_of(word)) for number, word in enumerate(self.sources.each(), 1)]
+        if self.catalogue is not None:
+            lines.insert(0, origin_of(0, source_of(f"cat:{self.catalogue}")))
+        return lines
+
+
+class Gathering:
+    """The lines of a recording, as they come. Files are looked at before they are read. If calls may go side by side, a
+    small catalogue is asked by all at once."""
+
+    def __init__(self, tool: Tool, named: Named, is_beside: bool) -> None:
+        self.tool, self.named, self.is_beside = tool, named, is_beside
+        self.gathered = moments.fine_text_of(moments.now())
+        self.origins = named.origins()
+        self.lines: list[Line] = []
+        self.opened = contextlib.ExitStack()
+
+    def gather(self) -> list[Line]:
+        """All lines of the recording, in the order in which a reader needs them."""
+        first = {"format": FORMAT, "name": self.named.name, "gathered": self.gathered, "program": self.tool.version()}
+        self.lines += [{"line": "recording", **first, "skim": self.named.is_skim}, *self.origins]
+        with self.opened:
+            sources = self.named.asked() or self.joined()
+            self.is_beside = self.is_beside and is_small_catalogue(sources)
+            calls = self.begun(
+                [self.tool.call([command, *self.skimming()], sources, not self.is_beside) for command in COMMANDS]
+            )
+            for line in self.origins:
+                if line["form"] == "cat":
+                    line["sha256"] = sha256_of(line["path"])
+            self.add_show(calls[0])
+            units = {index_sid: self.tool.call(self.units_words(index_sid), sources) for index_sid in self.indexes()}
+            self.begun([*units.values()][:1])
+            for command, call in zip(COMMANDS[1:], calls[1:]):
+                self.lines.append({"line": "asked", "command": command})
+                self.lines += self.tool.lines_of(call, without(b'{"line":"row"'))
+            for index_sid, call in units.items():
+                self.lines.append({"line": "asked", "command": "units", "index-sid": index_sid})
+                self.lines.append(self.units_of(index_sid, call, sources))
+        self.lines.append({"line": "recorded", "name": self.named.name, "lines": len(self.lines) + 1})
+        return self.lines
+
+    def begun(self, calls: list[Call]) -> list[Call]:
+        """Calls, which begin if they may go side by side. They are over at the latest when all is gathered."""
+        for call in calls if self.is_beside else ():
+            self.opened.enter_context(call).begin()
+        return calls
+
+    def joined(self) -> Sources:
+        """The catalogue that the sources are joined to, so that they are read once. Which of them is damaged it doesn't
+        tell, so that is asked for if the join says that there may be one."""
+        folder = self.opened.enter_context(tempfile.TemporaryDirectory(prefix="mxf_archive."))
+        joined = os.path.join(folder, "joined")
+        join = self.tool.call(["join", "--strict", "--out", joined], self.named.sources)
+        list(self.tool.lines_of(join))
+        if join.status == 1:
+            self.lines.append({"line": "asked", "command": "check"})
+            self.lines += [line for line in self.tool.ask(["check"], self.named.sources) if line["line"] == "stop"]
+        return Sources([Source("cat", "", joined).word()])
+
+    def skimming(self) -> list[str]:
+        """The option that passes over essence, if it is meant."""
+        return ["--skim"] if self.named.is_skim else []
+
+    def add_show(self, call: Call) -> None:
+        """Adds what show says, with the number of packets in place of those that aren't in dispute. Of items identifiers
+        are kept."""
+        packets = 0
+
+        def keeps(block: bytes) -> list[bytes]:
+            """The lines that are kept. All packets are counted."""
+            nonlocal packets
+            packets += block.count(NOTE)
+            return [
+                text for text in block.splitlines() if (DISPUTED in text if text.startswith(NOTE) else is_told(text))
+            ]
+
+        said = list(self.tool.lines_of(call, keeps))
+        self.lines += [{"line": "asked", "command": "show"}, {"line": "packets", "packets": packets}, *said]
+
+    def indexes(self) -> list[int]:
+        """The indexes of which segments are held, the first of them."""
+        return sorted({line["index-sid"] for line in self.lines if line["line"] == "segment"})[:INDEXES]
+
+    def units_words(self, index_sid: int, *span: str) -> list[str]:
+        """The words that ask how many edit units of an index are held."""
+        return ["units", "--index", str(index_sid), *span, *self.skimming()]
+
+    def units_of(self, index_sid: int, call: Call, sources: Sources) -> Line:
+        """The last line of units, or why there is none. If the index doesn't say its last unit, the header metadata
+        may."""
+        said = self.counted(call)
+        if said["line"] != "uncounted" or said["said"] != NO_LAST:
+            return said
+        last = last_unit(self.lines, index_sid)
+        if last is None or last >= UNITS:
+            return said if last is None else uncounted(TOO_MANY)
+        return self.counted(self.tool.call(self.units_words(index_sid, "--from", "0", "--to", str(last)), sources))
+
+    def counted(self, call: Call) -> Line:
+        """The last line of a call of units, or why there is none."""
+        try:
+            return list(self.tool.lines_of(call, without(b'{"line":"unit"')))[-1]
+        except ToolFault as fault:
+            if fault.last_line() in (TOO_MANY, NO_LAST):
+                return uncounted(fault.last_line())
+            raise
+
+
+def without(beginning: bytes) -> Keeps:
+    """What keeps the lines that don't begin so."""
+    return lambda block: [text for text in block.splitlines() if not text.startswith(beginning)]
+
+
+def is_told(text: bytes) -> bool:
+    """Whether a line of `show` that is no packet is kept."""
+    return not text.startswith(PASSED) or is_identifier(text)
+
+
+def last_unit(lines: Iterable[Line], index_sid: int) -> int | None:
+    """The last edit unit of an index by what `describe` says among these lines."""
+    packages = Packages()
+    described, command = [], None
+    for line in lines:
+        command = line["command"] if line["line"] == "asked" else command
+        described += [line] if command == "describe" else []
+    take_lines(described, packages.takers())
+    return packages.last_unit(index_sid)
+
+
+def is_small_catalogue(sources: Sources) -> bool:
+    """Whether the sources are one catalogue of which several calls may hold all at once."""
+    (*others, last) = sources.each()
+    return not others and last.startswith("cat:") and os.path.getsize(source_of(last).path) <= SMALL
+
+
+def uncounted(said: str) -> Line:
+    """The line that says why edit units aren't counted."""
+    return {"line": "uncounted", "said": said}

@@ -1,0 +1,110 @@
+"""The words of the command, and its run."""
+from __future__ import annotations
+
+import argparse
+import os
+import pathlib
+import re
+
+from mxf.faults import OUTPUT, USAGE, OwnFault
+from mxf.files import check_place, write_whole
+from mxf.report.asked import Words
+from mxf.report.asking import Asking, is_skim
+from mxf.report.database_page import page_of_database
+from mxf.report.recording_page import page_of_recording
+from mxf.running import end_by_signals, status_of
+from mxf.sources import check_read_often, sources_of
+from mxf.timecodes import is_timecode
+
+
+def digits(text: str) -> str:
+    """A number of digits alone."""
+    if not re.fullmatch(r"[0-9]+", text):
+        raise argparse.ArgumentTypeError("a number has digits alone")
+    return text
+
+
+def edit_unit(text: str) -> str:
+    """A number of digits alone, or a timecode."""
+    if not re.fullmatch(r"[0-9]+", text) and not is_timecode(text):
+        raise argparse.ArgumentTypeError("an edit unit is a number of digits alone, or a timecode HH:MM:SS:FF")
+    return text
+
+
+DESCRIPTION = "Writes a page of a recording for people to look at, of what mxf_tool says."
+
+EPILOG = (
+    "A source SRC is at:OFFSET:PATH, range:OFFSET:PATH, slice:OFFSET:LENGTH:PATH or cat:PATH, as of mxf_tool. "
+    "MXF_TOOL names another program."
+)
+
+
+def parser() -> argparse.ArgumentParser:
+    """The words that are understood."""
+    words = argparse.ArgumentParser(prog="mxf_report", allow_abbrev=False, description=DESCRIPTION, epilog=EPILOG)
+    words.add_argument("--out", metavar="PAGE", required=True, help="the page, which is written whole or not at all")
+    words.add_argument("--title", metavar="TEXT", help="its heading; else the name of the first source")
+    words.add_argument("--index", metavar="N", type=digits, help="the index of the edit units; else all, four at most")
+    words.add_argument("--from", dest="first", metavar="N", type=edit_unit, help="the first edit unit, or its timecode")
+    words.add_argument("--to", dest="last", metavar="N", type=edit_unit, help="the last edit unit, or its timecode")
+    words.add_argument(
+        "--against", metavar="SOURCE", action="append", default=[], help="what the sources are compared with"
+    )
+    essence = words.add_mutually_exclusive_group()
+    essence.add_argument("--read", action="store_true", help="read essence too; without it --against alone does")
+    essence.add_argument("--skim", action="store_true", help="pass over essence, which the page then says; the default")
+    words.add_argument("--sources", metavar="FILE", help="a list of sources, one a line; - is standard input")
+    words.add_argument("--archive", metavar="DB", help="a page of many recordings, of a database of mxf_archive")
+    words.add_argument("source", metavar="SRC", nargs="*", help="a source")
+    return words
+
+
+def is_replaceable(path: pathlib.Path) -> bool:
+    """Whether a page may take the place of what is there: nothing, an empty file or a page."""
+    if not path.exists():
+        return True
+    if not path.is_file():
+        return False
+    with open(path, "rb") as file:
+        return file.read(15).upper() in (b"", b"<!DOCTYPE HTML>")
+
+
+def write_report(words: Words) -> int:
+    """Makes the page and writes it; the status."""
+    path = pathlib.Path(os.path.realpath(words.out))
+    try:
+        if not is_replaceable(path):
+            raise OwnFault(USAGE, f"bad output: {words.out}: it is there, and is no page")
+        check_place(path)
+        if words.archive is not None:
+            text = page_of_database(words.archive, words)
+        else:
+            sources = sources_of(words.source, words.sources)
+            check_read_often(words.against)
+            text = page_of_recording(Asking(sources, is_skim(words, sources)), words)
+        write_whole(path, text.encode("utf-8", "replace"))
+    except OSError as fault:
+        raise OwnFault(OUTPUT, f"write fault: {words.out}: {fault.strerror}") from fault
+    return 0
+
+
+def check_words(accepted: argparse.ArgumentParser, words: Words) -> None:
+    """Sees that sources are named, or a database of many recordings and nothing that a page of these doesn't take."""
+    is_of_many = words.archive is not None
+    if not is_of_many and not words.source and words.sources is None:
+        accepted.error("no source is named")
+    others = (words.sources, words.index, words.first, words.last)
+    if is_of_many and (words.source or words.against or any(other is not None for other in others)):
+        accepted.error("--archive takes no sources and no edit units")
+    if is_of_many and (words.read or words.skim):
+        accepted.error("--archive reads no recording, so it takes no --read and no --skim")
+
+
+def main() -> int:
+    """Runs the program, and answers its status."""
+    accepted = parser()
+    words = Words()
+    accepted.parse_intermixed_args(namespace=words)
+    check_words(accepted, words)
+    end_by_signals()
+    return status_of(lambda: write_report(words))

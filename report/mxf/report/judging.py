@@ -1,0 +1,92 @@
+"""The verdict of one recording."""
+from __future__ import annotations
+
+from collections.abc import Iterator
+
+from mxf.report.facts import Facts
+from mxf.lines import end_of_packet
+from mxf.report.verdicts import OF_RECORDING, Verdict, first_of
+from mxf.standing import is_lacking
+from mxf.report.verified import Verified
+from mxf.report.wording import are_text, bytes_text, count_text
+
+
+def has_nothing(facts: Facts) -> bool:
+    """Whether the sources have no packet of a recording, and no bytes at hand."""
+    return not facts.shown.notes() and not facts.mapped.numbers["hand"]
+
+
+def differs_of(facts: Facts) -> int:
+    """How many packets differ from the reference, if one was named."""
+    return facts.verified[0].numbers["differs"] if facts.verified else 0
+
+
+def advice_of(verified: Verified) -> str:
+    """What to do about the packets that differ from the reference."""
+    if not verified.numbers["packets"]:
+        return "see first whether an OFFSET is wrong"
+    if verified.is_all_there():
+        return "another source has what differs as it says, so take that from there"
+    if verified.numbers["differs"] > 1:
+        return f"restore the {verified.numbers['differs']} packets below again"
+    packet = verified.differs.kept[0]
+    return f"restore the bytes from {packet['offset']} up to {end_of_packet(packet)} again"
+
+
+def doubts_of(facts: Facts) -> list[str]:
+    """Why not all is as the reference says, beside the packets that differ: nothing was compared, or not all."""
+    if not facts.verified:
+        return []
+    one = facts.verified[0]
+    lacking = one.unverified_bytes
+    doubts = [] if one.numbers["packets"] else ["no packet is as the reference says"]
+    doubts += [f"of the reference {are_text(lacking, 'byte')} not verified"] if lacking else []
+    doubts += [f"{count_text(one.halts, 'piece')} of the reference can't be read to the end"] if one.halts else []
+    return doubts
+
+
+def parts_of(facts: Facts) -> Iterator[str]:
+    """The parts of the sentence that the verdict is."""
+    numbers, planned, differs = facts.mapped.numbers, facts.planned.numbers, differs_of(facts)
+    held = f"{numbers['held']} of {bytes_text(numbers['end'])} are held"
+    yield "the sources have no packet of a recording" if has_nothing(facts) else held
+    if numbers["hand"]:
+        yield f"{numbers['hand']} more are at hand"
+    if numbers["disputed"]:
+        yield f"{are_text(numbers['disputed'], 'packet')} in dispute"
+    shifted = len(facts.checked.shifted())
+    if shifted:
+        yield f"{count_text(shifted, 'OFFSET is', 'OFFSETs are')} wrong by the partition packs"
+    if differs:
+        count = count_text(differs, "packet differs", "packets differ")
+        yield f"{count} from the reference: {advice_of(facts.verified[0])}"
+    doubts = doubts_of(facts)
+    yield from doubts
+    if facts.verified and facts.verified[0].numbers["unknown"]:
+        yield f"the reference says nothing of {bytes_text(facts.verified[0].numbers['unknown'])}"
+    damaged, found = facts.checked.damaged.count, facts.checked.count
+    if damaged:
+        yield f"{count_text(damaged, 'piece')} can't be read to the end"
+    findings = count_text(found, "thing is found wrong or missing", "things are found wrong or missing")
+    nothing = "nothing else" if damaged or differs or doubts else "nothing"
+    yield findings if found else f"{nothing} is found wrong"
+    orders = f"{are_text(planned['ranges'], 'other range' if differs else 'range')} to be restored"
+    yield orders if planned["ranges"] else "nothing else is ordered" if differs else "nothing is to be restored"
+    if planned["end"] is None:
+        yield "where the recording ends isn't known"
+
+
+def verdict_of(facts: Facts) -> Verdict:
+    """The verdict that the sentence begins with, one of OF_RECORDING."""
+    numbers, planned = facts.mapped.numbers, facts.planned.numbers
+    holds = (
+        has_nothing(facts),
+        numbers["disputed"],
+        differs_of(facts),
+        is_lacking(numbers["missing"], planned["ranges"]),
+        doubts_of(facts),
+        facts.checked.damaged.count,
+        facts.checked.count,
+        planned["end"] is None,
+    )
+    return first_of(OF_RECORDING, holds)

@@ -1,0 +1,74 @@
+"""What is found wrong and what is ordered, by what `check` and `plan` say."""
+from __future__ import annotations
+
+import re
+from collections.abc import Iterable
+
+from mxf.lines import (
+    DisputedPlaceLine, FindingLine, FindingsLine, Line, PlannedLine, RestoreLine, StopLine, UnitsLine, take_lines,
+)  # fmt: skip
+from mxf.report.rows import Rows
+from mxf.standing import is_damaged_at
+
+# The hint of a source whose partition packs all say that it begins elsewhere.
+SHIFTED = re.compile(r"(by its partition packs )(.*)( begins at \d+: OFFSET is \d+ too (?:high|low))")
+
+OFFSETS = 24  # of the findings of a code that are shown
+
+
+class Checked:
+    """What `check` says: which pieces are damaged, and of each code how often it is found, and its first offsets; and its
+    hints."""
+
+    def __init__(self, lines: Iterable[Line]) -> None:
+        self.count = 0
+        self.hints: list[str] = []
+        self.damaged: Rows[StopLine] = Rows()
+        self.codes: dict[str, Rows[FindingLine]] = {}
+        take_lines(lines, {
+            "stop": (StopLine, self.take_stop),
+            "finding": (FindingLine, self.take_finding),
+            "findings": (FindingsLine, self.take_findings),
+        })  # fmt: skip
+
+    def take_stop(self, line: StopLine) -> None:
+        """How a source ends."""
+        if is_damaged_at(line["stop"]):
+            self.damaged.add(line)
+
+    def take_finding(self, line: FindingLine) -> None:
+        """A finding."""
+        self.codes.setdefault(line["code"], Rows(OFFSETS)).add(line)
+
+    def take_findings(self, line: FindingsLine) -> None:
+        """How many findings there are."""
+        self.count = line["findings"]
+
+    def shifted(self) -> list[str]:
+        """The hints that say how a wrong OFFSET would be right."""
+        return [hint for hint in self.hints if SHIFTED.fullmatch(hint)]
+
+
+class Planned:
+    """What `plan` says: the orders, the places in dispute, and their numbers; of a plan for edit units also how many of
+    them there are, unless their timecodes aren't known yet."""
+
+    def __init__(self, lines: Iterable[Line]) -> None:
+        self.orders: Rows[RestoreLine] = Rows()
+        self.disputed: Rows[DisputedPlaceLine] = Rows()
+        self.units: UnitsLine | None = None
+        self.numbers: PlannedLine = {"ranges": 0, "bytes": 0, "open": 0, "end": None}
+        take_lines(lines, {
+            "restore": (RestoreLine, self.orders.add),
+            "disputed": (DisputedPlaceLine, self.disputed.add),
+            "planned": (PlannedLine, self.take_planned),
+            "units": (UnitsLine, self.take_units),
+        })  # fmt: skip
+
+    def take_planned(self, line: PlannedLine) -> None:
+        """The numbers."""
+        self.numbers = line
+
+    def take_units(self, line: UnitsLine) -> None:
+        """How many edit units there are."""
+        self.units = line

@@ -1,0 +1,178 @@
+"""What is held of a recording, by what `map` and `show` say."""
+from __future__ import annotations
+
+import array
+import bisect
+import collections
+from collections.abc import Iterable, Sequence
+from typing import NamedTuple
+
+from mxf.lines import (
+    AnyLine, ChainLine, CopyLine, ExtentLine, Line, MapLine, NoteLine, PartitionLine, PieceLine, PreferredLine, RangeLine,
+    ReferenceLine, RipEntryLine, RipLine, RowLine, SegmentLine, Takers, end_of_packet, take_lines,
+)  # fmt: skip
+from mxf.report.bounds import NAMES, NODES
+from mxf.report.rows import Rows
+
+# The lines that say what the set of an identification or of a package says.
+DETAILS = (
+    "generation", "company", "product", "version", "product-uid", "modified",
+    "kind", "package-uid", "name", "created", "tracks", "descriptor",
+)  # fmt: skip
+
+
+class Mapped:
+    """What `map` says: its numbers, the characters of its cells, and from where to where bytes stand alike."""
+
+    def __init__(self, lines: Iterable[Line]) -> None:
+        self.numbers: MapLine = {"end": 0, "held": 0, "hand": 0, "missing": 0, "gaps": 0, "disputed": 0, "cell": 1}
+        self.cells = ""
+        self.extents: Rows[ExtentLine] = Rows()
+        takers = {
+            "map": (MapLine, self.take_map),
+            "row": (RowLine, self.take_row),
+            "extent": (ExtentLine, self.extents.add),
+        }
+        take_lines(lines, takers)
+
+    def take_map(self, line: MapLine) -> None:
+        """The numbers."""
+        self.numbers = line
+
+    def take_row(self, line: RowLine) -> None:
+        """Some cells."""
+        self.cells += line["cells"]
+
+    def end_of(self, cell: int) -> int:
+        """The offset after the last byte before a cell."""
+        return min(cell * self.numbers["cell"], self.numbers["end"])
+
+
+class Readings:
+    """Readings of packets that are in dispute: the first as rows, and the offsets of all. Those of one offset follow one
+    another."""
+
+    def __init__(self) -> None:
+        self.rows: Rows[NoteLine] = Rows()
+        self.offsets = array.array("Q")
+
+    def add(self, line: NoteLine) -> None:
+        """Adds a reading."""
+        self.rows.add(line)
+        if not self.offsets or self.offsets[-1] != line["offset"]:
+            self.offsets.append(line["offset"])
+
+
+class Record(NamedTuple):
+    """A reference to the set of an identification or of a package, and the lines of what the set says, by their names."""
+
+    reference: ReferenceLine
+    details: dict[str, Line]
+
+
+class Shown:
+    """What `show` says: first rows and numbers. Packets are counted and not kept."""
+
+    def __init__(self, lines: Iterable[Line], cell: int) -> None:
+        self.cell = cell
+        self.kinds: dict[str, int] = collections.Counter()
+        self.heads = self.cut_heads = 0
+        self.values = array.array("Q")  # where the values of heads would begin
+        self.readings = Readings()
+        self.end = 0
+        self.pieces: Rows[PieceLine] = Rows()
+        self.copies: Rows[CopyLine] = Rows()
+        self.entries: Rows[RipEntryLine] = Rows()
+        self.records: Rows[Record] = Rows()
+        self.record: Record | None = None
+        self.partitions: Rows[PartitionLine] = Rows()
+        self.last: collections.deque[PartitionLine] = collections.deque(maxlen=NODES // 2)
+        self.offsets: set[int] = set()
+        self.begins: dict[int, Rows[str]] = collections.defaultdict(lambda: Rows(NAMES))
+        self.chain = "broken"
+        self.preferred: int | None = None
+        self.rip: RipLine = {"standing": "none"}
+        self.index_sids: set[int] = set()
+        take_lines(lines, self.takers())
+
+    def takers(self) -> Takers:
+        """What takes the lines, by their names."""
+        return {
+            **{name: (AnyLine, self.take_detail) for name in DETAILS},
+            "piece": (PieceLine, self.pieces.add),
+            "note": (NoteLine, self.take_note),
+            "gap": (RangeLine, self.take_gap),
+            "partition": (PartitionLine, self.take_partition),
+            "chain": (ChainLine, self.take_chain),
+            "copy": (CopyLine, self.copies.add),
+            "preferred": (PreferredLine, self.take_preferred),
+            "identification": (ReferenceLine, self.take_reference),
+            "package": (ReferenceLine, self.take_reference),
+            "segment": (SegmentLine, self.take_segment),
+            "rip": (RipLine, self.take_rip),
+            "rip-entry": (RipEntryLine, self.take_rip_entry),
+        }
+
+    def take_note(self, line: NoteLine) -> None:
+        """A packet."""
+        self.kinds[line["kind"]] += 1
+        self.end = max(self.end, end_of_packet(line))
+        if line["head"]:
+            self.heads += 1
+            self.values.append(line["offset"] + 16 + line["width"])
+        if line["disputed"]:
+            self.readings.add(line)
+
+    def take_gap(self, line: RangeLine) -> None:
+        """A gap. A head before it isn't of a packet that was passed over, for then the value would be held."""
+        self.cut_heads += len(between(self.values, line["start"], line["start"] + 1))
+
+    def take_partition(self, line: PartitionLine) -> None:
+        """A partition."""
+        self.partitions.add(line)
+        self.last.append(line)
+        self.offsets.add(line["offset"])
+        self.begins[line["offset"] // self.cell].add(f"{line['part']} partition at {line['offset']}")
+
+    def take_chain(self, line: ChainLine) -> None:
+        """How the partitions hang together."""
+        self.chain = line["chain"]
+
+    def take_preferred(self, line: PreferredLine) -> None:
+        """The copy to take."""
+        self.preferred = line["partition"]
+
+    def take_reference(self, line: ReferenceLine) -> None:
+        """A reference to a set that says which program wrote the file, or to that of a package."""
+        self.record = Record(line, {})
+        self.records.add(self.record)
+
+    def take_detail(self, line: Line) -> None:
+        """What the set of the last reference says."""
+        if self.record:
+            self.record.details[line["line"]] = line
+
+    def take_segment(self, line: SegmentLine) -> None:
+        """An index table segment."""
+        self.index_sids.add(line["index-sid"])
+
+    def take_rip(self, line: RipLine) -> None:
+        """The random index pack."""
+        self.rip = line
+        if "offset" in line:
+            self.begins[line["offset"] // self.cell].add(f"random index pack at {line['offset']}")
+
+    def take_rip_entry(self, line: RipEntryLine) -> None:
+        """A partition that the random index pack names."""
+        self.entries.add(line)
+        if line["standing"] == "missing":
+            self.begins[line["offset"] // self.cell].add(f"place {line['offset']} that the random index pack names")
+
+    def notes(self) -> int:
+        """How many packets are held, heads among them."""
+        return sum(self.kinds.values())
+
+
+def between(offsets: Sequence[int], first: int, after: int) -> Sequence[int]:
+    """Those of rising offsets that lie from one up to another."""
+    return offsets[bisect.bisect_left(offsets, first) : bisect.bisect_left(offsets, after)]
