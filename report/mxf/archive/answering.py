@@ -81,8 +81,9 @@ SHOWN = {
 }
 
 ORDERS = """
-SELECT r.name AS recording, o.start, o."end", o.reason, o.is_inside, o.is_again
-FROM recordings r JOIN orders o ON o.recording = r.id WHERE r.is_missing = 1 ORDER BY r.name
+SELECT r.name AS recording, o.start, o."end", o.reason, o.is_inside, o.is_again, c.files
+FROM recordings r JOIN orders o ON o.recording = r.id LEFT JOIN scanned c ON c.name = r.name
+WHERE r.is_missing = 1 AND coalesce(c.is_gone, 0) = 0 ORDER BY r.name
 """
 
 Rows = list[tuple[Any, ...]]
@@ -137,6 +138,7 @@ class Stretch:
         self.reasons = {row["reason"]: None}
         self.form = "range" if row["is_inside"] else "at"
         self.is_again = bool(row["is_again"])
+        self.files = row["files"]
 
     def takes(self, order: Stretch, apart: int) -> bool:
         """Whether an order that doesn't begin ahead of it touches it, or lies less than so many bytes apart."""
@@ -152,10 +154,10 @@ class Stretch:
         """The name under which the folder of the recording takes what comes."""
         return f"{self.start}.{'range' if self.form == 'range' else 'piece'}"
 
-    def row(self, known: dict[str, scanned.Scanned]) -> tuple[Any, ...]:
+    def row(self) -> tuple[Any, ...]:
         """The row that is printed. A file that is there is never named: its bytes or its OFFSET may be wrong."""
         length = None if self.end is None else self.end - self.start
-        is_taken = self.recording in known and self.file() in known[self.recording].names()
+        is_taken = self.files is not None and self.file() in scanned.names_in(self.files)
         file, again = None if is_taken else self.file(), "again" if self.is_again else None
         return self.recording, self.start, self.end, length, ",".join(self.reasons), self.form, file, again
 
@@ -163,11 +165,8 @@ class Stretch:
 def ordered(connection: Connection, by: str, apart: int) -> Answer:
     """All orders, of which those of one recording are one that touch or lie less than so many bytes apart. A recording that
     was scanned and is gone has none."""
-    known = scanned.all_of(connection)
     stretches: list[Stretch] = []
     for order in sorted(map(Stretch, connection.execute(ORDERS)), key=lambda one: (one.recording, one.start)):
-        if order.recording in known and known[order.recording].is_gone:
-            continue
         if stretches and stretches[-1].takes(order, apart):
             stretches[-1].add(order)
         else:
@@ -175,4 +174,4 @@ def ordered(connection: Connection, by: str, apart: int) -> Answer:
     if by == "offset":
         stretches.sort(key=lambda one: (one.start, one.recording))
     heads = ["recording", "start", "end", "length", "reason", "form", "file", "again"]
-    return heads, [one.row(known) for one in stretches]
+    return heads, [one.row() for one in stretches]

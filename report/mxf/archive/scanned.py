@@ -24,13 +24,14 @@ class Scanned(NamedTuple):
         """The recording as a folder holds it."""
         return folders.Found(self.name, self.folder, [folders.File(*file) for file in json.loads(self.files)])
 
-    def names(self) -> set[str]:
-        """The names of its files that are pieces, ranges or catalogues in its folder."""
-        return {file.path.partition("/")[2] for file in self.found().files}
-
     def is_joined(self) -> bool:
         """Whether its last join brought a catalogue, and its lines were kept."""
         return self.status <= 1
+
+
+def names_in(files: str) -> set[str]:
+    """The names of files that are pieces, ranges or catalogues in the folder of a recording."""
+    return {folders.File(*file).path.partition("/")[2] for file in json.loads(files)}
 
 
 def scanned_of(found: folders.Found, status: int) -> Scanned:
