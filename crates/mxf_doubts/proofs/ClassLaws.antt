@@ -25,8 +25,11 @@ TakesNone class tag =
 
 not_taken : (class tag : ℕ) → is_taken class tag rows ≡ false → TakesNone class tag
 not_taken class tag f r i a b c d =
-    let t = (list_any-In (λ (r : Row). has_tag tag r && takes class r) rows).1 (r, i,
-    and_from _ _ (and_from _ _ (le-leb _ _ a) (le-leb _ _ b)) (and_from _ _ (le-leb _ _ c) (le-leb _ _ d))) in
+    let t = (list_any-In (λ (r : Row). has_tag tag r && takes class r) rows).1 (
+      r,
+      i,
+      and_from _ _ (and_from _ _ (le-leb _ _ a) (le-leb _ _ b)) (and_from _ _ (le-leb _ _ c) (le-leb _ _ d)),
+    ) in
     absurd (let e = sym f ∙ t in cc e)
 
 taken : (class tag : ℕ) → TakesNone class tag → is_taken class tag rows ≡ false
@@ -84,18 +87,22 @@ of_items n items made t =
     }
 
 to_items : (n : NoteParts) (m : IsMisfit n) → list_any (unfit n) m.items ≡ true
-to_items n m = (list_any-In (unfit n) m.items).1 (m.item, m.there, so_unfit (class_of n.key) m.item.tag
-    (so_known m.item.tag m.row m.one m.from m.to)
-    (λ c e. taken c m.item.tag (λ r i a b l h. m.none c r e i a b l h)))
+to_items n m = (list_any-In (unfit n) m.items).1 (
+  m.item,
+  m.there,
+  so_unfit (class_of n.key) m.item.tag
+      (so_known m.item.tag m.row m.one m.from m.to)
+      (λ c e. taken c m.item.tag (λ r i a b l h. m.none c r e i a b l h)),
+)
 
 pub misfit : (n : NoteParts) → AreBytes n.held → IsTrue (is_misfit n) ↔ IsMisfit n
 unfolding is_misfit
 misfit n b = (
   λ t. elim (set_items n) as (λ o. set_items n ≡ o
       → IsTrue (option_map_or (λ (items : List ItemParts). list_any (unfit n) items) o false) → IsMisfit n) [
-    | None ↦ λ e u. absurd cc
-    | Some items ↦ λ e u. of_items n items ((set_items_iff n (Some items) b).0 e) u
-  ] refl t,
+        | None ↦ λ e u. absurd cc
+        | Some items ↦ λ e u. of_items n items ((set_items_iff n (Some items) b).0 e) u
+      ] refl t,
   λ m.
       let e = (set_items_iff n (Some m.items) b).1 m.made in
       ap (λ (o : Option (List ItemParts)). option_map_or (λ (items : List ItemParts). list_any (unfit n) items) o false) e

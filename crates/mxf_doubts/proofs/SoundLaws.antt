@@ -125,7 +125,6 @@ are_reaches zones sorted reaches p up e = subst (λ (l : List Zone). AreReachesO
       same_begins offset 0 sorted ∙ sym (list_any-IsPermutation (λ (z : Zone). z.start == offset) zones sorted p);
 }
 
-
 -- ---- One search tells whether they do.
 
 place_of : (x : Zone) (xs : List Zone) → In x xs → (i : ℕ) × (i < length xs) × ((d : Zone) → get_or xs i d ≡ x)
@@ -166,8 +165,11 @@ last_below offset end zones k z p up l same =
     same_bool (nat_le end z.end) (lie_in offset end zones) (λ t.
     let start = p.below k z (omega arith) (omega arith) in
     let e = ap (λ (y : Zone). y.start) (same z) in
-    (list_any-In (has_all offset end) zones).1 (z, subst (λ (y : Zone). In y zones) (sym (same z)) (In-at zones k z l),
-    and_from _ _ (le-leb _ _ (omega (arith, start, e))) t)) (λ t.
+    (list_any-In (has_all offset end) zones).1 (
+      z,
+      subst (λ (y : Zone). In y zones) (sym (same z)) (In-at zones k z l),
+      and_from _ _ (le-leb _ _ (omega (arith, start, e))) t,
+    )) (λ t.
     let h = has_place offset end zones (suc k) p t in
     let m = up h.0 k z (omega (arith, h.1)) l in
     let e = ap (λ (y : Zone). y.end) (same z) in
@@ -186,9 +188,9 @@ in_filled offset end [] = refl
 in_filled offset end (c ∷ copies) = elim (filled_by c) as (λ o. lie_in offset end (cons_option o (filter_map filled_by copies))
     ≡ (option_map_or (has_all offset end) o false
     || list_any (λ (c : CopyInfo). option_map_or (has_all offset end) (filled_by c) false) copies)) [
-  | None ↦ in_filled offset end copies
-  | Some z ↦ ap (λ b. has_all offset end z || b) (in_filled offset end copies)
-]
+      | None ↦ in_filled offset end copies
+      | Some z ↦ ap (λ b. has_all offset end z || b) (in_filled offset end copies)
+    ]
 
 pub in_sound_zone : (notes : List NoteParts) (n : NoteParts) → IsContent notes
     → IsTrue (is_in_sound_zone notes n) ↔ IsInSoundZone notes n
@@ -207,8 +209,11 @@ in_sound_zone notes n content =
             before = f.1.3;
           },
       λ s.
-          same ∙ (list_any-In copied (copies_of notes)).1 (s.copy, (copies_are notes s.copy content).1 s.copied,
-          (filled n.offset (end_of n) s.copy).1 (s.finished, (s.start, s.begins, s.from, s.before))),
+          same ∙ (list_any-In copied (copies_of notes)).1 (
+            s.copy,
+            (copies_are notes s.copy content).1 s.copied,
+            (filled n.offset (end_of n) s.copy).1 (s.finished, (s.start, s.begins, s.from, s.before)),
+          ),
     )
 
 -- Whether a place stands among the starts is whether a zone begins there.
@@ -220,6 +225,7 @@ begins_there offset zones b s = same_bool b (begin_at offset zones)
     to_any : (zones : List Zone) → In offset (map (λ (z : Zone). z.start) zones) → begin_at offset zones ≡ true
     to_any [] i = absurd i
     to_any (z ∷ zones) i = grind (arith, eq-eqb, to_any zones)
+
     to_list : (zones : List Zone) → begin_at offset zones ≡ true → In offset (map (λ (z : Zone). z.start) zones)
     to_list [] t = absurd cc
     to_list (z ∷ zones) t = grind (arith, eqb-true, to_list zones)

@@ -99,11 +99,7 @@ fn class_of(key: &Ul) -> Option<u8>
     ensures { result ≡ class_of key.now }
 {
     let key = key.bytes();
-    if has_class(&key) {
-        Some(key[14])
-    } else {
-        None
-    }
+    if has_class(&key) { Some(key[14]) } else { None }
 }
 
 fn has_tag(tag: u16, row: &Row) -> bool

@@ -45,10 +45,12 @@ fn filled_by(copy: &CopyInfo) -> Option<Zone>
 fn listed(alloc: Global, copies: &[CopyInfo]) -> Result<Vec<Zone>, OutOfMemory>
     ensures { IfOk result (λ v. v.items ≡ filter_map filled_by copies.now) }
 {
-    Ok(copies
-        .iter()
-        .filter_map(|copy| filled_by(copy))
-        .collect(alloc)?)
+    Ok(
+        copies
+            .iter()
+            .filter_map(|copy| filled_by(copy))
+            .collect(alloc)?,
+    )
 }
 
 /// The same by their starts.
