@@ -29,7 +29,7 @@ CONTRACT = re.compile(r"\[`([\w:]+)`\]\(([^)\s]+\.rt)\)" + CLAUSES)
 PLACED = re.compile(r"`(mxf_\w+(?:::\w+)+)`" + CLAUSES)
 GROUPED = re.compile(r"`(mxf_\w+(?:::\w+)*)::\{([^`]*)\}`")
 LIBRARIES = (
-    "mxf_digests", "mxf_klv", "mxf_sets", "mxf_catalogue", "mxf_skim", "mxf_views", "mxf_references", "mxf_findings", "mxf_tracks", "mxf_clocks",
+    "mxf_digests", "mxf_klv", "mxf_sets", "mxf_catalogue", "mxf_skim", "mxf_views", "mxf_references", "mxf_findings", "mxf_doubts", "mxf_tracks", "mxf_clocks",
     "mxf_places", "mxf_restore", "mxf_map", "mxf_units", "mxf_timed", "mxf_partial", "mxf_read", "mxf_readings",
     "mxf_verify", "mxf_hand", "mxf_find", "mxf_forms", "mxf_lines", "mxf_skimmed", "mxf_progress",
 )

@@ -1,0 +1,4 @@
+pub mod ClassLaws
+pub mod KeyLaws
+pub mod LoneLaws
+pub mod SoundLaws

@@ -1,0 +1,3 @@
+pub mod Classes
+pub mod Sound
+pub mod Strange
