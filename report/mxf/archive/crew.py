@@ -59,7 +59,7 @@ class Crew:
         call = PassingCall(words, given.encode())
         call.passed = passed
         with self.tool.begun(call):
-            printed = b"".join(text + b"\n" for text in call.texts())
+            printed = b"".join(block + b"\n" for block in call.blocks())
         return Ended(call.status, printed, call.said)
 
     def each(
