@@ -68,6 +68,7 @@ class Looking:
 
     def gather(self) -> list[Line]:
         """The lines of the recording, as of one whose essence is passed over."""
+        self.tool.version()  # nothing is got where nobody can be asked
         with self.folder() as path, self.opened(path) as getting, self.tool.under_way(getting):
             try:
                 looking.look(getting, Asking(self.tool, getting.folder))
