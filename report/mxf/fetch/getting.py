@@ -12,6 +12,7 @@ from mxf.fetch.faults import Bounded
 from mxf.fetch.folder import Folder
 from mxf.fetch.places import Place
 from mxf.fetch.progress import Progress
+from mxf.fetch.recording import Identity
 from mxf.fetch.spans import OPEN, Span, missing, requests_for, together
 
 PATIENCE = 2.0  # seconds that the other requests have to end, after one has failed
@@ -129,7 +130,8 @@ class Round:
         getting.requests += 1
         with contextlib.closing(getting.place.blocks(span, folder.recording)) as blocks:
             first = next(blocks, b"")
-            folder.know()
+            if first or folder.recording.identity != Identity():
+                folder.know()
             if not first:
                 return
             with folder.taking(span.start) as file:
