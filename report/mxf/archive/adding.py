@@ -18,6 +18,7 @@ from mxf.archive.rows import Recording, recordings_of
 from mxf.archive.words import Words
 from mxf.calling import Tool
 from mxf.faults import NO_PROGRAM, USAGE, OwnFault, ToolFault, tell, tell_own
+from mxf.fetch import words as fetch_words
 from mxf.fetch.words import MOST_LOOKED, REQUESTS, TIMEOUT
 from mxf.lines import Line
 from mxf.sources import check_read_often
@@ -57,9 +58,9 @@ def gathered(tool: Tool, named: Listed, how: How, is_beside: bool) -> list[Line]
 
 def how_of(words: Words, jobs: int) -> How:
     """How recordings that lie elsewhere are looked at, with so many requests side by side."""
-    headers = {name: value for some in words.header for name, value in some.items()}
     most = MOST_LOOKED if words.most is None else words.most
-    return How(most, jobs, TIMEOUT if words.timeout is None else words.timeout, headers)
+    timeout = TIMEOUT if words.timeout is None else words.timeout
+    return How(most, jobs, timeout, fetch_words.together(words.header))
 
 
 def recording_of(tool: Tool, lines: list[Line]) -> Recording:

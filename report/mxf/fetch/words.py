@@ -43,7 +43,12 @@ class Words(argparse.Namespace):
     @property
     def headers(self) -> dict[str, str]:
         """The headers of all options together."""
-        return {name: value for some in self.header for name, value in some.items()}
+        return together(self.header)
+
+
+def together(headers: list[dict[str, str]]) -> dict[str, str]:
+    """The headers of several options."""
+    return {name: value for some in headers for name, value in some.items()}
 
 
 def number_of(least: int, most: int) -> Callable[[str], int]:
