@@ -107,6 +107,10 @@ def try_each(store: Store) -> None:
         store.t.equal(f"{name}: its sources say where it lies", rows, wanted)
         if name == "long":
             store.t.verdict("of a long one little is got", got < size // 8, got, size)
+    changed = int((store.root / "opatom_pcm.mxf").stat().st_mtime)
+    wanted = [(time.strftime("%Y-%m-%dT%H:%M:%SZ", time.gmtime(changed)),)]
+    question = "SELECT modified FROM sources s JOIN recordings r ON r.id = s.recording WHERE r.name = 'opatom_pcm'"
+    store.t.equal("a source says when the recording was changed", store.here.sql(question), wanted)
     store.t.equal(
         "a state says that essence was passed over", store.here.sql("SELECT DISTINCT is_skim FROM states"), [(1,)]
     )

@@ -4,7 +4,6 @@ from __future__ import annotations
 import contextlib
 import email.utils
 import os
-import re
 import tempfile
 from collections.abc import Iterator
 from pathlib import Path
@@ -20,11 +19,11 @@ from mxf.fetch.asking import Asking
 from mxf.fetch.faults import Bounded
 from mxf.fetch.folder import Folder
 from mxf.fetch.getting import Bounds, Getting
-from mxf.fetch.opening import Where, is_elsewhere, is_web, opened
+from mxf.fetch.opening import COMMAND, Where, is_elsewhere, is_web, opened
 from mxf.lines import Line
 from mxf.sources import Source, Sources
 
-# What isn't known of a place by its name: a URL may have a password in it.
+# What is said of a place that is none, without the place: a URL may have a password in it.
 NO_PLACE = "a place is a URL of http or https, or cmd:COMMAND, or the path of a file"
 BEYOND = 1  # the status of a recording of which more is wanted than may be got
 
@@ -48,7 +47,7 @@ class Elsewhere(NamedTuple):
 
     def check(self) -> None:
         """Sees that the place can be one, without saying what may be secret."""
-        if is_elsewhere(self.where) and not is_web(self.where) and not self.where.startswith("cmd:"):
+        if is_elsewhere(self.where) and not is_web(self.where) and not self.where.startswith(COMMAND):
             raise OwnFault(USAGE, NO_PLACE)
 
 
@@ -108,7 +107,6 @@ def origin_at(folder: Folder, line: Line) -> Line:
 
 def modified_text(told: str | None) -> str | None:
     """The time of the last change, as a server says it; None of one that isn't understood."""
-    parts = email.utils.parsedate_tz(told) if told and re.search("[A-Za-z]{3}", told) else None
-    with contextlib.suppress(ValueError, OverflowError):
-        return moments.text_of(email.utils.mktime_tz(parts)) if parts else None
+    with contextlib.suppress(TypeError, ValueError, OverflowError):
+        return moments.text_of(email.utils.parsedate_to_datetime(told).timestamp()) if told else None
     return None
