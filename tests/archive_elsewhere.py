@@ -151,13 +151,17 @@ def try_faults(store: Store) -> None:
     def refused(name: str, status: int, told: str, *words: object, **more: object) -> None:
         """A call that adds nothing."""
         ended = store.add("refused", *words, **more)
-        t.verdict(name, ended.status == status and told in ended.err and "Traceback" not in ended.err, ended)
+        is_quiet = not any(word in ended.err for word in ("Traceback", "s3cret"))
+        t.verdict(name, ended.status == status and told in ended.err and is_quiet, ended)
 
     refused("a file that isn't there", 3, "404 Not Found", "--from", store.server.url("none"))
     refused("nobody listens", 3, "Connection refused", "--from", f"http://127.0.0.1:{free_port()}/x")
     refused("a command that fails", 3, "ended with status 1", "--from", "cmd:false")
     refused("more than may be got", 1, "--most is 1000", "--from", right, "--most", 1000)
     refused("another scheme", 2, "a place is a URL of http or https", "--from", "ftp://u:s3cret@h/x")
+    sources = store.here.root / "sources"
+    sources.write_text("http://u:s3cret@h/x\n")
+    refused("a URL in a list of sources", 2, "a URL or a command is no source", "--sources", sources)
     refused("a URL as a source", 2, "a URL or a command is no source", "http://u:s3cret@h/x")
     refused("a source beside --from", 2, "not allowed with SRC", "at:0:x", "--from", right)
     refused("a list beside --from", 2, "argument --list: not allowed with NAME, --from", "--from", right, "--list", "x")

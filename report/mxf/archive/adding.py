@@ -9,10 +9,9 @@ import os
 import sys
 import time
 from collections.abc import Callable, Iterable, Iterator
-from typing import Union
 
-from mxf.archive import database, elsewhere, lists, origins, printing, storing
-from mxf.archive.elsewhere import Elsewhere, How, Looking
+from mxf.archive import database, lists, origins, printing, storing
+from mxf.archive.elsewhere import Elsewhere, How, Listed, Looking
 from mxf.archive.gathering import Gathering, Named
 from mxf.archive.rows import Recording, recordings_of
 from mxf.archive.words import Words
@@ -23,15 +22,12 @@ from mxf.fetch.words import MOST_LOOKED, REQUESTS, TIMEOUT
 from mxf.lines import Line
 from mxf.sources import check_read_often
 
-Listed = Union[Named, Elsewhere]  # what a list has
-
 WAITING = 2  # recordings that are asked for ahead of each that is kept
 OFTEN = 0.5  # seconds after which signals are looked for: one that comes just ahead of a wait doesn't end that
 
 
 def named_by(words: Words) -> Named:
     """The recording that the words of add and lines name."""
-    elsewhere.check_no_places(words.source)
     sources = origins.named_sources(words.source, words.sources)
     if not sources.each() and words.catalogue is None:
         raise OwnFault(USAGE, "no source is named")

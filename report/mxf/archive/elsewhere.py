@@ -7,7 +7,7 @@ import os
 import tempfile
 from collections.abc import Iterator
 from pathlib import Path
-from typing import NamedTuple
+from typing import NamedTuple, Union
 
 from mxf import moments
 from mxf.archive.gathering import Gathering, Named
@@ -51,12 +51,7 @@ class Elsewhere(NamedTuple):
             raise OwnFault(USAGE, NO_PLACE)
 
 
-def check_no_places(words: list[str]) -> None:
-    """Sees that no source is a place, which isn't said, for it may have a password."""
-    if any(map(is_elsewhere, words)):
-        raise OwnFault(
-            USAGE, "a URL or a command is no source: it stands behind --from, or by itself in a line of a list"
-        )
+Listed = Union[Named, Elsewhere]  # a recording by its sources, or by where it lies
 
 
 class Looking:

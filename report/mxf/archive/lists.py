@@ -3,17 +3,17 @@ from __future__ import annotations
 
 from collections.abc import Iterator
 
-from mxf.archive import elsewhere
-from mxf.archive.elsewhere import Elsewhere
+from mxf.archive import origins
+from mxf.archive.elsewhere import Elsewhere, Listed
 from mxf.archive.gathering import Named
-from mxf.fetch.opening import is_elsewhere
 from mxf.faults import READ, USAGE, OwnFault
+from mxf.fetch.opening import is_elsewhere
 from mxf.sources import Sources, check_read_often, source_of
 
 
-def recordings_in(path: str, is_skim: bool) -> list[Named | Elsewhere]:
+def recordings_in(path: str, is_skim: bool) -> list[Listed]:
     """The recordings of a list; - is standard input. A line that is none is told by its number, before any is asked for."""
-    recordings: dict[str, Named | Elsewhere] = {}
+    recordings: dict[str, Listed] = {}
     places: dict[str, int] = {}
     for number, line in lines_of(path):
         try:
@@ -38,7 +38,7 @@ def lines_of(path: str) -> Iterator[tuple[int, bytes]]:
     return ((number, line) for number, line in enumerate(lines, 1) if line)
 
 
-def named_by(line: bytes, is_skim: bool) -> Named | Elsewhere:
+def named_by(line: bytes, is_skim: bool) -> Listed:
     """The recording that a line names: its name and its sources, with a tab before each source; or its name, a tab, and the
     URL or the command that has it."""
     name, *words = line.decode("utf-8").split("\t")
@@ -52,7 +52,7 @@ def named_by(line: bytes, is_skim: bool) -> Named | Elsewhere:
         place = Elsewhere(name, words[0])
         place.check()
         return place
-    elsewhere.check_no_places(words)
+    origins.check_no_places(words)
     for word in words:
         source_of(word)
     check_read_often(words)
