@@ -36,7 +36,7 @@ _mxf_archive_words() {
   case $1:$2 in
     *:--against) echo "$forms" ;;
     *:--by) echo 'name offset' ;;
-    add:*) echo "$forms --catalogue --skim --sources --list --jobs --help" ;;
+    add:*) echo "$forms --catalogue --skim --sources --from --into --list --jobs --most --timeout --header --help" ;;
     lines:*) echo "$forms --catalogue --skim --sources --help" ;;
     verify:*) echo "$forms --against --sources --jobs --csv --json --help" ;;
     match:*) echo "$forms --sources --csv --json --help" ;;
@@ -64,8 +64,14 @@ _mxf_archive() {
     return
   fi
   case $before in
-    --catalogue | --sources | --list | --joined) _mxf_archive_paths '' "$word" && return ;;
-    --unverified-since | --merge | --jobs | --large | --part) return ;;
+    --catalogue | --sources | --list | --joined | --into) _mxf_archive_paths '' "$word" && return ;;
+    --unverified-since | --merge | --jobs | --large | --part | --most | --timeout | --header) return ;;
+    --from)
+      case $word in cmd:* | http:* | https:*) return ;; esac
+      _mxf_archive_paths '' "$word"
+      mapfile -t -O "${#COMPREPLY[@]}" COMPREPLY < <(compgen -W 'http:// https:// cmd:' -- "$word")
+      return
+      ;;
   esac
   _mxf_archive_source "$word" && return
   # The database is the first word of each command but two; scan and pages take a folder behind it, join two folders, and

@@ -1,6 +1,6 @@
 #!/usr/bin/env python3
 """Tries the commands of mxf_archive for a folder of recordings: scan, orders, verify, accept, match, pages, rename, remove,
-join, and the script minute of examples/archive.
+join, and edit units that mxf_fetch restores beside them.
 
     tests/archive_folder.py TOP TOOL WORK
 
@@ -28,7 +28,7 @@ WITH_FIRST = (
 )  # fmt: skip
 ALONE = (
     gathering.try_first_day_killed, gathering.try_kills, gathering.try_signals, gathering.try_terminal, names.try_run_ins, names.try_others,
-    names.try_places, names.try_odd_names, names.try_many, names.try_join, restores.try_restores, restores.try_minute,
+    names.try_places, names.try_odd_names, names.try_many, names.try_join, restores.try_restores, restores.try_units,
 )  # fmt: skip
 
 

@@ -9,7 +9,7 @@ import subprocess
 import threading
 from collections.abc import Callable, Iterator, Sequence
 from types import TracebackType
-from typing import IO
+from typing import IO, Protocol
 
 from mxf.faults import NO_PROGRAM, OwnFault, ToolFault
 from mxf.lines import Line, LineFault, line_of
@@ -125,6 +125,13 @@ class Call:
         self.end()
 
 
+class Stoppable(Protocol):
+    """Work that another thread may stop."""
+
+    def stop(self) -> None:
+        """Ends it."""
+
+
 class Tool:
     """mxf_tool. Unless it is silent, its first call of sources says its faults and how far it is by itself."""
 
@@ -133,7 +140,7 @@ class Tool:
         self.has_called = is_silent
         self.told: str | None = None
         self.lock = threading.Lock()
-        self.running: set[Call] = set()
+        self.running: set[Stoppable] = set()
         self.is_stopped = False
 
     def version(self) -> str:
@@ -156,23 +163,28 @@ class Tool:
     @contextlib.contextmanager
     def begun(self, call: Call) -> Iterator[None]:
         """A call that goes on until the block ends, or until all calls are stopped."""
+        with self.under_way(call, call.begin), call:
+            yield
+
+    @contextlib.contextmanager
+    def under_way(self, work: Stoppable, begin: Callable[[], object] = lambda: None) -> Iterator[None]:
+        """Work that begins now, and is stopped with the calls."""
         with self.lock:
             if self.is_stopped:
                 raise KeyboardInterrupt
-            call.begin()
-            self.running.add(call)
+            begin()
+            self.running.add(work)
         try:
-            with call:
-                yield
+            yield
         finally:
-            self.running.discard(call)
+            self.running.discard(work)
 
     def stop(self) -> None:
-        """Ends the calls that go on in other threads, and lets none begin."""
+        """Ends the calls and the other work that go on in other threads, and lets none begin."""
         with self.lock:
             self.is_stopped = True
-            for call in [*self.running]:
-                call.stop()
+            for work in [*self.running]:
+                work.stop()
 
     def lines_of(self, call: Call, keeps: Keeps = bytes.splitlines) -> Iterator[Line]:
         """The lines of a call, which may have begun, as far as they are kept. A call that fails is a fault after its last

@@ -3,18 +3,22 @@ from __future__ import annotations
 
 import concurrent.futures
 import contextlib
+import functools
 import itertools
 import os
 import sys
 import time
-from collections.abc import Iterable, Iterator
+from collections.abc import Callable, Iterable, Iterator
 
 from mxf.archive import database, lists, origins, printing, storing
+from mxf.archive.elsewhere import Elsewhere, How, Listed, Looking
 from mxf.archive.gathering import Gathering, Named
 from mxf.archive.rows import Recording, recordings_of
 from mxf.archive.words import Words
 from mxf.calling import Tool
 from mxf.faults import NO_PROGRAM, USAGE, OwnFault, ToolFault, tell, tell_own
+from mxf.fetch import words as fetch_words
+from mxf.fetch.words import MOST_LOOKED, REQUESTS, TIMEOUT
 from mxf.lines import Line
 from mxf.sources import check_read_often
 
@@ -32,9 +36,27 @@ def named_by(words: Words) -> Named:
     return Named(words.name, sources, words.catalogue, words.skim)
 
 
-def gathered(tool: Tool, named: Named, is_beside: bool) -> list[Line]:
-    """The lines of a recording, as mxf_tool tells it."""
+def listed_by(words: Words) -> Listed:
+    """The recording that the words of add name, by its sources or by where it lies."""
+    if words.where is None:
+        return named_by(words)
+    place = Elsewhere(words.name, words.where, words.kept)
+    place.check()
+    return place
+
+
+def gathered(tool: Tool, named: Listed, how: How, is_beside: bool) -> list[Line]:
+    """The lines of a recording, as mxf_tool tells it. One that lies elsewhere is looked at first."""
+    if isinstance(named, Elsewhere):
+        return Looking(tool, named, how, is_beside).gather()
     return Gathering(tool, named, is_beside).gather()
+
+
+def how_of(words: Words, jobs: int) -> How:
+    """How recordings that lie elsewhere are looked at, with so many requests side by side."""
+    most = MOST_LOOKED if words.most is None else words.most
+    timeout = TIMEOUT if words.timeout is None else words.timeout
+    return How(most, jobs, timeout, fetch_words.together(words.header))
 
 
 def recording_of(tool: Tool, lines: list[Line]) -> Recording:
@@ -59,10 +81,11 @@ def add(words: Words) -> int:
     """Puts recordings into the database. All is asked of a recording before that is written to."""
     if words.listed is not None:
         return add_list(words.listed, words)
-    named = named_by(words)
+    named = listed_by(words)
     database.check_place(words.database)
-    tool = Tool()
-    recording = recording_of(tool, gathered(tool, named, is_beside=True))
+    tool = Tool(is_silent=words.where is not None)
+    how = how_of(words, words.jobs or REQUESTS)
+    recording = recording_of(tool, gathered(tool, named, how, is_beside=True))
     with database.writer(words.database, is_new=True) as writer:
         keep(writer, tool, recording)
     return 0
@@ -70,7 +93,7 @@ def add(words: Words) -> int:
 
 def lines(words: Words) -> int:
     """Prints the lines of a recording, which load takes."""
-    printing.print_objects(gathered(Tool(), named_by(words), is_beside=True))
+    printing.print_objects(Gathering(Tool(), named_by(words), is_beside=True).gather())
     return 0
 
 
@@ -82,8 +105,11 @@ def add_list(path: str, words: Words) -> int:
     tool.version()
     failed: dict[str, str] = {}
     progress = Progress(len(recordings))
+    gather = functools.partial(gathered, tool, how=how_of(words, jobs=1), is_beside=False)
     try:
-        with database.writer(words.database, is_new=True) as writer, jobs_of(tool, recordings, words.jobs) as done:
+        with database.writer(words.database, is_new=True) as writer, jobs_of(
+            tool, gather, recordings, words.jobs or 1
+        ) as done:
             for named, job in done:
                 progress.clear()
                 try:
@@ -109,15 +135,17 @@ def cause_of(fault: ToolFault | OwnFault | OSError) -> str:
     return str(fault)
 
 
-Job = tuple[Named, "concurrent.futures.Future[list[Line]]"]
+Job = tuple[Listed, "concurrent.futures.Future[list[Line]]"]
 
 
 @contextlib.contextmanager
-def jobs_of(tool: Tool, recordings: Iterable[Named], count: int) -> Iterator[Iterator[Job]]:
+def jobs_of(
+    tool: Tool, gather: Callable[[Listed], list[Line]], recordings: Iterable[Listed], count: int
+) -> Iterator[Iterator[Job]]:
     """The recordings as they are asked for, so many side by side. If the block ends before they do, their calls end."""
     with concurrent.futures.ThreadPoolExecutor(count) as threads:
         try:
-            yield done_of(tool, threads, iter(recordings), WAITING * count)
+            yield done_of(gather, threads, iter(recordings), WAITING * count)
         except BaseException:
             threads.shutdown(wait=False, cancel_futures=True)
             tool.stop()
@@ -125,13 +153,16 @@ def jobs_of(tool: Tool, recordings: Iterable[Named], count: int) -> Iterator[Ite
 
 
 def done_of(
-    tool: Tool, threads: concurrent.futures.Executor, recordings: Iterator[Named], most: int
-) -> Iterator[Job]:  # fmt: skip
+    gather: Callable[[Listed], list[Line]],
+    threads: concurrent.futures.Executor,
+    recordings: Iterator[Listed],
+    most: int,
+) -> Iterator[Job]:
     """Each recording as soon as all is asked of it. So many are asked for ahead at most."""
-    waiting: dict[concurrent.futures.Future[list[Line]], Named] = {}
+    waiting: dict[concurrent.futures.Future[list[Line]], Listed] = {}
     while True:
         for named in itertools.islice(recordings, most - len(waiting)):
-            waiting[threads.submit(gathered, tool, named, is_beside=False)] = named
+            waiting[threads.submit(gather, named)] = named
         if not waiting:
             return
         for job in concurrent.futures.wait(waiting, OFTEN, concurrent.futures.FIRST_COMPLETED).done:

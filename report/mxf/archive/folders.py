@@ -9,6 +9,7 @@ from collections.abc import Iterator
 from typing import NamedTuple
 
 from mxf.faults import READ, OwnFault
+from mxf.fetch.folder import STATE
 
 # The first bytes of the key of a partition pack (ST 377-1), and the three behind them in a header partition pack.
 PACK = bytes.fromhex("060e2b34020501010d0102")
@@ -19,7 +20,7 @@ LONGEST_RUN_IN = 65_536  # bytes
 FORMS = {".piece": "at", ".range": "range", ".cat": "cat"}
 OFFSET = re.compile(r"0*[0-9]{1,19}")
 GREATEST = 2**63 - 1  # an OFFSET that mxf_tool takes
-PASSED_OVER = (".part", ".units")  # what the script minute writes beside a recording
+PASSED_OVER = (".part", ".units")  # files that aren't done, and lines that mxf_tool printed of units
 CATALOGUES = ".catalogues"  # behind the name of a database, the name of the folder of its catalogues
 
 UNNAMED = "its name isn't UTF-8"
@@ -140,7 +141,7 @@ def add_folder(looked: Looked, folder: str, name: str) -> None:
         elif form == ".cat" or (form in FORMS and OFFSET.fullmatch(stem) and int(stem) <= GREATEST):
             offset = None if form == ".cat" else int(stem)
             found.files.append(file_at(folder, f"{name}/{entry.name}", FORMS[form], offset))
-        elif form not in PASSED_OVER:
+        elif form not in PASSED_OVER and entry.name != STATE:
             looked.others.append((f"{name}/{entry.name}", NO_PIECE))
     if not found.files and not found.fault:
         found.fault = "its folder has no piece, no range and no catalogue"

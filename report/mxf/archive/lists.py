@@ -1,16 +1,19 @@
-"""Lists of recordings: a line for each, with its name and its sources."""
+"""Lists of recordings: a line for each, with its name, and its sources or where it lies."""
 from __future__ import annotations
 
 from collections.abc import Iterator
 
+from mxf.archive import origins
+from mxf.archive.elsewhere import Elsewhere, Listed
 from mxf.archive.gathering import Named
 from mxf.faults import READ, USAGE, OwnFault
+from mxf.fetch.opening import is_elsewhere
 from mxf.sources import Sources, check_read_often, source_of
 
 
-def recordings_in(path: str, is_skim: bool) -> list[Named]:
+def recordings_in(path: str, is_skim: bool) -> list[Listed]:
     """The recordings of a list; - is standard input. A line that is none is told by its number, before any is asked for."""
-    recordings: dict[str, Named] = {}
+    recordings: dict[str, Listed] = {}
     places: dict[str, int] = {}
     for number, line in lines_of(path):
         try:
@@ -35,8 +38,9 @@ def lines_of(path: str) -> Iterator[tuple[int, bytes]]:
     return ((number, line) for number, line in enumerate(lines, 1) if line)
 
 
-def named_by(line: bytes, is_skim: bool) -> Named:
-    """The recording that a line names: its name and its sources, with a tab before each source."""
+def named_by(line: bytes, is_skim: bool) -> Listed:
+    """The recording that a line names: its name and its sources, with a tab before each source; or its name, a tab, and the
+    URL or the command that has it."""
     name, *words = line.decode("utf-8").split("\t")
     if not name:
         raise OwnFault(USAGE, "no name")
@@ -44,6 +48,11 @@ def named_by(line: bytes, is_skim: bool) -> Named:
         raise OwnFault(USAGE, "no source is named")
     if "\0" in name or any("\0" in word for word in words):
         raise OwnFault(USAGE, "it has a zero byte")
+    if len(words) == 1 and is_elsewhere(words[0]):
+        place = Elsewhere(name, words[0])
+        place.check()
+        return place
+    origins.check_no_places(words)
     for word in words:
         source_of(word)
     check_read_often(words)

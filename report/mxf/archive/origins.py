@@ -4,9 +4,11 @@ from __future__ import annotations
 import contextlib
 import os
 import re
+from collections.abc import Sequence
 
 from mxf import moments
-from mxf.faults import READ, OwnFault
+from mxf.faults import READ, USAGE, OwnFault
+from mxf.fetch.opening import is_elsewhere
 from mxf.lines import ItemLine, Line
 from mxf.sources import Source, Sources, source_of, sources_of
 
@@ -16,9 +18,17 @@ IDENTIFIERS = {"3c0a": "instance", "4401": "package", "3c09": "generation", "010
 IDENTIFIED = re.compile(rb'\{"line":"item","offset":\d+,"tag":"(?:%s)"' % "|".join(IDENTIFIERS).encode())
 
 
+def check_no_places(words: Sequence[str]) -> None:
+    """Sees that no source is a URL or a command. That isn't said, for it may have a password."""
+    if any(map(is_elsewhere, words)):
+        said = "a URL or a command is no source: it stands behind --from of add, or by itself in a line of a list"
+        raise OwnFault(USAGE, said)
+
+
 def named_sources(words: list[str], path: str | None) -> Sources:
     """The sources that the words and the list at a path name, all of them in the form of a source."""
     sources = sources_of(words, path)
+    check_no_places(sources.each())
     for word in sources.each():
         source_of(word)
     return sources

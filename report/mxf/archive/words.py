@@ -6,6 +6,8 @@ import os
 from collections.abc import Callable, Sequence
 from typing import Any, NoReturn
 
+from mxf.fetch.words import MOST_LOOKED, REQUESTS, add_requests
+
 
 class Words(argparse.Namespace):
     """The words of a call: those of its command are there."""
@@ -18,6 +20,11 @@ class Words(argparse.Namespace):
     catalogue: str | None
     skim: bool
     listed: str | None
+    where: str | None
+    kept: str | None
+    most: int | None
+    timeout: int | None
+    header: list[dict[str, str]]
     jobs: int
     what: str
     days: int | None
@@ -116,10 +123,20 @@ def of_add(command: argparse.ArgumentParser) -> None:
     """The words of add."""
     add_database(command)
     add_asked(command, metavar="NAME SRC", said="the name of the recording, and its sources")
-    said = "a list of recordings, each a line with its name and its sources, and a tab before each source; - is standard input"
+    said = "where it lies, in place of sources: a URL, cmd:COMMAND or a path, of which little is got, as mxf_fetch look does"
+    command.add_argument("--from", dest="where", metavar="WHERE", type=word, help=said)
+    said = "keeps what is got, and begins with what is there"
+    command.add_argument("--into", dest="kept", metavar="FOLDER", help=said)
+    said = (
+        "a list of recordings, each a line with its name and its sources, and a tab before each source, or with its name, a tab"
+        " and a URL or cmd:COMMAND; - is standard input"
+    )
     command.add_argument("--list", dest="listed", metavar="FILE", help=said)
-    said = "how many of a list are asked for at once (1)"
-    command.add_argument("--jobs", metavar="N", type=number_from_1, default=1, help=said)
+    said = (
+        f"how many of a list are asked for at once (1); beside --from how many requests go on side by side ({REQUESTS})"
+    )
+    command.add_argument("--jobs", metavar="N", type=number_from_1, default=0, help=said)
+    add_requests(command, f"the most bytes that are got of a recording that lies elsewhere ({MOST_LOOKED})")
 
 
 def check_add(words: Words) -> None:
@@ -127,10 +144,21 @@ def check_add(words: Words) -> None:
     words.name, words.source = next(iter(words.source), ""), words.source[1:]
     if words.listed is None and not words.name:
         raise argparse.ArgumentTypeError("the following arguments are required: NAME")
-    if words.listed is None and words.jobs != 1:
-        raise argparse.ArgumentTypeError("argument --jobs: not allowed without argument --list")
-    if words.listed is not None and (words.name or words.sources is not None or words.catalogue is not None):
-        raise argparse.ArgumentTypeError("argument --list: not allowed with NAME, --sources or --catalogue")
+    is_elsewhere, is_listed = words.where is not None, words.listed is not None
+    are_sources = bool(words.source) or words.sources is not None or words.catalogue is not None
+    is_requested = bool(words.header) or words.most is not None or words.timeout is not None
+    refused = {
+        "--jobs: not allowed without argument --list or --from": words.jobs and not (is_listed or is_elsewhere),
+        "--list: not allowed with NAME, --from, --sources or --catalogue": is_listed
+        and (words.name or is_elsewhere or are_sources),
+        "--from: not allowed with SRC, --sources or --catalogue": is_elsewhere and are_sources,
+        "--into: not allowed without argument --from": words.kept is not None and not is_elsewhere,
+        "--header, --most, --timeout: not allowed without argument --from or --list": is_requested
+        and not (is_listed or is_elsewhere),
+    }
+    for said, is_refused in refused.items():
+        if is_refused:
+            raise argparse.ArgumentTypeError(f"argument {said}")
 
 
 def of_lines(command: argparse.ArgumentParser) -> None:

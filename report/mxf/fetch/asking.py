@@ -1,9 +1,10 @@
 """Asking mxf_tool of the ranges of a folder."""
 from __future__ import annotations
 
+from collections.abc import Sequence
 from typing import NamedTuple
 
-from mxf.calling import Call, program
+from mxf.calling import Call, Tool, program
 from mxf.faults import NO_PROGRAM, OwnFault, ToolFault
 from mxf.fetch.folder import Folder
 from mxf.fetch.forms import formed
@@ -29,14 +30,16 @@ class Answer(NamedTuple):
 class Asking:
     """mxf_tool with the ranges of a folder, and with sources that the words of the call name."""
 
-    def __init__(self, folder: Folder, sources: list[str]) -> None:
+    def __init__(self, tool: Tool, folder: Folder, sources: Sequence[str] = ()) -> None:
+        self.tool = tool
         self.folder = folder
         self.sources = sources
 
     def ask(self, command: str, *options: str) -> Answer:
         """What a command answers. It passes over essence. A call that fails is a fault, with what it said."""
         sources = Sources([], [*self.sources, *self.folder.sources()])
-        with Call([program(), command, "--skim", *options, *sources.handed()], sources.given()) as call:
+        call = Call([self.tool.program, command, "--skim", *options, *sources.handed()], sources.given())
+        with self.tool.begun(call):
             texts = [text for block in call.blocks() for text in block.split(b"\n")]
         if call.status not in (0, 1):
             raise ToolFault(call.status if call.status > 0 else 128 - call.status, call.said)

@@ -39,6 +39,7 @@ class Folder:
         if "\n" in str(path) or not is_text(str(path)):
             raise OwnFault(USAGE, f"bad folder: {path}: mxf_tool takes no such path in a list")
         with self.faults_named():
+            self.is_made = not path.exists()
             path.mkdir(parents=True, exist_ok=True)
             self.opened = os.open(path, os.O_RDONLY | os.O_DIRECTORY)
         try:
@@ -137,8 +138,11 @@ class Folder:
                         path.unlink()
 
     def close(self) -> None:
-        """Lets others have the folder."""
+        """Lets others have the folder. One that was made and has nothing goes."""
         os.close(self.opened)
+        if self.is_made:
+            with contextlib.suppress(OSError):
+                self.path.rmdir()
 
 
 def is_text(path: str) -> bool:

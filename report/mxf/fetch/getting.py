@@ -6,27 +6,38 @@ import itertools
 import queue
 import threading
 from collections.abc import Iterable
+from typing import NamedTuple
 
 from mxf.fetch.faults import Bounded
 from mxf.fetch.folder import Folder
 from mxf.fetch.places import Place
 from mxf.fetch.progress import Progress
+from mxf.fetch.recording import Identity
 from mxf.fetch.spans import OPEN, Span, missing, requests_for, together
 
 PATIENCE = 2.0  # seconds that the other requests have to end, after one has failed
 
 
+class Bounds(NamedTuple):
+    """The most bytes that a call may get, how many requests it makes side by side, and whether it says on no terminal how far
+    it is."""
+
+    most: int
+    jobs: int
+    is_silent: bool = False
+
+
 class Getting:
     """Gets what isn't there yet. It counts its requests and the bytes that came, and keeps to the most that a call may
-    get."""
+    get. Another thread may stop it."""
 
-    def __init__(self, place: Place, folder: Folder, most: int, jobs: int) -> None:
+    def __init__(self, place: Place, folder: Folder, bounds: Bounds) -> None:
         self.place = place
         self.folder = folder
-        self.most = most
-        self.jobs = jobs
+        self.most, self.jobs, _ = bounds
         self.requests = 0
-        self.progress = Progress()
+        self.progress = Progress(bounds.is_silent)
+        self.is_stopped = False
 
     @property
     def size(self) -> int | None:
@@ -48,13 +59,24 @@ class Getting:
             raise Bounded(self.came + length, self.most)
         before = self.came
         self.progress.ask(length)
+        self.check_wanted()
         try:
             Round(self, spans).run()
         finally:
             self.progress.clear()
             if self.folder.saved is not None:
                 self.folder.save()
+        self.check_wanted()
         return self.came > before
+
+    def check_wanted(self) -> None:
+        """Ends the work of this thread, if another one has stopped it."""
+        if self.is_stopped:
+            raise KeyboardInterrupt
+
+    def stop(self) -> None:
+        """Ends the requests that go on, and lets none begin."""
+        self.is_stopped = True
 
     def lacks(self, wanted: Iterable[Span]) -> list[Span]:
         """What of the spans isn't there."""
@@ -79,7 +101,7 @@ class Round:
             worker.start()
         try:
             for worker in self.workers:
-                while worker.is_alive() and not self.is_over.is_set():
+                while worker.is_alive() and not (self.is_over.is_set() or self.getting.is_stopped):
                     worker.join(0.1)
         finally:
             self.is_over.set()
@@ -108,7 +130,8 @@ class Round:
         getting.requests += 1
         with contextlib.closing(getting.place.blocks(span, folder.recording)) as blocks:
             first = next(blocks, b"")
-            folder.know()
+            if first or folder.recording.identity != Identity():
+                folder.know()
             if not first:
                 return
             with folder.taking(span.start) as file:

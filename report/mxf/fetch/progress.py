@@ -10,11 +10,12 @@ MEGA = 1_000_000
 
 
 class Progress:
-    """Counts bytes that came, of how many that are asked for. If standard error is a terminal, it says so there."""
+    """Counts bytes that came, of how many that are asked for. If standard error is a terminal, it says so there, unless it is
+    silent."""
 
-    def __init__(self) -> None:
+    def __init__(self, is_silent: bool = False) -> None:
         self.lock = threading.Lock()
-        self.is_told = sys.stderr.isatty()
+        self.is_told = sys.stderr.isatty() and not is_silent
         self.begun = self.last = time.monotonic()
         self.came = 0
         self.asked = 0

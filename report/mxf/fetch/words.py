@@ -13,6 +13,9 @@ there on is wanted) and prints these bytes; or the path of a file. A source SRC,
 that is there already. MXF_TOOL names another program. mxf_fetch COMMAND --help tells the words of a command."""
 
 GIBI, MEBI = 1 << 30, 1 << 20
+MOST_LOOKED = 10 * MEBI  # bytes that look gets
+REQUESTS = 4  # side by side
+TIMEOUT = 30  # seconds
 TIMECODE = re.compile(r"\d{2}:\d{2}:\d{2}[:;]\d{2,5}", re.ASCII)
 HEADER = re.compile(r"([!#$%&'*+.^_`|~0-9A-Za-z-]+):[ \t]*([\x20-\x7e\xa0-\xff]*)")
 SOURCE = re.compile(r"(at:[0-9]+|range:[0-9]+|slice:[0-9]+:[0-9]+|cat):.+")
@@ -40,7 +43,12 @@ class Words(argparse.Namespace):
     @property
     def headers(self) -> dict[str, str]:
         """The headers of all options together."""
-        return {name: value for some in self.header for name, value in some.items()}
+        return together(self.header)
+
+
+def together(headers: list[dict[str, str]]) -> dict[str, str]:
+    """The headers of several options."""
+    return {name: value for some in headers for name, value in some.items()}
 
 
 def number_of(least: int, most: int) -> Callable[[str], int]:
@@ -93,12 +101,18 @@ def add_place(command: argparse.ArgumentParser, most: int) -> None:
     """The words that each command has."""
     command.add_argument("where", metavar="WHERE", help="a URL, cmd:COMMAND or a path")
     command.add_argument("--into", metavar="FOLDER", help="keeps the ranges, and begins with those that it has")
+    said = f"requests side by side, {REQUESTS} without it"
+    command.add_argument("--jobs", metavar="N", type=number_of(1, 64), default=REQUESTS, help=said)
     said = f"the most that the call may get, {most} without it"
-    command.add_argument("--most", metavar="BYTES", type=number_of(0, 2**63 - 1), default=most, help=said)
-    said = "requests side by side, 4 without it"
-    command.add_argument("--jobs", metavar="N", type=number_of(1, 64), default=4, help=said)
-    said = "the seconds in which something has to come, 30 without it"
-    command.add_argument("--timeout", metavar="N", type=number_of(1, 3600), default=30, help=said)
+    add_requests(command, said)
+    command.set_defaults(most=most, timeout=TIMEOUT)
+
+
+def add_requests(command: argparse.ArgumentParser, bounded: str) -> None:
+    """The options of each request, and of how much may be got, which is said so. What isn't named is None."""
+    command.add_argument("--most", metavar="BYTES", type=number_of(0, 2**63 - 1), help=bounded)
+    said = f"the seconds in which something has to come, {TIMEOUT} without it"
+    command.add_argument("--timeout", metavar="N", type=number_of(1, 3600), help=said)
     said = "a header of each request, for the host of WHERE alone; @FILE names a file of them"
     command.add_argument("--header", metavar="HEADER", type=header, action="append", default=[], help=said)
 
@@ -120,7 +134,7 @@ def add_sources(command: argparse.ArgumentParser) -> None:
 
 def of_look(command: argparse.ArgumentParser) -> None:
     """The words of look."""
-    add_place(command, 10 * MEBI)
+    add_place(command, MOST_LOOKED)
     add_sources(command)
 
 
