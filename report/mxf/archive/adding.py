@@ -1,16 +1,13 @@
 """The commands that ask mxf_tool of recordings."""
 from __future__ import annotations
 
-import concurrent.futures
-import contextlib
 import functools
-import itertools
 import os
 import sys
 import time
-from collections.abc import Callable, Iterable, Iterator
 
 from mxf.archive import database, lists, origins, printing, storing
+from mxf.archive.beside import beside
 from mxf.archive.elsewhere import Elsewhere, How, Listed, Looking
 from mxf.archive.gathering import Gathering, Named
 from mxf.archive.rows import Recording, recordings_of
@@ -21,9 +18,6 @@ from mxf.fetch import words as fetch_words
 from mxf.fetch.words import MOST_LOOKED, REQUESTS, TIMEOUT
 from mxf.lines import Line
 from mxf.sources import check_read_often
-
-WAITING = 2  # recordings that are asked for ahead of each that is kept
-OFTEN = 0.5  # seconds after which signals are looked for: one that comes just ahead of a wait doesn't end that
 
 
 def named_by(words: Words) -> Named:
@@ -107,7 +101,7 @@ def add_list(path: str, words: Words) -> int:
     progress = Progress(len(recordings))
     gather = functools.partial(gathered, tool, how=how_of(words, jobs=1), is_beside=False)
     try:
-        with database.writer(words.database, is_new=True) as writer, jobs_of(
+        with database.writer(words.database, is_new=True) as writer, beside(
             tool, gather, recordings, words.jobs or 1
         ) as done:
             for named, job in done:
@@ -133,40 +127,6 @@ def cause_of(fault: ToolFault | OwnFault | OSError) -> str:
     if isinstance(fault, ToolFault):
         return printing.shown(fault.last_line()) or f"mxf_tool ended with status {fault.status}"
     return str(fault)
-
-
-Job = tuple[Listed, "concurrent.futures.Future[list[Line]]"]
-
-
-@contextlib.contextmanager
-def jobs_of(
-    tool: Tool, gather: Callable[[Listed], list[Line]], recordings: Iterable[Listed], count: int
-) -> Iterator[Iterator[Job]]:
-    """The recordings as they are asked for, so many side by side. If the block ends before they do, their calls end."""
-    with concurrent.futures.ThreadPoolExecutor(count) as threads:
-        try:
-            yield done_of(gather, threads, iter(recordings), WAITING * count)
-        except BaseException:
-            threads.shutdown(wait=False, cancel_futures=True)
-            tool.stop()
-            raise
-
-
-def done_of(
-    gather: Callable[[Listed], list[Line]],
-    threads: concurrent.futures.Executor,
-    recordings: Iterator[Listed],
-    most: int,
-) -> Iterator[Job]:
-    """Each recording as soon as all is asked of it. So many are asked for ahead at most."""
-    waiting: dict[concurrent.futures.Future[list[Line]], Listed] = {}
-    while True:
-        for named in itertools.islice(recordings, most - len(waiting)):
-            waiting[threads.submit(gather, named)] = named
-        if not waiting:
-            return
-        for job in concurrent.futures.wait(waiting, OFTEN, concurrent.futures.FIRST_COMPLETED).done:
-            yield waiting.pop(job), job
 
 
 class Progress:

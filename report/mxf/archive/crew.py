@@ -1,18 +1,14 @@
 """Work on several recordings side by side, whose calls of programs end if this one is ended."""
 from __future__ import annotations
 
-import itertools
 import subprocess
 from collections.abc import Callable, Generator, Iterable, Sequence
-from concurrent.futures import FIRST_COMPLETED, Future, ThreadPoolExecutor, wait
-from typing import IO, NamedTuple, TypeVar
+from concurrent.futures import Future
+from typing import IO, NamedTuple
 
-from mxf.archive.adding import OFTEN, WAITING
+from mxf.archive.beside import Answer, Item, beside
 from mxf.calling import Call, Tool
 from mxf.faults import NO_PROGRAM, OwnFault, ToolFault
-
-Item = TypeVar("Item")
-Answer = TypeVar("Answer")
 
 
 class Ended(NamedTuple):
@@ -66,16 +62,5 @@ class Crew:
         self, work: Callable[[Item], Answer], items: Iterable[Item]
     ) -> Generator[tuple[Item, Future[Answer]], None, None]:
         """The items, each when the work on it is done, whatever comes of it. Few of them are under way at once."""
-        rest = iter(items)
-        with ThreadPoolExecutor(self.jobs) as threads:
-            try:
-                begun = {threads.submit(work, item): item for item in itertools.islice(rest, WAITING * self.jobs)}
-                while begun:
-                    for future in wait(begun, OFTEN, FIRST_COMPLETED).done:
-                        item = begun.pop(future)
-                        begun.update((threads.submit(work, one), one) for one in itertools.islice(rest, 1))
-                        yield item, future
-            except BaseException:
-                threads.shutdown(wait=False, cancel_futures=True)
-                self.tool.stop()
-                raise
+        with beside(self.tool, work, items, self.jobs) as done:
+            yield from done
