@@ -180,21 +180,24 @@ def is_linear(name, ratio):
 
 def try_doubled(run, shape, many, seed):
     """Compares a file of a shape with one of twice as many. If the machine is busy, or slow for a while, a run takes more
-    processor time too, so what takes too much is run again, and the least times count."""
+    processor time too, so what takes too much is run again. The least times count, and so does the least ratio of two runs
+    one after the other."""
     files = [shape(random.Random(seed), times * many) for times in (1, 2)]
     laid = [(run.lay(f"times{times}.", pieces), sum(len(data) for _, data in pieces)) for times, pieces in enumerate(files)]
-    least = [{}, {}]
+    least, ratios = [{}, {}], {}
     for wait in (0, 1, 2, 4, 8, 16, 32, 32):
         time.sleep(wait)
-        for times, (sources, size) in zip(least, laid):
-            for name, seconds in seconds_of(run, shape, sources, size).items():
-                times[name] = min(seconds, times.get(name, seconds))
-        once, twice = least
-        ratios = {name: (twice[name] - NOISE) / once[name] for name in once}
+        taken = [seconds_of(run, shape, sources, size) for sources, size in laid]
+        for times, seconds in zip(least, taken):
+            times.update({name: min(seconds[name], times.get(name, seconds[name])) for name in seconds})
+        for once, twice in (taken, least):
+            for name in once:
+                ratio = (twice[name] - NOISE) / once[name]
+                ratios[name] = min(ratio, ratios.get(name, ratio))
         run.ratio = max(ratios.values())
         if all(is_linear(name, ratio) for name, ratio in ratios.items()):
             return
-    raise Wrong(f"{many} and twice as many take {once} and {twice}")
+    raise Wrong(f"{many} and twice as many take {least[0]} and {least[1]}")
 
 
 def tried(program, name, what, *arguments):
