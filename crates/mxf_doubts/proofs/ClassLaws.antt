@@ -4,7 +4,7 @@ use Rattle.mxf_views.proofs.Common.{and_from, and_parts, list_any, list_any-In, 
 use Rattle.mxf_views.proofs.Common.{AreBytes, false_from_ne_true}
 use Rattle.std.specs.Option.{option_map_or}
 use Rattle.mxf_sets.specs.Items.{ItemParts}
-use Rattle.mxf_views.specs.SetItems.{AreSetItems, IsMadeUpOf, set_items}
+use Rattle.mxf_views.specs.SetItems.{IsMadeUpOf, set_items}
 use Rattle.mxf_views.proofs.SetItemLaws.{set_items_iff}
 use Rattle.mxf_doubts.specs.declared.classes.Row.{Row}
 use Rattle.mxf_doubts.specs.Classes.{IsMisfit, class_of, fits, has_tag, is_known, is_misfit, is_taken, rows, takes}

@@ -1,8 +1,8 @@
 -- Keys gathered, sorted and counted.
-use Rattle.mxf_klv.proofs.Common.{◌≡◌, ◌∙◌, ◌-◌, ◌+◌, ◌≤◌, ℕ, List, [], ◌∷◌, Bool, true, false, sym, ap, refl, arith, length}
-use Rattle.mxf_klv.proofs.Common.{map, min, drop, take, filter, nat_lt, AllWithin, cond, count_by, NoteParts, slice_cmp}
+use Rattle.mxf_klv.proofs.Common.{◌≡◌, ◌∙◌, ◌-◌, ◌+◌, ◌≤◌, ℕ, List, [], ◌∷◌, true, false, sym, ap, refl, arith, length}
+use Rattle.mxf_klv.proofs.Common.{map, min, drop, take, nat_lt, AllWithin, cond, NoteParts, slice_cmp}
 use Rattle.mxf_klv.proofs.Common.{nat_cmp, length-drop, length-take}
-use Rattle.mxf_klv.proofs.Common.{IsTotalOrder, eq_by_cmp, is_eq}
+use Rattle.mxf_klv.proofs.Common.{IsTotalOrder, eq_by_cmp}
 use Rattle.std.specs.Cmp.Lexicographic.{nat_list_cmp_total}
 use Rattle.std.proofs.lemmas.Map.Text.{is_eq-slice_cmp}
 use Rattle.mxf_klv.proofs.Sides.{side_by, sides_run}

@@ -1,10 +1,8 @@
 -- A note whose key no other note has.
-use Rattle.mxf_klv.proofs.Common.{◌≡◌, ◌↔◌, ◌∙◌, ◌==◌, ◌+◌, ℕ, List, [], ◌∷◌, true, IsTrue, sym, ap, refl, subst, inl, inr}
+use Rattle.mxf_klv.proofs.Common.{◌≡◌, ◌↔◌, ◌∙◌, ℕ, List, [], ◌∷◌, true, IsTrue, sym, ap, refl, subst, inl, inr}
 use Rattle.mxf_klv.proofs.Common.{arith, eq-eqb, eqb-true, false_from_ne_true, count_by, NoteParts, note_cmp, In, IsRising, less_in}
 use Rattle.mxf_klv.proofs.Counts.{count-one, count-none, count_by-cons, tally}
-use Rattle.std.proofs.Common.{bytes_eq, Less}
 use Rattle.mxf_klv.proofs.Common.{bytes_eq-Decides, note_total}
-use Rattle.mxf_klv.specs.NoteOrder.{ties}
 use Rattle.std.proofs.lemmas.Cmp.{tied_itself}
 use Rattle.mxf_catalogue.specs.Content.{IsContent}
 use Rattle.mxf_doubts.specs.Strange.{IsLone, bare_key, has_bare_key, is_lone}

@@ -8,7 +8,7 @@ use Rattle.std.proofs.Common.{IfOk, Result, Ok, Err}
 use Rattle.std.specs.List.Sorted.{IsNonDecreasingBy, IsPermutation}
 use Rattle.std.proofs.lemmas.List.Sorted.{list_any-IsPermutation}
 use Rattle.mxf_klv.proofs.Lists.{In-at}
-use Rattle.mxf_views.proofs.Common.{Option, Some, None, NoteParts, filter_map, cons_option, end_of, IsContent}
+use Rattle.mxf_views.proofs.Common.{Some, None, NoteParts, filter_map, cons_option, end_of, IsContent}
 use Rattle.std.specs.Option.{option_map_or}
 use Rattle.mxf_views.specs.declared.copy.CopyInfo.{CopyInfo}
 use Rattle.mxf_views.specs.Copies.{copies_of}

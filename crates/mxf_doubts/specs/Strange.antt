@@ -36,7 +36,7 @@ IsLone notes n = (m : NoteParts) → In m notes → bare_key m.key ≡ bare_key 
 abbrev pub named : List ℕ → List ℕ → List ℕ
 named registry item = 0x06 ∷ 0x0E ∷ 0x2B ∷ 0x34 ∷ registry ++ 0x00 ∷ item
 
--- ST 385, System Scheme 1: its system metadata pack and its sets of package metadata, pictures, sounds, data and controls.
+-- ST 385, System Scheme 1: its system metadata pack and its sets of package metadata, pictures, sounds and data.
 abbrev pub of_system_scheme : List (List ℕ)
 of_system_scheme =
     named (0x02 ∷ 0x05 ∷ 0x01 ∷ []) (0x0D ∷ 0x01 ∷ 0x03 ∷ 0x01 ∷ 0x04 ∷ 0x01 ∷ 0x01 ∷ 0x00 ∷ [])

@@ -43,8 +43,8 @@ const ROWS: [Row; 57] = [
     Row { first_tag: 0x4801, last_tag: 0x4804, first_class: 0x39, last_class: 0x3B }, // tracks
     Row { first_tag: 0x4901, last_tag: 0x4902, first_class: 0x39, last_class: 0x39 }, // event track
     Row { first_tag: 0x4B01, last_tag: 0x4B02, first_class: 0x3B, last_class: 0x3B }, // timeline track
-    Row { first_tag: 0x5001, last_tag: 0x5001, first_class: 0x3F, last_class: 0x3F }, // multiple descriptor and its like
-    Row { first_tag: 0x5003, last_tag: 0x5003, first_class: 0x3F, last_class: 0x3F }, // multiple descriptor and its like
+    Row { first_tag: 0x5001, last_tag: 0x5001, first_class: 0x3F, last_class: 0x3F }, // tagged value
+    Row { first_tag: 0x5003, last_tag: 0x5003, first_class: 0x3F, last_class: 0x3F }, // tagged value
     Row { first_tag: 0x6101, last_tag: 0x6101, first_class: 0x41, last_class: 0x41 }, // descriptive marker
     Row { first_tag: 0x3001, last_tag: 0x3002, first_class: 0x24, last_class: 0x29 }, // file descriptors
     Row { first_tag: 0x3001, last_tag: 0x3002, first_class: 0x42, last_class: 0x44 }, // file descriptors

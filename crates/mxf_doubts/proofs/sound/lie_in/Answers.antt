@@ -1,5 +1,4 @@
-use Rattle.mxf_views.proofs.Common.{◌≡◌, ◌∙◌, ◌-◌, ◌≤◌, ℕ, suc, arith, sym, subst, ap, nat_le, cases_lt, inl, inr}
-use Rattle.std.proofs.lemmas.Bool.{ltb-true}
+use Rattle.mxf_views.proofs.Common.{◌≡◌, ◌∙◌, ℕ, suc, arith, subst, ap, nat_le, cases_lt, inl, inr}
 use Rattle.mxf_doubts.proofs.SoundLaws.{IsPlace, last_below, none_below}
 use Rattle.mxf_doubts.proofs.sound.lie_in.Goals as goal
 

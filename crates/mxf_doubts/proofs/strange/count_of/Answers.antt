@@ -1,6 +1,5 @@
 use Rattle.mxf_klv.proofs.Common.{rules, nat_lt, List, ℕ}
 use Rattle.std.proofs.lemmas.List.Sorted.{IsPartitionPoint-from_clause}
-use Rattle.std.proofs.lemmas.Cmp.{nat_cmp_total}
 use Rattle.mxf_klv.proofs.Sides.{side_by, sides_parted}
 use Rattle.mxf_klv.proofs.Common.{slice_cmp, nat_cmp, ap, ◌∙◌, ◌-◌}
 use Rattle.mxf_doubts.specs.Strange.{bare_key}
