@@ -44,9 +44,20 @@ class Checked:
         """How many findings there are."""
         self.count = line["findings"]
 
-    def shifted(self) -> list[str]:
-        """The hints that say how a wrong OFFSET would be right."""
-        return [hint for hint in self.hints if SHIFTED.fullmatch(hint)]
+    def by_code(self) -> Rows[tuple[str, Rows[FindingLine]]]:
+        """The codes in their order, with their findings."""
+        rows: Rows[tuple[str, Rows[FindingLine]]] = Rows()
+        for code in sorted(self.codes.items()):
+            rows.add(code)
+        return rows
+
+    def shifted(self) -> list[tuple[str, ...]]:
+        """The hints that say how a wrong OFFSET would be right: what stands before the source, its name, and what follows."""
+        return [known.groups() for known in map(SHIFTED.fullmatch, self.hints) if known]
+
+    def other_hints(self) -> list[str]:
+        """The other hints."""
+        return [hint for hint in self.hints if not SHIFTED.fullmatch(hint)]
 
 
 class Planned:

@@ -69,6 +69,18 @@ class Record(NamedTuple):
     reference: ReferenceLine
     details: dict[str, Line]
 
+    def said(self) -> list[tuple[str, str]]:
+        """What the set says: names, and texts."""
+        return [(name, text_of(line)) for name, line in self.details.items()]
+
+
+def text_of(line: Line) -> str:
+    """What a line says of a set."""
+    if "year" not in line:
+        return next((str(value) for key, value in line.items() if key != "line"), "")
+    date = "{year}-{month:02}-{day:02} {hour:02}:{minute:02}:{second:02}"
+    return date.format(**line) if line["month"] else "not stated"
+
 
 class Shown:
     """What `show` says: first rows and numbers. Packets are counted and not kept."""
