@@ -13,6 +13,7 @@ import jinja2
 from jinja2.bccache import Bucket
 
 from mxf import moments
+from mxf.files import write_whole
 from mxf.report import bounds, guide, wording
 from mxf.report.drawings import FILLS
 
@@ -46,17 +47,19 @@ def source_of(name: str) -> str:
     return re.sub(r"(?m)^\s+", "", text) if name.endswith(".html") else text
 
 
-class Compiled(jinja2.FileSystemBytecodeCache):
+class Compiled(jinja2.BytecodeCache):
     """Templates as code, which is kept beside them in a folder of the name that Python uses, if one may write there."""
 
-    def __init__(self) -> None:
-        super().__init__(str(FOLDER / "__pycache__"))
+    def load_bytecode(self, bucket: Bucket) -> None:
+        """Takes a template that is kept."""
+        with contextlib.suppress(OSError), open(FOLDER / "__pycache__" / bucket.key, "rb") as file:
+            bucket.load_bytecode(file)
 
     def dump_bytecode(self, bucket: Bucket) -> None:
         """Keeps a template."""
         with contextlib.suppress(OSError):
             (FOLDER / "__pycache__").mkdir(exist_ok=True)
-            super().dump_bytecode(bucket)
+            write_whole(FOLDER / "__pycache__" / bucket.key, bucket.bytecode_to_string())
 
 
 def environment() -> jinja2.Environment:
@@ -66,14 +69,17 @@ def environment() -> jinja2.Environment:
         autoescape=True, trim_blocks=True, lstrip_blocks=True, keep_trailing_newline=True,
     )  # fmt: skip
     made.filters.update(clean=clean, unlinked=unlinked, short="{:g}".format)
-    made.globals.update({**vars(bounds), **vars(guide), **vars(wording), "FILLS": FILLS})
+    for module in (bounds, guide, wording):
+        made.globals.update((name, value) for name, value in vars(module).items() if not name.startswith("_"))
+    made.globals["FILLS"] = FILLS
     return made
 
 
 def compile_templates() -> None:
     """Keeps all templates as code, so that no page has to wait for that."""
+    reading = environment()
     for path in FOLDER.glob("*.html"):
-        environment().get_template(path.name)
+        reading.get_template(path.name)
 
 
 def in_groups(found: re.Match[str]) -> str:

@@ -9,10 +9,9 @@ from mxf.lines import LineFault, end_of_packet
 from mxf.report import pages
 from mxf.report.asked import Words
 from mxf.report.asking import Asking
-from mxf.report.begins import begins_of
 from mxf.report.drawings import drawing_of_bar, drawing_of_strip
-from mxf.report.facts import BESIDE, facts_of
-from mxf.report.judging import differs_of, parts_of, verdict_of
+from mxf.report.facts import BESIDE, Facts
+from mxf.report.judging import parts_of, verdict_of
 from mxf.report.partition_drawing import drawing_of_partitions
 from mxf.report.strips import what_is_ordered
 from mxf.report.told import Told, file_of
@@ -32,12 +31,12 @@ def page_of_recording(tool: Asking, words: Words) -> str:
     with tempfile.TemporaryDirectory(prefix="mxf_report.") as folder:
         tool.join(folder)
         try:
-            facts = facts_of(tool, words)
+            facts = Facts(tool, words)
         except LineFault as fault:
-            raise OwnFault(NO_PROGRAM, f"{tool.program()} prints {fault}") from fault
+            raise OwnFault(NO_PROGRAM, f"{tool.tool.program} prints {fault}") from fault
     return pages.page_of(
-        "recording.html", words.title or title_of(facts.told), **facts._asdict(), calls="; ".join(tool.calls),
-        verdict=verdict_of(facts), parts=list(parts_of(facts)), differs=differs_of(facts), begins=begins_of(facts),
+        "recording.html", words.title or title_of(facts.told), facts=facts, **vars(facts), calls="; ".join(tool.calls),
+        verdict=verdict_of(facts), parts=list(parts_of(facts)),
         bar=drawing_of_bar(facts), drawing_of_strip=drawing_of_strip, drawing=drawing_of_partitions(facts),
         what_is_ordered=what_is_ordered, end_of_packet=end_of_packet, beside=f"mxf_tool {BESIDE}", command=shlex.join,
     )  # fmt: skip

@@ -5,6 +5,7 @@ import array
 import bisect
 import collections
 from collections.abc import Iterable, Sequence
+from functools import partial
 from typing import NamedTuple
 
 from mxf.lines import (
@@ -28,16 +29,11 @@ class Mapped:
         self.numbers: MapLine = {"end": 0, "held": 0, "hand": 0, "missing": 0, "gaps": 0, "disputed": 0, "cell": 1}
         self.cells = ""
         self.extents: Rows[ExtentLine] = Rows()
-        takers = {
-            "map": (MapLine, self.take_map),
+        take_lines(lines, {
+            "map": (MapLine, partial(setattr, self, "numbers")),
             "row": (RowLine, self.take_row),
             "extent": (ExtentLine, self.extents.add),
-        }
-        take_lines(lines, takers)
-
-    def take_map(self, line: MapLine) -> None:
-        """The numbers."""
-        self.numbers = line
+        })  # fmt: skip
 
     def take_row(self, line: RowLine) -> None:
         """Some cells."""
@@ -96,16 +92,17 @@ class Shown:
         self.copies: Rows[CopyLine] = Rows()
         self.entries: Rows[RipEntryLine] = Rows()
         self.records: Rows[Record] = Rows()
-        self.record: Record | None = None
+        self.details: dict[str, Line] = {}
         self.partitions: Rows[PartitionLine] = Rows()
         self.last: collections.deque[PartitionLine] = collections.deque(maxlen=NODES // 2)
         self.offsets: set[int] = set()
         self.begins: dict[int, Rows[str]] = collections.defaultdict(lambda: Rows(NAMES))
-        self.chain = "broken"
-        self.preferred: int | None = None
+        self.chain: ChainLine = {"chain": "broken"}
+        self.preferred: PreferredLine = {"partition": None}
         self.rip: RipLine = {"standing": "none"}
         self.index_sids: set[int] = set()
         take_lines(lines, self.takers())
+        self.rising = sorted(self.offsets)
 
     def takers(self) -> Takers:
         """What takes the lines, by their names."""
@@ -115,12 +112,12 @@ class Shown:
             "note": (NoteLine, self.take_note),
             "gap": (RangeLine, self.take_gap),
             "partition": (PartitionLine, self.take_partition),
-            "chain": (ChainLine, self.take_chain),
+            "chain": (ChainLine, partial(setattr, self, "chain")),
             "copy": (CopyLine, self.copies.add),
-            "preferred": (PreferredLine, self.take_preferred),
+            "preferred": (PreferredLine, partial(setattr, self, "preferred")),
             "identification": (ReferenceLine, self.take_reference),
             "package": (ReferenceLine, self.take_reference),
-            "segment": (SegmentLine, self.take_segment),
+            "segment": (SegmentLine, lambda line: self.index_sids.add(line["index-sid"])),
             "rip": (RipLine, self.take_rip),
             "rip-entry": (RipEntryLine, self.take_rip_entry),
         }
@@ -146,27 +143,14 @@ class Shown:
         self.offsets.add(line["offset"])
         self.begins[line["offset"] // self.cell].add(f"{line['part']} partition at {line['offset']}")
 
-    def take_chain(self, line: ChainLine) -> None:
-        """How the partitions hang together."""
-        self.chain = line["chain"]
-
-    def take_preferred(self, line: PreferredLine) -> None:
-        """The copy to take."""
-        self.preferred = line["partition"]
-
     def take_reference(self, line: ReferenceLine) -> None:
         """A reference to a set that says which program wrote the file, or to that of a package."""
-        self.record = Record(line, {})
-        self.records.add(self.record)
+        self.details = {}
+        self.records.add(Record(line, self.details))
 
     def take_detail(self, line: Line) -> None:
         """What the set of the last reference says."""
-        if self.record:
-            self.record.details[line["line"]] = line
-
-    def take_segment(self, line: SegmentLine) -> None:
-        """An index table segment."""
-        self.index_sids.add(line["index-sid"])
+        self.details[line["line"]] = line
 
     def take_rip(self, line: RipLine) -> None:
         """The random index pack."""

@@ -6,6 +6,7 @@ import collections
 import shlex
 from collections.abc import Iterable, Sequence
 from dataclasses import dataclass, field
+from functools import partial
 
 from mxf.report.clocks import Clock, Place, Timecodes
 from mxf.report.guide import REASONS, STANDING_WORDS
@@ -89,11 +90,7 @@ class Strip:
 
     def take_units(self, lines: Iterable[Line]) -> None:
         """Takes what `units` says."""
-        take_lines(lines, {"unit": (UnitLine, self.take_unit), "units": (UnitsLine, self.take_total)})
-
-    def take_total(self, line: UnitsLine) -> None:
-        """Takes how many units there are."""
-        self.total = line
+        take_lines(lines, {"unit": (UnitLine, self.take_unit), "units": (UnitsLine, partial(setattr, self, "total"))})
 
     def take_unit(self, line: UnitLine) -> None:
         """Takes an edit unit, with the timecode that it shows if one is known."""
