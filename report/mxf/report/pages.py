@@ -50,16 +50,21 @@ def source_of(name: str) -> str:
 class Compiled(jinja2.BytecodeCache):
     """Templates as code, which is kept beside them in a folder of the name that Python uses, if one may write there."""
 
+    @staticmethod
+    def file_of(bucket: Bucket) -> pathlib.Path:
+        """The file of a template as code."""
+        return FOLDER / "__pycache__" / f"{bucket.key}.cache"
+
     def load_bytecode(self, bucket: Bucket) -> None:
         """Takes a template that is kept."""
-        with contextlib.suppress(OSError), open(FOLDER / "__pycache__" / bucket.key, "rb") as file:
+        with contextlib.suppress(OSError), open(self.file_of(bucket), "rb") as file:
             bucket.load_bytecode(file)
 
     def dump_bytecode(self, bucket: Bucket) -> None:
         """Keeps a template."""
         with contextlib.suppress(OSError):
-            (FOLDER / "__pycache__").mkdir(exist_ok=True)
-            write_whole(FOLDER / "__pycache__" / bucket.key, bucket.bytecode_to_string())
+            self.file_of(bucket).parent.mkdir(exist_ok=True)
+            write_whole(self.file_of(bucket), bucket.bytecode_to_string())
 
 
 def environment() -> jinja2.Environment:
