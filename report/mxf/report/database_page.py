@@ -50,11 +50,11 @@ class Kept(NamedTuple):
         return first_of(OF_DATABASE, (*holds, self.is_partly_verified, self.findings, self.end is None))
 
     def there(self) -> int:
-        """How many bytes are held or at hand, if the end is known."""
+        """How many bytes are held or at hand, if the end of the recording is known."""
         return max(0, (self.end or 0) - self.missing)
 
     def share(self) -> float:
-        """How many of a hundred bytes these are, if there are bytes."""
+        """The share of the bytes that are held or at hand, in per cent."""
         return 100 * self.there() / (self.end or 1)
 
 
@@ -78,7 +78,7 @@ def link_to(page: pathlib.Path, name: str) -> str | None:
 
 
 def page_of_database(path: str, words: Words) -> str:
-    """The page of many recordings, a row each, of a database. Those of the worst verdict come first."""
+    """The page of many recordings, a row each, of a database. The worst verdicts come first."""
     with database.reading(path) as connection:
         recordings = [kept_of(row) for row in connection.execute(answering.OVERVIEW)]
     recordings.sort(key=lambda one: OF_DATABASE.index(one.verdict()))

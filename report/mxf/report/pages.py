@@ -1,4 +1,4 @@
-"""Pages by the templates of the folder templates, which jinja2 reads."""
+"""Makes pages by templates of jinja2, which stand in the folder templates."""
 from __future__ import annotations
 
 import contextlib
@@ -26,7 +26,7 @@ GROUP = re.compile(r"\B(\d{3})(?=(?:\d{3})*$)")
 ELEMENT = r'<(a|bdi|code|h1|script|style|title)\b.*?</\1>|<td class="digits">.*?</td>|<text\b.*?</text>'
 ELEMENT_OR_NUMBER = re.compile(f"{ELEMENT}|{NUMBER.pattern}", re.DOTALL)
 
-# A quote in a text, where it needs no escape.
+# A quote in a text needs no escape, for attributes stand in double quotes, and no text is in a tag.
 QUOTE = re.compile(r"&#3[49];(?![^<>]*>)")
 
 
@@ -42,13 +42,14 @@ def unlinked(text: str) -> str:
 
 
 def source_of(name: str) -> str:
-    """A template, which is laid out for those who read it. A page has no blanks before a line, and no empty line."""
+    """Reads a template. The blanks before its lines and its empty lines are for people, and don't go into a page."""
     text = (FOLDER / name).read_text(encoding="utf-8")
     return re.sub(r"(?m)^\s+", "", text) if name.endswith(".html") else text
 
 
 class Compiled(jinja2.BytecodeCache):
-    """Templates as code, which is kept beside them in a folder of the name that Python uses, if one may write there."""
+    """Keeps templates as code in a folder beside the templates, which has the name that Python uses. Where nobody may write,
+    nothing is kept, and each page reads its templates."""
 
     @staticmethod
     def file_of(bucket: Bucket) -> pathlib.Path:
@@ -68,7 +69,7 @@ class Compiled(jinja2.BytecodeCache):
 
 
 def environment() -> jinja2.Environment:
-    """What reads templates. They can use the names of bounds, guide and wording."""
+    """Makes what reads templates. Templates can use the names of bounds, guide and wording."""
     made = jinja2.Environment(
         loader=jinja2.FunctionLoader(source_of), bytecode_cache=Compiled(), undefined=jinja2.StrictUndefined,
         autoescape=True, trim_blocks=True, lstrip_blocks=True, keep_trailing_newline=True,
@@ -81,21 +82,22 @@ def environment() -> jinja2.Environment:
 
 
 def compile_templates() -> None:
-    """Keeps all templates as code, so that no page has to wait for that."""
+    """Keeps all templates as code, so that no page has to read them."""
     reading = environment()
     for path in FOLDER.glob("*.html"):
         reading.get_template(path.name)
 
 
 def in_groups(found: re.Match[str]) -> str:
-    """A long number in groups of three digits, or an element in which texts of drawings alone have some."""
+    """Sets a long number in groups of three digits. An element stays as it is, but the numbers of a text in a drawing are
+    set in groups too."""
     if found[0].startswith("<text"):
         return NUMBER.sub(lambda number: GROUP.sub(r'<tspan dx="2">\1</tspan>', number[0]), found[0])
     return found[0] if found[1] or found[0].startswith("<") else GROUP.sub(r'<span class="group">\1</span>', found[0])
 
 
 def page_of(template: str, title: str, **facts: Any) -> str:
-    """The page that a template makes of facts."""
+    """Makes a page of facts by a template."""
     made = time.strftime("%Y-%m-%d %H:%M UTC", time.gmtime(moments.now()))
     page = environment().get_template(template).render(title=title, made=made, **facts)
     return ELEMENT_OR_NUMBER.sub(in_groups, QUOTE.sub(lambda quote: html.unescape(quote[0]), page))
