@@ -5,7 +5,7 @@ import shlex
 import tempfile
 
 from mxf.faults import NO_PROGRAM, OwnFault
-from mxf.lines import LineFault, end_of_packet
+from mxf.lines import LineFault, end_of_packet, fields_of
 from mxf.report import pages
 from mxf.report.asked import Words
 from mxf.report.asking import Asking
@@ -36,7 +36,7 @@ def page_of_recording(tool: Asking, words: Words) -> str:
             raise OwnFault(NO_PROGRAM, f"{tool.tool.program} prints {fault}") from fault
     return pages.page_of(
         "recording.html", words.title or title_of(facts.told), facts=facts, **vars(facts), calls="; ".join(tool.calls),
-        verdict=verdict_of(facts), parts=list(parts_of(facts)),
-        bar=drawing_of_bar(facts), drawing_of_strip=drawing_of_strip, drawing=drawing_of_partitions(facts),
-        what_is_ordered=what_is_ordered, end_of_packet=end_of_packet, beside=f"mxf_tool {BESIDE}", command=shlex.join,
+        verdict=verdict_of(facts), parts=list(parts_of(facts)), bar=drawing_of_bar(facts), drawing_of_strip=drawing_of_strip,
+        drawing=drawing_of_partitions(facts), what_is_ordered=what_is_ordered, end_of_packet=end_of_packet,
+        fields_of=fields_of, beside=f"mxf_tool {BESIDE}", command=shlex.join,
     )  # fmt: skip
