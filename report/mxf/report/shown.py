@@ -10,7 +10,7 @@ from typing import NamedTuple
 
 from mxf.lines import (
     AnyLine, ChainLine, CopyLine, ExtentLine, Line, MapLine, NoteLine, PartitionLine, PieceLine, PreferredLine, RangeLine,
-    ReferenceLine, RipEntryLine, RipLine, RowLine, SegmentLine, Takers, end_of_packet, take_lines,
+    ReferenceLine, RipEntryLine, RipLine, RowLine, SegmentLine, Takers, take_lines,
 )  # fmt: skip
 from mxf.report.bounds import NAMES, NODES
 from mxf.report.rows import Rows
@@ -87,7 +87,6 @@ class Shown:
         self.heads = self.cut_heads = 0
         self.values = array.array("Q")  # where the values of heads would begin
         self.readings = Readings()
-        self.end = 0
         self.pieces: Rows[PieceLine] = Rows()
         self.copies: Rows[CopyLine] = Rows()
         self.entries: Rows[RipEntryLine] = Rows()
@@ -125,7 +124,6 @@ class Shown:
     def take_note(self, line: NoteLine) -> None:
         """A packet."""
         self.kinds[line["kind"]] += 1
-        self.end = max(self.end, end_of_packet(line))
         if line["head"]:
             self.heads += 1
             self.values.append(line["offset"] + 16 + line["width"])
