@@ -6,12 +6,10 @@ import os
 import pathlib
 import re
 
-from mxf.faults import OUTPUT, USAGE, OwnFault
+from mxf.faults import NO_PROGRAM, OUTPUT, USAGE, OwnFault
 from mxf.files import check_place, write_whole
 from mxf.report.asked import Words
 from mxf.report.asking import Asking, is_skim
-from mxf.report.database_page import page_of_database
-from mxf.report.recording_page import page_of_recording
 from mxf.running import end_by_signals, status_of
 from mxf.sources import check_read_often, sources_of
 from mxf.timecodes import is_timecode
@@ -69,6 +67,21 @@ def is_replaceable(path: pathlib.Path) -> bool:
         return file.read(15).upper() in (b"", b"<!DOCTYPE HTML>")
 
 
+def page_of(words: Words) -> str:
+    """The page that is asked for. Its parts are looked for now, for they need jinja2, and those of a database SQLite too."""
+    try:
+        if words.archive is not None:
+            from mxf.report.database_page import page_of_database
+
+            return page_of_database(words.archive, words)
+        from mxf.report.recording_page import page_of_recording
+    except ImportError as fault:
+        raise OwnFault(NO_PROGRAM, f"a page needs jinja2 of Python (python3-jinja2 of Debian): {fault.msg}") from fault
+    sources = sources_of(words.source, words.sources)
+    check_read_often(words.against)
+    return page_of_recording(Asking(sources, is_skim(words, sources)), words)
+
+
 def write_report(words: Words) -> int:
     """Makes the page and writes it; the status."""
     path = pathlib.Path(os.path.realpath(words.out))
@@ -76,13 +89,7 @@ def write_report(words: Words) -> int:
         if not is_replaceable(path):
             raise OwnFault(USAGE, f"bad output: {words.out}: it is there, and is no page")
         check_place(path)
-        if words.archive is not None:
-            text = page_of_database(words.archive, words)
-        else:
-            sources = sources_of(words.source, words.sources)
-            check_read_often(words.against)
-            text = page_of_recording(Asking(sources, is_skim(words, sources)), words)
-        write_whole(path, text.encode("utf-8", "replace"))
+        write_whole(path, page_of(words).encode("utf-8", "replace"))
     except OSError as fault:
         raise OwnFault(OUTPUT, f"write fault: {words.out}: {fault.strerror}") from fault
     return 0

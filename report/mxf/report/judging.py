@@ -16,11 +16,6 @@ def has_nothing(facts: Facts) -> bool:
     return not facts.shown.notes() and not facts.mapped.numbers["hand"]
 
 
-def differs_of(facts: Facts) -> int:
-    """How many packets differ from the reference, if one was named."""
-    return facts.verified[0].numbers["differs"] if facts.verified else 0
-
-
 def advice_of(verified: Verified) -> str:
     """What to do about the packets that differ from the reference."""
     if not verified.numbers["packets"]:
@@ -47,7 +42,7 @@ def doubts_of(facts: Facts) -> list[str]:
 
 def parts_of(facts: Facts) -> Iterator[str]:
     """The parts of the sentence that the verdict is."""
-    numbers, planned, differs = facts.mapped.numbers, facts.planned.numbers, differs_of(facts)
+    numbers, planned, differs = facts.mapped.numbers, facts.planned.numbers, facts.differs()
     held = f"{numbers['held']} of {bytes_text(numbers['end'])} are held"
     yield "the sources have no packet of a recording" if has_nothing(facts) else held
     if numbers["hand"]:
@@ -64,7 +59,7 @@ def parts_of(facts: Facts) -> Iterator[str]:
     yield from doubts
     if facts.verified and facts.verified[0].numbers["unknown"]:
         yield f"the reference says nothing of {bytes_text(facts.verified[0].numbers['unknown'])}"
-    damaged, found = facts.checked.damaged.count, facts.checked.count
+    damaged, found = facts.checked.damaged.count, facts.checked.numbers["findings"]
     if damaged:
         yield f"{count_text(damaged, 'piece')} can't be read to the end"
     findings = count_text(found, "thing is found wrong or missing", "things are found wrong or missing")
@@ -82,11 +77,11 @@ def verdict_of(facts: Facts) -> Verdict:
     holds = (
         has_nothing(facts),
         numbers["disputed"],
-        differs_of(facts),
+        facts.differs(),
         is_lacking(numbers["missing"], planned["ranges"]),
         doubts_of(facts),
         facts.checked.damaged.count,
-        facts.checked.count,
+        facts.checked.numbers["findings"],
         planned["end"] is None,
     )
     return first_of(OF_RECORDING, holds)
