@@ -64,8 +64,6 @@ while IFS= read -r file; do put 644 "$scripts/$file" "lib/mxf-tool/$file"; done 
 # Who may not write there would compile the parts at each start.
 /usr/bin/python3 -m compileall -q "$prefix/lib/mxf-tool/mxf" ||
   echo "install.sh: the parts of mxf_report, mxf_archive and mxf_fetch aren't compiled" >&2
-PYTHONPATH=$prefix/lib/mxf-tool /usr/bin/python3 -c 'from mxf.report import pages; pages.compile_templates()' 2>/dev/null ||
-  echo "install.sh: the templates of mxf_report aren't compiled: is python3-jinja2 there?" >&2
 for name in mxf_tool mxf_report mxf_archive mxf_fetch; do
   put 644 "$pages/$name.1" "share/man/man1/$name.1"
   put 644 "$completions/$name.bash" "share/bash-completion/completions/$name"

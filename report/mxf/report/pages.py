@@ -1,7 +1,6 @@
 """Makes pages by templates of jinja2, which stand in the folder templates."""
 from __future__ import annotations
 
-import contextlib
 import html
 import pathlib
 import re
@@ -10,10 +9,8 @@ import unicodedata
 from typing import Any
 
 import jinja2
-from jinja2.bccache import Bucket
 
 from mxf import moments
-from mxf.files import write_whole
 from mxf.report import bounds, guide, wording
 from mxf.report.drawings import FILLS
 
@@ -47,45 +44,21 @@ def source_of(name: str) -> str:
     return re.sub(r"(?m)^\s+", "", text) if name.endswith(".html") else text
 
 
-class Compiled(jinja2.BytecodeCache):
-    """Keeps templates as code in a folder beside the templates, which has the name that Python uses. Where nobody may write,
-    nothing is kept, and each page reads its templates."""
-
-    @staticmethod
-    def file_of(bucket: Bucket) -> pathlib.Path:
-        """The file of a template as code."""
-        return FOLDER / "__pycache__" / f"{bucket.key}.cache"
-
-    def load_bytecode(self, bucket: Bucket) -> None:
-        """Takes a template that is kept."""
-        with contextlib.suppress(OSError), open(self.file_of(bucket), "rb") as file:
-            bucket.load_bytecode(file)
-
-    def dump_bytecode(self, bucket: Bucket) -> None:
-        """Keeps a template."""
-        with contextlib.suppress(OSError):
-            self.file_of(bucket).parent.mkdir(exist_ok=True)
-            write_whole(self.file_of(bucket), bucket.bytecode_to_string())
-
-
 def environment() -> jinja2.Environment:
     """Makes what reads templates. Templates can use the names of bounds, guide and wording."""
     made = jinja2.Environment(
-        loader=jinja2.FunctionLoader(source_of), bytecode_cache=Compiled(), undefined=jinja2.StrictUndefined,
-        autoescape=True, trim_blocks=True, lstrip_blocks=True, keep_trailing_newline=True,
-    )  # fmt: skip
+        loader=jinja2.FunctionLoader(source_of),
+        undefined=jinja2.StrictUndefined,
+        autoescape=True,
+        trim_blocks=True,
+        lstrip_blocks=True,
+        keep_trailing_newline=True,
+    )
     made.filters.update(clean=clean, unlinked=unlinked, short="{:g}".format)
     for module in (bounds, guide, wording):
         made.globals.update((name, value) for name, value in vars(module).items() if not name.startswith("_"))
     made.globals["FILLS"] = FILLS
     return made
-
-
-def compile_templates() -> None:
-    """Keeps all templates as code, so that no page has to read them."""
-    reading = environment()
-    for path in FOLDER.glob("*.html"):
-        reading.get_template(path.name)
 
 
 def in_groups(found: re.Match[str]) -> str:
