@@ -2,6 +2,7 @@
 from __future__ import annotations
 
 import os
+import re
 import shlex
 from collections.abc import Iterator, Mapping, Sequence
 from typing import Protocol
@@ -13,6 +14,12 @@ from mxf.summary.judged import Asking, Judged, bytes_text, count_text, length_te
 from mxf.summary.recording import Recording, Written, containers_of, containers_text
 
 PICTURES, SOUNDS, ORDERS, TAPES, NAMED = 2, 3, 2, 2, 2  # of which so many are told
+
+# What a hint says of the file of a source: its path, and where it begins.
+SHIFTED_TO = re.compile(r"by its partition packs (.*) begins at (\d+): OFFSET is ")
+
+# A source with an OFFSET that is its only number: its form, and its path.
+PLACED = re.compile(r"(at|range):[0-9]+:(.*)", re.DOTALL)
 
 Row = tuple[str, str]  # its head and its text
 
@@ -80,7 +87,7 @@ class Summary:
         if main:
             yield "UMID", main.uid
         if doubt:
-            yield "All of this" if main else "What it is", doubt
+            yield "Note" if main else "What it is", doubt
 
     def timecode_text(self) -> str:
         """From which timecode to which the recording goes."""
@@ -90,23 +97,28 @@ class Summary:
         return f"{first} to {last}" if last else f"from {first} on"
 
     def advice(self) -> Iterator[Row]:
-        """What to do: the first orders, and what to call next."""
-        for hint in self.judged.shifted()[:1]:
+        """What to do: the hint of a wrong OFFSET, on which all orders rest, or else the first orders; and what to call
+        next."""
+        hints = self.judged.shifted()
+        orders = [] if hints else self.judged.orders()[:ORDERS]
+        for hint in hints[:1]:
             yield "Hint", hint
-        orders = self.judged.orders()[:ORDERS]
         for place, order in enumerate(orders):
             yield "" if place else "Restore", order_text(order)
         more = self.judged.order_count() - len(orders)
-        if more > 0:
+        if orders and more > 0:
             yield "", f"{count_text(more, 'more range')}, which mxf_tool plan names"
         call = self.next_call()
         if call:
             yield "Next", call
 
     def next_call(self) -> str | None:
-        """What to call next, if anything is to be done: what tells which source says what, the call with what was restored,
-        or what tells the findings. Of many sources the first stand in it."""
-        named = [shlex.quote(word) for word in self.sources[:NAMED]] + ["SRC.."] * (len(self.sources) > NAMED)
+        """What to call next, if anything is to be done: the call with the right OFFSET, what tells which source says what,
+        the call with what was restored, or what tells the findings. Of many sources the first stand in it."""
+        righted = [righted_word(word, self.judged.shifted()) for word in self.sources]
+        named = [shlex.quote(word) for word in righted[:NAMED]] + ["SRC.."] * (len(righted) > NAMED)
+        if righted != self.sources:
+            return " ".join(["mxf_report", *named])
         if self.judged.disputed():
             return " ".join(["mxf_tool sources", *named])
         if self.judged.order_count():
@@ -150,6 +162,13 @@ class Summary:
             "next": self.next_call(),
             "skimmed": self.is_skimmed,
         }
+
+
+def righted_word(word: str, hints: Sequence[str]) -> str:
+    """The word that names a source, with the OFFSET that a hint says of its file."""
+    placed = PLACED.fullmatch(word)
+    told = [said[2] for said in map(SHIFTED_TO.match, hints) if said and placed and said[1] == placed[2]]
+    return f"{placed[1]}:{told[0]}:{placed[2]}" if placed and told else word
 
 
 def told_rows(head: str, counts: Counts, most: int) -> Iterator[Row]:
