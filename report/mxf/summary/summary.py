@@ -14,6 +14,7 @@ from mxf.summary.judged import Asking, Judged, bytes_text, count_text, length_te
 from mxf.summary.recording import Recording, Written, containers_of, containers_text
 
 PICTURES, SOUNDS, ORDERS, TAPES, NAMED = 2, 3, 2, 2, 2  # of which so many are told
+LETTERS = 100  # of a text of the recording
 
 # What a hint says of the file of a source: its path, and where it begins.
 SHIFTED_TO = re.compile(r"by its partition packs (.*) begins at (\d+): OFFSET is ")
@@ -67,7 +68,7 @@ class Summary:
         """What the recording is."""
         main, doubt = self.recording.main(), self.judged.doubt()
         if main:
-            yield "Name", self.recording.title() or "not stated"
+            yield "Name", cut(self.recording.title() or "not stated")
             track = main.essence_track()
             yield "Length", length_text(track) if track else "not known"
             yield "Timecode", self.timecode_text()
@@ -79,11 +80,13 @@ class Summary:
         writer = self.written.writer()
         if writer and writer.text():
             others = len(self.written.writers) - 1
-            yield "Written by", f"{writer.text()}" + (f"; {count_text(others, 'program')} before it" if others else "")
+            yield "Written by", cut(writer.text() or "") + (
+                f"; {count_text(others, 'program')} before it" if others else ""
+            )
         tapes = self.recording.tapes()
         if tapes:
             more = f", and {len(tapes) - TAPES} more" if len(tapes) > TAPES else ""
-            yield "Tape", ", ".join(tapes[:TAPES]) + more
+            yield "Tape", ", ".join(map(cut, tapes[:TAPES])) + more
         if main:
             yield "UMID", main.uid
         if doubt:
@@ -162,6 +165,11 @@ class Summary:
             "next": self.next_call(),
             "skimmed": self.is_skimmed,
         }
+
+
+def cut(text: str) -> str:
+    """The front of a text of the recording."""
+    return text if len(text) <= LETTERS else f"{text[:LETTERS]}.."
 
 
 def righted_word(word: str, hints: Sequence[str]) -> str:
