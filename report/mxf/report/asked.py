@@ -10,6 +10,7 @@ class Words(argparse.Namespace):
     page: str | None
     out: str  # the page, if there is one
     json: bool
+    compare: bool
     title: str | None
     index: str | None
     first: str | None

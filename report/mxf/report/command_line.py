@@ -15,7 +15,7 @@ from mxf.report.recording_page import page_of_recording
 from mxf.running import end_by_signals, printed_by, status_of
 from mxf.sources import Sources, check_read_often, sources_of
 from mxf.summary.named import source_words
-from mxf.summary.printing import print_summary
+from mxf.summary.printing import print_comparison, print_summary
 from mxf.timecodes import is_timecode
 
 
@@ -50,6 +50,9 @@ def parser() -> argparse.ArgumentParser:
     words = argparse.ArgumentParser(prog="mxf_report", allow_abbrev=False, description=DESCRIPTION, epilog=EPILOG)
     words.add_argument("--out", dest="page", metavar="PAGE", help="a page, which is written whole or not at all")
     words.add_argument("--json", action="store_true", help="print the lines as a JSON object")
+    words.add_argument(
+        "--compare", action="store_true", help="print what differs between two sources, whose essence is read"
+    )
     words.add_argument("--title", metavar="TEXT", help="its heading; else the name of the first source")
     words.add_argument("--index", metavar="N", type=digits, help="the index of the edit units; else all, four at most")
     words.add_argument("--from", dest="first", metavar="N", type=edit_unit, help="the first edit unit, or its timecode")
@@ -84,6 +87,11 @@ def named_sources(words: Words) -> Sources:
 def print_report(words: Words) -> int:
     """Prints the summary of the recording; the status."""
     sources = named_sources(words)
+    if words.compare:
+        first, second = (Sources([word]) for word in sources.each())
+        return print_comparison(
+            Asking(first, is_skim(words, first)), Asking(second, is_skim(words, second)), words.json
+        )
     return print_summary(Asking(sources, is_skim(words, sources)), words.json)
 
 
@@ -114,6 +122,8 @@ def check_words(accepted: argparse.ArgumentParser, words: Words) -> None:
     others = (words.sources, words.index, words.first, words.last)
     if words.page is None and (is_of_many or words.against or words.title or any(other for other in others[1:])):
         accepted.error("--archive, --against, --title, --index, --from and --to are of a page: name it by --out")
+    if words.compare and (words.page is not None or words.sources is not None or len(words.source) != 2):
+        accepted.error("--compare takes two sources, and no --out and no --sources")
     if words.page is not None and words.json:
         accepted.error("--json prints what a page says, so it takes no --out")
     if is_of_many and (words.source or words.against or any(other is not None for other in others)):
