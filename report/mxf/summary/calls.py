@@ -19,7 +19,7 @@ COMMANDS = {
     "map": ("--columns", "1", "--rows", "1"),
 }
 
-# Lines of `show` that aren't needed, which are nearly all. Of packets one is.
+# Lines of `show` that aren't needed, which are nearly all. One packet is needed.
 NOTE = b'{"line":"note"'
 PASSED = (NOTE, b'{"line":"item"', b'{"line":"piece"', b'{"line":"gap"')
 

@@ -7,7 +7,7 @@ from mxf.labels.naming import picture_coding, sound_coding
 from mxf.lines import EssenceLine, SampledPictureLine, SoundLine
 from mxf.summary.judged import count_text, rate_text, sound_text
 
-# How the lines of a picture are stored, by the FrameLayout of ST 377-1. Of fields and of segments the height is that of one.
+# How the lines of a picture are stored, by the FrameLayout of ST 377-1. The height of fields and segments is that of one.
 PROGRESSIVE, FIELDS, SINGLE, MIXED, SEGMENTED = range(5)
 SCANS = {
     PROGRESSIVE: "progressive",

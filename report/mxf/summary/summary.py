@@ -117,7 +117,8 @@ class Summary:
 
     def next_call(self) -> str | None:
         """What to call next, if anything is to be done: the call with the right OFFSET, what tells which source says what,
-        the call with what was restored, or what tells the findings. Of many sources the first stand in it."""
+        the call with what was restored, or what tells the findings. If there are many sources, the first stand in the call.
+        """
         righted = [righted_word(word, self.judged.shifted()) for word in self.sources]
         named = [shlex.quote(word) for word in righted[:NAMED]] + ["SRC.."] * (len(righted) > NAMED)
         if righted != self.sources:
