@@ -41,6 +41,13 @@ class Described(Packages):
             self.astray += line.get("target", "found") not in ("found", "other")
             yield line
 
+    def why_unknown(self) -> str:
+        """Why nothing says what the recording is."""
+        partition = self.copy.get("partition")
+        if partition is None:
+            return "no copy of its header metadata is held whose partition pack is clear"
+        return f"the header metadata of the partition at {partition} name no package that can be read"
+
     def clock(self, index_sid: int | None) -> Clock | None:
         """The clock of an index, if it has one."""
         return Clock(self.clocks[index_sid]) if index_sid is not None and index_sid in self.clocks else None

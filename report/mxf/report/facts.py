@@ -9,6 +9,7 @@ from mxf.report.asked import Words
 from mxf.report.asking import Asking
 from mxf.report.bounds import CELLS, INDEXES, NAMES, UNITS
 from mxf.report.described import Described
+from mxf.report.judging import Grounds
 from mxf.report.planned import Checked, Planned
 from mxf.report.shown import Mapped, Shown, between
 from mxf.report.strips import OrderedUnits, Strip
@@ -27,15 +28,16 @@ NO_TIMECODES = (
 BESIDE = "verify --against SOURCE"
 
 
-class Facts:
+class Facts(Grounds):
     """All that is reported of a recording, the options that name edit units, and whether essence was passed over."""
 
     def __init__(self, tool: Asking, words: Words) -> None:
+        mapped = Mapped(tool.ask("map", "--extents", "--columns", str(CELLS), "--rows", "1"))
+        shown = Shown(tool.ask("show"), mapped.numbers["cell"])
+        super().__init__(
+            mapped, shown, Checked(tool.ask("check", "--hints", "always"), tool.hints), Planned(tool.ask("plan"))
+        )
         self.tool, self.is_skimmed, self.span = tool, tool.is_skimming, words.span()
-        self.mapped = Mapped(tool.ask("map", "--extents", "--columns", str(CELLS), "--rows", "1"))
-        self.shown = Shown(tool.ask("show"), self.mapped.numbers["cell"])
-        self.checked = Checked(tool.ask("check", "--hints", "always"), tool.hints)
-        self.planned = Planned(tool.ask("plan"))
         self.told = told_of(tool, self.shown)
         self.described = Described(tool.ask("describe"))
         self.strips = [self.strip_of(index_sid, self.span) for index_sid in self.indexes(words)]
@@ -110,10 +112,6 @@ class Facts:
             strips += [Strip(one.index_sid, BESIDE, span, clock)] if one.codes else []
         strips = strips or [Strip(None, BESIDE, [])]
         return [Verified(self.tool.ask("verify", *against, *strip.options), strip) for strip in strips]
-
-    def differs(self) -> int:
-        """How many packets differ from the reference, if one was named."""
-        return self.verified[0].numbers["differs"] if self.verified else 0
 
     def begun_in(self, extent: ExtentLine) -> str:
         """What begins in bytes that are held: the random index pack, the first packets in dispute, the first partitions, by
