@@ -13,12 +13,13 @@ use Rattle.mxf_views.proofs.KindLaws.{fill_kind, primer_kind}
 use Rattle.mxf_views.specs.declared.copy.CopyInfo.{CopyInfo}
 use Rattle.mxf_views.specs.Copies.{is_primer, is_set_note}
 use Rattle.mxf_doubts.specs.declared.sound.Zone.{Zone}
-use Rattle.mxf_doubts.specs.DoubtCauses.{HasStructure1, IsFirstPrimer, IsOfHeader, IsStrange, IsStrangeInside, IsStrangeOutside}
+use Rattle.mxf_klv.specs.Kind.{is_in_containers}
+use Rattle.mxf_doubts.specs.DoubtCauses.{HasStructure1, IsDark, IsFirstPrimer, IsOfHeader, IsStrange, IsStrangeInside, IsStrangeOutside}
 use Rattle.mxf_doubts.specs.DoubtCauses.{a_fill, a_primer, a_set, an_unknown, essence, raw_set, unknown}
 use Rattle.mxf_doubts.specs.Doubts.{is_of_header, is_strange_inside, is_strange_outside}
 use Rattle.mxf_doubts.specs.Sound.{IsInSoundZone, begin_at, filled_by, is_first_primer, is_in_sound_zone, sound_zones}
 use Rattle.mxf_doubts.specs.Strange.{IsLone, bare_key, has_structure_1, is_essence, is_lone, is_named, is_other, is_strange}
-use Rattle.mxf_doubts.specs.Strange.{is_strange_as, named_keys}
+use Rattle.mxf_doubts.specs.Strange.{is_container_packet, is_dark, is_strange_as, named_keys}
 use Rattle.mxf_doubts.proofs.LoneLaws.{lone}
 use Rattle.mxf_doubts.proofs.SoundLaws.{in_sound_zone}
 
@@ -90,6 +91,43 @@ pub strange : (notes : List NoteParts) (n : NoteParts) → IsContent notes → I
 unfolding is_strange
 strange notes n r c = strange_by notes n (kind_of n.key) (is_lone notes n) refl (lone notes n r c.held)
 
+-- ---- Dark data
+
+pub three : (a b c : Bool) → (a && b && c) ≡ true → (a ≡ true) × (b ≡ true) × (c ≡ true)
+three a b c t = grind arith
+
+pub three_from : (a b c : Bool) → a ≡ true → b ≡ true → c ≡ true → (a && b && c) ≡ true
+three_from a b c t u v = grind arith
+
+one_of : (a b : Bool) → (a || b) ≡ true → (a ≡ true) ⊎ (b ≡ true)
+one_of true b t = inl refl
+one_of false b t = inr t
+
+pub dark : (notes : List NoteParts) (n : NoteParts) → IsContent notes → IsClear n notes
+    → (is_dark notes n ≡ true) ↔ IsDark notes n
+unfolding is_dark
+dark notes n r c =
+    let k = kind_of n.key in
+    let inside = is_in_containers n.key in
+    let contained = bytes_eq-Decides (take 4 (drop 8 n.key)) (0x0D ∷ 0x01 ∷ 0x03 ∷ 0x01 ∷ []) in
+    let s = strange notes n r c in (
+      λ t.
+          let p = three (is_other k) (not (is_strange notes n)) (not (is_container_packet n)) t in record {
+            kind = (other_kind k).0 p.0;
+            usual = λ w. not-true-false (is_strange notes n) p.1 (s.1 w);
+            outside = λ e.
+                not-true-false (is_container_packet n) p.2
+                (either (is_essence k) (is_other k && inside) (inr (and_from (is_other k) inside p.0 (contained.1 e))));
+          },
+      λ d.
+          three_from (is_other k) (not (is_strange notes n)) (not (is_container_packet n)) ((other_kind k).1 d.kind)
+          (not_true (is_strange notes n) (λ t. d.usual (s.0 t)))
+          (not_true (is_container_packet n) (λ t. elim (one_of (is_essence k) (is_other k && inside) t) [
+            | inl e ↦ (let f = (essence_kind k).0 e in let g = sym d.kind ∙ f in cc g)
+            | inr e ↦ d.outside (contained.0 (and_parts (is_other k) inside e).1)
+          ])),
+    )
+
 -- ---- The primer pack of a finished copy
 
 filled_is : (c : CopyInfo) (z : Zone) → filled_by c ≡ Some z → (c.finished ≡ true) × (c.start ≡ Some z.start)
@@ -116,7 +154,7 @@ begun notes offset r = (
       ),
 )
 
-first_primer : (notes : List NoteParts) (n : NoteParts) → IsContent notes
+pub first_primer : (notes : List NoteParts) (n : NoteParts) → IsContent notes
     → (is_first_primer notes n ≡ true) ↔ IsFirstPrimer notes n
 first_primer notes n r = (
   λ t.
@@ -186,10 +224,6 @@ strange_inside notes n r c =
                 (inr (not_true (is_of_header notes n) (λ t. w (h.0 t))))
           ]),
     )
-  where
-    one_of : (a b : Bool) → (a || b) ≡ true → (a ≡ true) ⊎ (b ≡ true)
-    one_of true b t = inl refl
-    one_of false b t = inr t
 
 pub strange_outside : (notes : List NoteParts) (n : NoteParts) → IsContent notes → IsClear n notes
     → (is_strange_outside notes n ≡ true) ↔ IsStrangeOutside notes n

@@ -19,17 +19,11 @@ use Rattle.mxf_doubts.specs.Strange.{is_essence, is_lone}
 use Rattle.mxf_doubts.specs.Tracks.{is_any, is_no_track, is_raw_set, is_untracked, named_tracks, numbers_in, track_number}
 use Rattle.mxf_doubts.proofs.LoneLaws.{lone}
 use Rattle.mxf_doubts.proofs.SoundLaws.{in_sound_zone}
-use Rattle.mxf_doubts.proofs.StrangeLaws.{essence_kind}
+use Rattle.mxf_doubts.proofs.StrangeLaws.{essence_kind, three, three_from}
 
 raw_kind : (k : Kind) → (is_raw_set k ≡ true) ↔ (k ≡ kinds.RawSet)
 raw_kind kinds.RawSet = (λ e. refl, λ e. refl)
 raw_kind _ = (λ e. absurd cc, λ e. absurd cc)
-
-three : (a b c : Bool) → (a && b && c) ≡ true → (a ≡ true) × (b ≡ true) × (c ≡ true)
-three a b c t = grind arith
-
-three_from : (a b c : Bool) → a ≡ true → b ≡ true → c ≡ true → (a && b && c) ≡ true
-three_from a b c t u v = grind arith
 
 abbrev zeros : List ℕ
 zeros = 0x00 ∷ 0x00 ∷ 0x00 ∷ 0x00 ∷ []

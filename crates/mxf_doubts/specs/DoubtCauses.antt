@@ -38,6 +38,12 @@ pub data IsStrange (notes : List NoteParts) (n : NoteParts) : Type 0 where
   essence : kind_of n.key ≡ kinds.Essence → (HasStructure1 n.key → ⊥) → IsStrange notes n
   raw_set : kind_of n.key ≡ kinds.RawSet → (HasStructure1 n.key → ⊥) → IsStrange notes n
 
+-- Of no known kind, not strange, and by no key of the essence containers (bytes 9 to 12, ST 379).
+pub record IsDark (notes : List NoteParts) (n : NoteParts) : Type 0 where
+  pub kind : kind_of n.key ≡ kinds.Other
+  pub usual : IsStrange notes n → ⊥
+  pub outside : take 4 (drop 8 n.key) ≢ 0x0D ∷ 0x01 ∷ 0x03 ∷ 0x01 ∷ []
+
 -- A finished copy begins with the packet.
 pub record IsFirstPrimer (notes : List NoteParts) (n : NoteParts) : Type 0 where
   pub kind : kind_of n.key ≡ kinds.Primer
