@@ -5,7 +5,7 @@ import collections
 import hashlib
 import json
 from collections.abc import Iterable, Iterator, Mapping
-from typing import Any
+from typing import Any, NamedTuple
 
 from mxf import moments
 from mxf.archive import spans
@@ -25,6 +25,8 @@ Row = dict[str, Any]  # the values of a row, by the names of its columns
 
 GREATEST = 2**63 - 1  # of an INTEGER of SQLite
 
+LARGE = ("partitions", "findings", "orders")  # the tables with numbers that may pass that
+
 # What is kept of a source.
 ORIGIN = ("number", "word", "form", "offset", "path", "size", "modified", "sha256")
 
@@ -39,8 +41,19 @@ def columns_of(line: Mapping[str, Any], *names: str) -> Row:
     return {name.replace("-", "_"): line[name] for name in names}
 
 
-class Recording:
-    """A recording as its lines tell it: its name, its state, what stands in the table of recordings, and rows of others."""
+class Recording(NamedTuple):
+    """A recording as the tables have it: its name, its state, what stands in the table of recordings, the rows of others by
+    their names, and the texts by whose words it is found, each with what it is."""
+
+    name: str
+    state: Row
+    facts: Row
+    rows: dict[str, list[Row]]
+    texts: list[tuple[str, str]]
+
+
+class Making:
+    """A recording that is made of its lines."""
 
     def __init__(self, line: Line) -> None:
         if line.get("line") != "recording" or line["format"] != FORMAT or not moments.TIME.fullmatch(line["gathered"]):
@@ -75,7 +88,7 @@ class Recording:
     def add(self, table: str, **row: object) -> int:
         """Adds a row to a table, and answers its number there, from 1 on."""
         rows = self.rows[table]
-        rows.append({name: number_of(value) for name, value in row.items()})
+        rows.append({name: number_of(value) for name, value in row.items()} if table in LARGE else row)
         return len(rows)
 
     def add_numbered(self, table: str, **row: object) -> int:
@@ -324,7 +337,7 @@ class Recording:
         self.rows["identifiers"] = [{"what": what, "uid": uid} for what, uid in self.identifiers]
         said = (self.state, self.facts, self.rows, [*self.texts])
         self.state["digest"] = hashlib.sha256(json.dumps(said, default=bytes.hex).encode()).hexdigest()
-        return self
+        return Recording(self.name, self.state, self.facts, dict(self.rows), [*self.texts])
 
 
 def recordings_of(lines: Iterable[Line], where: str) -> Iterator[Recording]:
@@ -334,7 +347,7 @@ def recordings_of(lines: Iterable[Line], where: str) -> Iterator[Recording]:
         for number, line in enumerate(lines, 1):
             count += 1
             if recording is None:
-                recording, count = Recording(line), 1
+                recording, count = Making(line), 1
             elif line["line"] == "recorded":
                 if line["lines"] != count or line["name"] != recording.name:
                     raise LineFault("lines are missing")
