@@ -68,7 +68,8 @@ class Making:
         self.identifiers: dict[tuple[str, bytes], None] = {}
         self.index_sid: int | None = None
         self.takers: dict[str, Takers] = {
-            "show": self.takers_of_show(), "describe": self.takers_of_describe(), "check": self.takers_of_check(),
+            "show": self.takers_of_show(), "describe": self.takers_of_describe(),
+            "check": {"stop": (StopLine, self.take_stop), "finding": (FindingLine, self.take_finding)},
             "plan": {"restore": (OrderLine, self.take_order), "planned": (PlannedLine, self.take_planned)},
             "map": {"map": (MapCounts, self.take_map)},
             "units": {"units": (UnitsLine, self.take_units), "uncounted": (AnyLine, self.take_uncounted)},
@@ -108,11 +109,11 @@ class Making:
     def takers_of_show(self) -> Takers:
         """What takes its lines."""
         return {
-            "packets": (AnyLine, self.take_packets),
+            "packets": (AnyLine, lambda line: self.state.update(packets=line["packets"])),
             "note": (DisputeLine, self.take_dispute),
             "item": (ItemLine, self.take_item),
             "partition": (PackLine, self.take_partition),
-            "chain": (ChainLine, self.take_chain),
+            "chain": (ChainLine, lambda line: self.facts.update(chain=line["chain"])),
             "identification": (ReferenceLine, self.take_identification),
             "company": (TextLine, lambda line: self.add_to_program(line, "company", line["text"])),
             "product": (TextLine, lambda line: self.add_to_program(line, "product", line["text"])),
@@ -121,10 +122,6 @@ class Making:
             "generation": (UidLine, lambda line: self.add_to_program(line, "generation", line["uid"])),
             "modified": (StampLine, lambda line: self.add_to_program(line, "modified", moments.text_of_stamp(line))),
         }
-
-    def take_packets(self, line: Line) -> None:
-        """How many packets there are."""
-        self.state["packets"] = line["packets"]
 
     def take_dispute(self, line: DisputeLine) -> None:
         """A packet in dispute."""
@@ -145,10 +142,6 @@ class Making:
         self.add("partitions", version=f"{line['major']}.{line['minor']}", pattern=pattern, **row)
         self.facts["pattern"] = line["pattern"]
 
-    def take_chain(self, line: ChainLine) -> None:
-        """Whether the chain of partitions is whole."""
-        self.facts["chain"] = line["chain"]
-
     def take_identification(self, line: ReferenceLine) -> None:
         """A program that wrote the file, if the set is found."""
         names = ("company", "product", "version", "product_uid", "generation", "modified")
@@ -167,10 +160,10 @@ class Making:
     def takers_of_describe(self) -> Takers:
         """What takes its lines."""
         return {
-            "described": (DescribedLine, self.take_described),
+            "described": (DescribedLine, lambda line: self.facts.update(metadata=line.get("state"))),
             "package": (AnyLine, self.take_package),
             "name": (NameLine, self.take_name),
-            "created": (StampLine, self.take_created),
+            "created": (StampLine, lambda line: self.add_to_package(created=moments.text_of_stamp(line))),
             "container": (ContainerLine, self.take_container),
             "track": (AnyLine, self.take_track),
             "track-name": (TextLine, self.take_track_name),
@@ -181,10 +174,6 @@ class Making:
             "sound": (SoundLine, self.take_sound),
             "clock": (ClockLine, self.take_clock),
         }
-
-    def take_described(self, line: DescribedLine) -> None:
-        """Whether the copy of the header metadata is whole."""
-        self.facts["metadata"] = line.get("state")
 
     def take_package(self, line: Line) -> None:
         """A package that is found."""
@@ -208,10 +197,6 @@ class Making:
         self.packages.take_name(line)
         self.add_to_package(name=line["text"])
         self.add_text("package", line["text"])
-
-    def take_created(self, line: StampLine) -> None:
-        """When it was made."""
-        self.add_to_package(created=moments.text_of_stamp(line))
 
     def take_container(self, line: ContainerLine) -> None:
         """The streams of its essence and its index."""
@@ -285,10 +270,6 @@ class Making:
         self.add_hours(span, clock=number, timecode=None)
 
     # What the other commands say.
-
-    def takers_of_check(self) -> Takers:
-        """What takes the lines of `check`."""
-        return {"stop": (StopLine, self.take_stop), "finding": (FindingLine, self.take_finding)}
 
     def take_stop(self, line: StopLine) -> None:
         """How a source ends, if it is damaged."""
