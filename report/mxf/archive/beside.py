@@ -63,12 +63,13 @@ def beside(stream: Stream[Item, Answer], items: Sequence[Item], jobs: int) -> It
                 sender.close()
             yield done_of(workers)
         except BaseException:
-            for worker in workers.values():
+            for worker in multiprocessing.active_children():
                 worker.terminate()
             raise
         finally:
-            for receiver, worker in workers.items():
+            for receiver in workers:
                 receiver.close()
+            for worker in multiprocessing.active_children():
                 worker.join()
 
 
