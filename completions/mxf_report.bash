@@ -44,7 +44,7 @@ _mxf_report() {
       ;;
     at:* | range:* | slice:*) return ;;
   esac
-  local options='at: range: slice: cat: --out --title --index --from --to --against --read --skim --sources --archive --help'
+  local options='at: range: slice: cat: --out --title --index --from --to --against --read --skim --sources --archive --json --compare --help'
   [ "$before" != --against ] || options='at: range: slice: cat:'
   mapfile -t COMPREPLY < <(compgen -W "$options" -- "$word")
   case ${COMPREPLY[0]-} in at: | range: | slice: | cat:) compopt -o nospace 2>/dev/null ;; esac

@@ -103,6 +103,9 @@ ItemLine = TypedDict("ItemLine", {"tag": str, "value": "str | None"})
 # Whether the chain of partitions is whole.
 ChainLine = TypedDict("ChainLine", {"chain": str})
 
+# An essence container that a partition pack names.
+LabelLine = TypedDict("LabelLine", {"label": str})
+
 # A copy of the header metadata.
 CopyLine = TypedDict("CopyLine", {"partition": int, "start": "int | None", "bytes": int, "covered": int, "state": str})
 
@@ -260,6 +263,14 @@ PictureLine = TypedDict("PictureLine", {
     "width": "int | None", "height": "int | None", "display-width": "int | None", "display-height": "int | None",
     "layout": "int | None", "aspect": "str | None", "depth": "int | None", "coding": "str | None",
 })  # fmt: skip
+
+# How many samples of luminance there are for each of colour, across and down.
+SamplingWords = TypedDict("SamplingWords", {"horizontal": "int | None", "vertical": "int | None"})
+
+
+class SampledPictureLine(PictureLine, SamplingWords):
+    """All that a descriptor says of a picture."""
+
 
 # What a descriptor says of a sound.
 SoundLine = TypedDict("SoundLine", {

@@ -2,3 +2,10 @@ pub mod ClassLaws
 pub mod KeyLaws
 pub mod LoneLaws
 pub mod SoundLaws
+pub mod SpanLaws
+pub mod TableLaws
+pub mod StrangeLaws
+pub mod DoubtLaws
+pub mod TrackLaws
+pub mod OrderlyLaws
+pub mod ReferenceLaws

@@ -1,7 +1,9 @@
-//! What damage leaves and ordinary writers don't write: the parts of which doubts are made (this project's profile).
+//! What damage leaves and ordinary writers don't write: doubts, and the parts of which they are made (this project's
+//! profile). A doubt is never certain.
 //!
 //! | Question | Call | Answer |
 //! |---|---|---|
+//! | What is in doubt? | [`doubts`] | [`Doubts`]: each [`Code`] with its offset |
 //! | Has no other note the key of one, but for the version? | [`Keys::of`], then [`Keys::is_lone`] | whether it is alone |
 //! | Is a packet one that no standard knows and nobody else writes? | [`Keys::is_strange`] | whether it is |
 //! | Is it dark data? | [`Keys::is_dark`] | whether it is |
@@ -11,9 +13,10 @@
 //! | Does a finished copy begin with it? | [`SoundZones::begins_with`] | whether it is the primer pack of one |
 //! | Has a set an item that sets of its class don't have? | [`is_misfit`] | whether it has |
 //!
-//! Nothing asks these questions yet but the tests: no command prints a doubt. Each call's clause says that its answer is a
-//! function of the notes; the laws say what the functions are in the words of notes, copies and items. Keys and zones are
-//! listed once, in n log n steps of what is held, and each question is a search or two.
+//! Nothing asks these questions yet but the tests: no command prints a doubt, and doubts about indexes and edit units aren't
+//! asked at all. Each call's clause says that its answer is a function of the notes; the laws say what the functions are in the
+//! words of notes, copies and items ([`laws::doubts_by_definition`]). Keys, zones and numbers of tracks are listed once, in n
+//! log n steps of what is held, and each question is a search or two.
 //!
 //! ```
 //! let keys = Keys::of(alloc, views.catalogue())?;
@@ -26,13 +29,23 @@
 //! ```
 #![tactic(auto)]
 
+mod asked;
 mod classes;
+mod doubt;
+mod doubt_laws;
+mod labels;
 pub mod laws;
+mod orderly;
+mod references;
 mod sound;
+mod spans;
 mod strange;
 #[cfg(test)]
 mod tests;
+mod tracks;
 
+pub use asked::doubts;
 pub use classes::is_misfit;
+pub use doubt::{Code, Doubt, Doubts};
 pub use sound::SoundZones;
 pub use strange::{Keys, is_container_packet};

@@ -1,5 +1,5 @@
 //! Small contents, and what is asked of them.
-use crate::{Keys, SoundZones, is_container_packet, is_misfit};
+use crate::{Code, Keys, SoundZones, doubts, is_container_packet, is_misfit};
 use mxf_catalogue::Catalogue;
 use mxf_klv::{Note, OutOfMemory, Ul, read_packet};
 use mxf_views::Views;
@@ -151,6 +151,16 @@ fn a_copy_is_sound(alloc: Global) -> Result<bool, OutOfMemory> {
     Ok(true)
 }
 
+/// Whether one thing of R is in doubt: the storage refers to a package that isn't there.
+fn a_reference_leads_nowhere(alloc: Global) -> Result<bool, OutOfMemory> {
+    let views = views_of_r(alloc)?;
+    let doubts = doubts(alloc, &views)?;
+    match doubts.as_slice().first() {
+        Some(doubt) => Ok(doubts.len() == 1 && doubt.offset == 214 && doubt.code == Code::G09),
+        None => Ok(false),
+    }
+}
+
 /// A set with an edit rate, which timeline tracks have, by byte 15 of its key.
 fn track(class: u8) -> [u8; 29] {
     [
@@ -185,7 +195,9 @@ fn keys(rt: HostRuntime) {
 
 #[test]
 fn zones(rt: HostRuntime) {
-    assert!(rt; holds(rt.alloc(), a_copy_is_sound));
+    let alloc = rt.alloc();
+    assert!(rt; holds(alloc, a_copy_is_sound));
+    assert!(rt; holds(alloc, a_reference_leads_nowhere));
 }
 
 #[test]

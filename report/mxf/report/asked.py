@@ -7,7 +7,10 @@ import argparse
 class Words(argparse.Namespace):
     """The words of a call."""
 
-    out: str
+    page: str | None
+    out: str  # the page, if there is one
+    json: bool
+    compare: bool
     title: str | None
     index: str | None
     first: str | None

@@ -37,10 +37,6 @@ class Asking:
         self.calls: list[str] = []
         self.hints: list[str] = []
 
-    def program(self) -> str:
-        """The program that is asked."""
-        return self.tool.program
-
     def join(self, folder: str) -> None:
         """Reads the sources once into a catalogue, which is asked from now on where it knows as much as they do. Ranges
         alone tell which bytes are at hand, and a skim reads little, as a catalogue does."""

@@ -6,14 +6,14 @@ import os
 import pathlib
 import re
 
-from mxf.faults import OUTPUT, USAGE, OwnFault
+from mxf.faults import NO_PROGRAM, OUTPUT, USAGE, OwnFault
 from mxf.files import check_place, write_whole
 from mxf.report.asked import Words
 from mxf.report.asking import Asking, is_skim
-from mxf.report.database_page import page_of_database
-from mxf.report.recording_page import page_of_recording
-from mxf.running import end_by_signals, status_of
-from mxf.sources import check_read_often, sources_of
+from mxf.running import end_by_signals, printed_by, status_of
+from mxf.sources import Sources, check_read_often, sources_of
+from mxf.summary.named import source_words
+from mxf.summary.printing import print_comparison, print_summary
 from mxf.timecodes import is_timecode
 
 
@@ -31,10 +31,14 @@ def edit_unit(text: str) -> str:
     return text
 
 
-DESCRIPTION = "Writes a page of a recording for people to look at, of what mxf_tool says."
+DESCRIPTION = (
+    "Says what a recording is, how much of it is held, and what to restore next, by what mxf_tool says: in some lines, or "
+    "with --out as a page to look at."
+)
 
 EPILOG = (
-    "A source SRC is at:OFFSET:PATH, range:OFFSET:PATH, slice:OFFSET:LENGTH:PATH or cat:PATH, as of mxf_tool. "
+    "A source SRC is at:OFFSET:PATH, range:OFFSET:PATH, slice:OFFSET:LENGTH:PATH or cat:PATH, as of mxf_tool, or the path "
+    "of a file: at:0:PATH of one that begins with a packet, cat:PATH of a catalogue, range:0:PATH of any other. "
     "MXF_TOOL names another program."
 )
 
@@ -42,7 +46,11 @@ EPILOG = (
 def parser() -> argparse.ArgumentParser:
     """The words that are understood."""
     words = argparse.ArgumentParser(prog="mxf_report", allow_abbrev=False, description=DESCRIPTION, epilog=EPILOG)
-    words.add_argument("--out", metavar="PAGE", required=True, help="the page, which is written whole or not at all")
+    words.add_argument("--out", dest="page", metavar="PAGE", help="a page, which is written whole or not at all")
+    words.add_argument("--json", action="store_true", help="print the lines as a JSON object")
+    words.add_argument(
+        "--compare", action="store_true", help="print what differs between two sources, whose essence is read"
+    )
     words.add_argument("--title", metavar="TEXT", help="its heading; else the name of the first source")
     words.add_argument("--index", metavar="N", type=digits, help="the index of the edit units; else all, four at most")
     words.add_argument("--from", dest="first", metavar="N", type=edit_unit, help="the first edit unit, or its timecode")
@@ -69,6 +77,37 @@ def is_replaceable(path: pathlib.Path) -> bool:
         return file.read(15).upper() in (b"", b"<!DOCTYPE HTML>")
 
 
+def named_sources(words: Words) -> Sources:
+    """The sources that the words name."""
+    return sources_of(source_words(words.source), words.sources)
+
+
+def print_report(words: Words) -> int:
+    """Prints the summary of the recording; the status."""
+    sources = named_sources(words)
+    if words.compare:
+        first, second = (Sources([word]) for word in sources.each())
+        return print_comparison(
+            Asking(first, is_skim(words, first)), Asking(second, is_skim(words, second)), words.json
+        )
+    return print_summary(Asking(sources, is_skim(words, sources)), words.json)
+
+
+def page_of(words: Words) -> str:
+    """The page that is asked for. Its parts are looked for now, for they need jinja2, and those of a database SQLite too."""
+    try:
+        if words.archive is not None:
+            from mxf.report.database_page import page_of_database
+
+            return page_of_database(words.archive, words)
+        from mxf.report.recording_page import page_of_recording
+    except ImportError as fault:
+        raise OwnFault(NO_PROGRAM, f"a page needs jinja2 of Python (python3-jinja2 of Debian): {fault.msg}") from fault
+    sources = named_sources(words)
+    check_read_often(words.against)
+    return page_of_recording(Asking(sources, is_skim(words, sources)), words)
+
+
 def write_report(words: Words) -> int:
     """Makes the page and writes it; the status."""
     path = pathlib.Path(os.path.realpath(words.out))
@@ -76,13 +115,7 @@ def write_report(words: Words) -> int:
         if not is_replaceable(path):
             raise OwnFault(USAGE, f"bad output: {words.out}: it is there, and is no page")
         check_place(path)
-        if words.archive is not None:
-            text = page_of_database(words.archive, words)
-        else:
-            sources = sources_of(words.source, words.sources)
-            check_read_often(words.against)
-            text = page_of_recording(Asking(sources, is_skim(words, sources)), words)
-        write_whole(path, text.encode("utf-8", "replace"))
+        write_whole(path, page_of(words).encode("utf-8", "replace"))
     except OSError as fault:
         raise OwnFault(OUTPUT, f"write fault: {words.out}: {fault.strerror}") from fault
     return 0
@@ -94,6 +127,12 @@ def check_words(accepted: argparse.ArgumentParser, words: Words) -> None:
     if not is_of_many and not words.source and words.sources is None:
         accepted.error("no source is named")
     others = (words.sources, words.index, words.first, words.last)
+    if words.page is None and (is_of_many or words.against or words.title or any(other for other in others[1:])):
+        accepted.error("--archive, --against, --title, --index, --from and --to are of a page: name it by --out")
+    if words.compare and (words.page is not None or words.sources is not None or len(words.source) != 2):
+        accepted.error("--compare takes two sources, and no --out and no --sources")
+    if words.page is not None and words.json:
+        accepted.error("--json prints what a page says, so it takes no --out")
     if is_of_many and (words.source or words.against or any(other is not None for other in others)):
         accepted.error("--archive takes no sources and no edit units")
     if is_of_many and (words.read or words.skim):
@@ -107,4 +146,7 @@ def main() -> int:
     accepted.parse_intermixed_args(namespace=words)
     check_words(accepted, words)
     end_by_signals()
+    if words.page is None:
+        return printed_by(lambda: print_report(words))
+    words.out = words.page
     return status_of(lambda: write_report(words))

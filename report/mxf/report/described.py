@@ -3,6 +3,7 @@ from __future__ import annotations
 
 import collections
 from collections.abc import Iterable, Iterator
+from functools import partial
 
 from mxf.lines import ClockLine, DescribedLine, EssenceLine, Line, PictureLine, SoundLine, Takers, take_lines
 from mxf.packages import Packages
@@ -15,11 +16,10 @@ class Described(Packages):
 
     def __init__(self, lines: Iterable[Line]) -> None:
         super().__init__()
-        self.partition: int | None = None
-        self.is_finished = False
+        self.copy: DescribedLine = {}
         self.clocks: dict[int, list[ClockLine]] = collections.defaultdict(list)
-        self.pictures: dict[str, int] = collections.Counter()
-        self.sounds: dict[str, int] = collections.Counter()
+        self.pictures: collections.Counter[str] = collections.Counter()
+        self.sounds: collections.Counter[str] = collections.Counter()
         self.astray = 0
         self.essence: EssenceLine = {"track": None, "rate": None, "container": None}
         take_lines(self.counted(lines), self.takers())
@@ -28,11 +28,11 @@ class Described(Packages):
         """What takes the lines, by their names."""
         return {
             **super().takers(),
-            "described": (DescribedLine, self.take_described),
-            "essence": (EssenceLine, self.take_essence),
-            "picture": (PictureLine, self.take_picture),
-            "sound": (SoundLine, self.take_sound),
-            "clock": (ClockLine, self.take_clock),
+            "described": (DescribedLine, partial(setattr, self, "copy")),
+            "essence": (EssenceLine, partial(setattr, self, "essence")),
+            "picture": (PictureLine, lambda line: self.pictures.update([picture_text(self.essence, line)])),
+            "sound": (SoundLine, lambda line: self.sounds.update([sound_text(line)])),
+            "clock": (ClockLine, lambda line: self.clocks[line["index-sid"]].append(line)),
         }
 
     def counted(self, lines: Iterable[Line]) -> Iterator[Line]:
@@ -41,25 +41,12 @@ class Described(Packages):
             self.astray += line.get("target", "found") not in ("found", "other")
             yield line
 
-    def take_described(self, line: DescribedLine) -> None:
-        """The copy of the header metadata that is gone by."""
-        self.partition, self.is_finished = line.get("partition"), line.get("state") == "finished"
-
-    def take_essence(self, line: EssenceLine) -> None:
-        """What a descriptor says of all essence."""
-        self.essence = line
-
-    def take_picture(self, line: PictureLine) -> None:
-        """What it says of a picture."""
-        self.pictures[picture_text(self.essence, line)] += 1
-
-    def take_sound(self, line: SoundLine) -> None:
-        """What it says of a sound."""
-        self.sounds[sound_text(line)] += 1
-
-    def take_clock(self, line: ClockLine) -> None:
-        """A run of the clock of an index."""
-        self.clocks[line["index-sid"]].append(line)
+    def why_unknown(self) -> str:
+        """Why nothing says what the recording is."""
+        partition = self.copy.get("partition")
+        if partition is None:
+            return "no copy of its header metadata is held whose partition pack is clear"
+        return f"the header metadata of the partition at {partition} name no package that can be read"
 
     def clock(self, index_sid: int | None) -> Clock | None:
         """The clock of an index, if it has one."""

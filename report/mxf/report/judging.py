@@ -3,22 +3,31 @@ from __future__ import annotations
 
 from collections.abc import Iterator
 
-from mxf.report.facts import Facts
 from mxf.lines import end_of_packet
+from mxf.report.planned import Checked, Planned
+from mxf.report.shown import Mapped, Shown
 from mxf.report.verdicts import OF_RECORDING, Verdict, first_of
 from mxf.standing import is_lacking
 from mxf.report.verified import Verified
 from mxf.report.wording import are_text, bytes_text, count_text
 
 
-def has_nothing(facts: Facts) -> bool:
+class Grounds:
+    """What the verdict rests on: what is held of a recording, what is found wrong and ordered, and what is reported beside a
+    reference, if one was named."""
+
+    def __init__(self, mapped: Mapped, shown: Shown, checked: Checked, planned: Planned) -> None:
+        self.mapped, self.shown, self.checked, self.planned = mapped, shown, checked, planned
+        self.verified: list[Verified] = []
+
+    def differs(self) -> int:
+        """How many packets differ from the reference, if one was named."""
+        return self.verified[0].numbers["differs"] if self.verified else 0
+
+
+def has_nothing(grounds: Grounds) -> bool:
     """Whether the sources have no packet of a recording, and no bytes at hand."""
-    return not facts.shown.notes() and not facts.mapped.numbers["hand"]
-
-
-def differs_of(facts: Facts) -> int:
-    """How many packets differ from the reference, if one was named."""
-    return facts.verified[0].numbers["differs"] if facts.verified else 0
+    return not grounds.shown.notes() and not grounds.mapped.numbers["hand"]
 
 
 def advice_of(verified: Verified) -> str:
@@ -33,11 +42,11 @@ def advice_of(verified: Verified) -> str:
     return f"restore the bytes from {packet['offset']} up to {end_of_packet(packet)} again"
 
 
-def doubts_of(facts: Facts) -> list[str]:
+def doubts_of(grounds: Grounds) -> list[str]:
     """Why not all is as the reference says, beside the packets that differ: nothing was compared, or not all."""
-    if not facts.verified:
+    if not grounds.verified:
         return []
-    one = facts.verified[0]
+    one = grounds.verified[0]
     lacking = one.unverified_bytes
     doubts = [] if one.numbers["packets"] else ["no packet is as the reference says"]
     doubts += [f"of the reference {are_text(lacking, 'byte')} not verified"] if lacking else []
@@ -45,26 +54,26 @@ def doubts_of(facts: Facts) -> list[str]:
     return doubts
 
 
-def parts_of(facts: Facts) -> Iterator[str]:
+def parts_of(grounds: Grounds) -> Iterator[str]:
     """The parts of the sentence that the verdict is."""
-    numbers, planned, differs = facts.mapped.numbers, facts.planned.numbers, differs_of(facts)
+    numbers, planned, differs = grounds.mapped.numbers, grounds.planned.numbers, grounds.differs()
     held = f"{numbers['held']} of {bytes_text(numbers['end'])} are held"
-    yield "the sources have no packet of a recording" if has_nothing(facts) else held
+    yield "the sources have no packet of a recording" if has_nothing(grounds) else held
     if numbers["hand"]:
         yield f"{numbers['hand']} more are at hand"
     if numbers["disputed"]:
         yield f"{are_text(numbers['disputed'], 'packet')} in dispute"
-    shifted = len(facts.checked.shifted())
+    shifted = len(grounds.checked.shifted())
     if shifted:
         yield f"{count_text(shifted, 'OFFSET is', 'OFFSETs are')} wrong by the partition packs"
     if differs:
         count = count_text(differs, "packet differs", "packets differ")
-        yield f"{count} from the reference: {advice_of(facts.verified[0])}"
-    doubts = doubts_of(facts)
+        yield f"{count} from the reference: {advice_of(grounds.verified[0])}"
+    doubts = doubts_of(grounds)
     yield from doubts
-    if facts.verified and facts.verified[0].numbers["unknown"]:
-        yield f"the reference says nothing of {bytes_text(facts.verified[0].numbers['unknown'])}"
-    damaged, found = facts.checked.damaged.count, facts.checked.count
+    if grounds.verified and grounds.verified[0].numbers["unknown"]:
+        yield f"the reference says nothing of {bytes_text(grounds.verified[0].numbers['unknown'])}"
+    damaged, found = grounds.checked.damaged.count, grounds.checked.numbers["findings"]
     if damaged:
         yield f"{count_text(damaged, 'piece')} can't be read to the end"
     findings = count_text(found, "thing is found wrong or missing", "things are found wrong or missing")
@@ -76,17 +85,17 @@ def parts_of(facts: Facts) -> Iterator[str]:
         yield "where the recording ends isn't known"
 
 
-def verdict_of(facts: Facts) -> Verdict:
+def verdict_of(grounds: Grounds) -> Verdict:
     """The verdict that the sentence begins with, one of OF_RECORDING."""
-    numbers, planned = facts.mapped.numbers, facts.planned.numbers
+    numbers, planned = grounds.mapped.numbers, grounds.planned.numbers
     holds = (
-        has_nothing(facts),
+        has_nothing(grounds),
         numbers["disputed"],
-        differs_of(facts),
+        grounds.differs(),
         is_lacking(numbers["missing"], planned["ranges"]),
-        doubts_of(facts),
-        facts.checked.damaged.count,
-        facts.checked.count,
+        doubts_of(grounds),
+        grounds.checked.damaged.count,
+        grounds.checked.numbers["findings"],
         planned["end"] is None,
     )
     return first_of(OF_RECORDING, holds)

@@ -3,12 +3,10 @@ from __future__ import annotations
 
 import collections
 import itertools
-from collections.abc import Sequence
+from collections.abc import Iterator, Sequence
 from typing import NamedTuple
 
 from mxf.report.bounds import NODES
-from mxf.report.drawings import add_drawing
-from mxf.report.elements import Element, add
 from mxf.report.facts import Facts
 from mxf.lines import PartitionLine
 
@@ -19,6 +17,10 @@ class Node(NamedTuple):
     offset: int
     pack: PartitionLine | None
     words: str
+
+    def letter(self) -> str:
+        """The letter of its pack."""
+        return self.pack["part"][0].upper() if self.pack else "o"
 
 
 def named_by(facts: Facts, packs: Sequence[PartitionLine]) -> dict[int, str]:
@@ -59,36 +61,42 @@ def pack_words(pack: PartitionLine, listed: set[int]) -> str:
     return words + ("; in the random index pack" if pack["offset"] in listed else "")
 
 
-def add_node(drawing: Element, node: Node, y: float) -> None:
-    """Adds a partition, or a place that is named, as a box with its letter and its offset."""
-    letter = node.pack["part"][0].upper() if node.pack else "o"
-    box = add(drawing, "rect", x=170, y=y - 10, width=150, height=20, class_="frame" if node.pack else "frame absent")
-    add(box, "title", f"{letter} at {node.offset}: {node.words}")
-    fill = "partition" if node.pack else "missing"
-    add(drawing, "rect", x=170, y=y - 10, width=20, height=20, fill=f"url(#fill-{fill})")
-    add(drawing, "text", letter, x=180, y=y + 4, class_="inverse" if node.pack else "middle")
-    add(drawing, "text", str(node.offset), x=314, y=y + 4, class_="end")
-    add(drawing, "text", node.words, x=430, y=y + 4)
+class Link(NamedTuple):
+    """How a partition names another: a path with what is said of it, or words at a height if it leads nowhere."""
+
+    words: str
+    y: float
+    path: str = ""
+    kind: str = "link"
 
 
-def add_previous(drawing: Element, node: Node, heights: dict[int, float], left_out: float | None) -> None:
-    """Adds how a partition names the one before it: an arrow on the left, or words if it leads nowhere in the drawing."""
+class Drawing(NamedTuple):
+    """The drawing of partitions: its rows, each at its height, and what they name; how many partitions are left out, and
+    the height of what says so; and where it ends."""
+
+    nodes: list[tuple[Node, float]]
+    links: list[Link]
+    left: int
+    left_at: int
+    bottom: int
+
+
+def previous_of(node: Node, heights: dict[int, float], left_out: float | None) -> Link | None:
+    """How a partition names the one before it: an arrow on the left, or words."""
     pack, y = node.pack, heights[node.offset]
     if not pack or pack["link"] == "first":
-        return
+        return None
     to = heights.get(pack["previous"], left_out)
     if pack["link"] == "wrong" or to is None:
-        add(drawing, "text", f"{pack['link']} {pack['previous']} \u2717", x=160, y=y + 4, class_="end")
-        return
+        return Link(f"{pack['link']} {pack['previous']} \u2717", y)
     reach = 170 - min(30 + abs(y - to) / 3, 150)
     kind = {"held": "link", "skips": "link skips", "missing": "link absent"}[pack["link"]]
-    curve = f"M170 {y - 4:g}C{reach:g} {y - 4:g} {reach:g} {to + 4:g} 170 {to + 4:g}"
-    path = add(drawing, "path", d=curve, class_=kind)
-    add(path, "title", f"The partition at {node.offset} names the one at {pack['previous']} before it: {pack['link']}")
+    words = f"The partition at {node.offset} names the one at {pack['previous']} before it: {pack['link']}"
+    return Link(words, y, f"M170 {y - 4:g}C{reach:g} {y - 4:g} {reach:g} {to + 4:g} 170 {to + 4:g}", kind)
 
 
-def add_footers(drawing: Element, nodes: list[Node], heights: dict[int, float]) -> None:
-    """Adds how partitions name the footer: a rail on the right for each footer that is named."""
+def footers_of(nodes: list[Node], heights: dict[int, float]) -> Iterator[Link]:
+    """How partitions name the footer: a rail on the right for each footer that is named."""
     named: dict[int, list[int]] = collections.defaultdict(list)
     for node in nodes:
         if node.pack and node.pack["footer"] in heights and node.pack["footer"] != node.offset:
@@ -97,28 +105,16 @@ def add_footers(drawing: Element, nodes: list[Node], heights: dict[int, float]) 
         rail, to = 340 + 12 * number, heights[footer] - 3
         for offset in offsets:
             y = heights[offset] + 3
-            path = add(drawing, "path", d=f"M320 {y:g}H{rail}V{to:g}H322", class_="link")
-            add(path, "title", f"The partition at {offset} names the footer at {footer}")
+            yield Link(f"The partition at {offset} names the footer at {footer}", y, f"M320 {y:g}H{rail}V{to:g}H322")
 
 
-def add_partitions_drawing(parent: Element, facts: Facts) -> None:
-    """Adds the partitions as boxes from the first to the last, with arrows for what they name."""
+def drawing_of_partitions(facts: Facts) -> Drawing:
+    """The partitions from the first to the last, with what they name."""
     nodes, left = nodes_of(facts)
-    if not nodes:
-        add(parent, "p", "No partition is held.")
-        return
     packs = [place for place, node in enumerate(nodes) if node.pack]
     after = packs[NODES // 2] if left else len(nodes)
     heights = {node.offset: 20 + 26.0 * (place + (place >= after)) for place, node in enumerate(nodes)}
-    left_out = 20 + 26.0 * after if left else None
+    links = [previous_of(node, heights, 20 + 26.0 * after if left else None) for node in nodes]
+    placed = [(node, heights[node.offset]) for node in nodes]
     bottom = 26 * (len(nodes) + bool(left)) + 28
-    drawing = add_drawing(parent, 1000, bottom + 6, "The partitions and how they name each other")
-    if left:
-        add(drawing, "text", f".. {left} more; mxf_tool show has them all", x=430, y=20 + 26 * after + 4)
-    for node in nodes:
-        add_previous(drawing, node, heights, left_out)
-    add_footers(drawing, nodes, heights)
-    for node in nodes:
-        add_node(drawing, node, heights[node.offset])
-    add(drawing, "text", "left: the one before", x=10, y=bottom)
-    add(drawing, "text", "right: the footer", x=330, y=bottom)
+    return Drawing(placed, [*filter(None, links), *footers_of(nodes, heights)], left, 20 + 26 * after, bottom)

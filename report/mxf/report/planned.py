@@ -3,6 +3,7 @@ from __future__ import annotations
 
 import re
 from collections.abc import Iterable
+from functools import partial
 
 from mxf.lines import (
     DisputedPlaceLine, FindingLine, FindingsLine, Line, PlannedLine, RestoreLine, StopLine, UnitsLine, take_lines,
@@ -20,15 +21,15 @@ class Checked:
     """What `check` says: which pieces are damaged, and of each code how often it is found, and its first offsets; and its
     hints."""
 
-    def __init__(self, lines: Iterable[Line]) -> None:
-        self.count = 0
-        self.hints: list[str] = []
+    def __init__(self, lines: Iterable[Line], hints: list[str]) -> None:
+        self.hints = hints
+        self.numbers: FindingsLine = {"findings": 0}
         self.damaged: Rows[StopLine] = Rows()
         self.codes: dict[str, Rows[FindingLine]] = {}
         take_lines(lines, {
             "stop": (StopLine, self.take_stop),
             "finding": (FindingLine, self.take_finding),
-            "findings": (FindingsLine, self.take_findings),
+            "findings": (FindingsLine, partial(setattr, self, "numbers")),
         })  # fmt: skip
 
     def take_stop(self, line: StopLine) -> None:
@@ -40,13 +41,20 @@ class Checked:
         """A finding."""
         self.codes.setdefault(line["code"], Rows(OFFSETS)).add(line)
 
-    def take_findings(self, line: FindingsLine) -> None:
-        """How many findings there are."""
-        self.count = line["findings"]
+    def by_code(self) -> Rows[tuple[str, Rows[FindingLine]]]:
+        """The codes in their order, with their findings."""
+        rows: Rows[tuple[str, Rows[FindingLine]]] = Rows()
+        for code in sorted(self.codes.items()):
+            rows.add(code)
+        return rows
 
-    def shifted(self) -> list[str]:
-        """The hints that say how a wrong OFFSET would be right."""
-        return [hint for hint in self.hints if SHIFTED.fullmatch(hint)]
+    def shifted(self) -> list[tuple[str, ...]]:
+        """The hints that say how a wrong OFFSET would be right: what stands before the source, its name, and what follows."""
+        return [known.groups() for known in map(SHIFTED.fullmatch, self.hints) if known]
+
+    def other_hints(self) -> list[str]:
+        """The other hints."""
+        return [hint for hint in self.hints if not SHIFTED.fullmatch(hint)]
 
 
 class Planned:
@@ -61,14 +69,6 @@ class Planned:
         take_lines(lines, {
             "restore": (RestoreLine, self.orders.add),
             "disputed": (DisputedPlaceLine, self.disputed.add),
-            "planned": (PlannedLine, self.take_planned),
-            "units": (UnitsLine, self.take_units),
+            "planned": (PlannedLine, partial(setattr, self, "numbers")),
+            "units": (UnitsLine, partial(setattr, self, "units")),
         })  # fmt: skip
-
-    def take_planned(self, line: PlannedLine) -> None:
-        """The numbers."""
-        self.numbers = line
-
-    def take_units(self, line: UnitsLine) -> None:
-        """How many edit units there are."""
-        self.units = line

@@ -1,19 +1,19 @@
 """The page of one recording."""
 from __future__ import annotations
 
+import shlex
 import tempfile
 
-from mxf.report.asked import Words
 from mxf.faults import NO_PROGRAM, OwnFault
-from mxf.lines import LineFault
+from mxf.lines import LineFault, end_of_packet, fields_of
+from mxf.report import pages
+from mxf.report.asked import Words
 from mxf.report.asking import Asking
-from mxf.report.comparing import add_disputes, add_findings, add_reference, add_sources
-from mxf.report.contents import add_metadata, add_partitions, add_recording
-from mxf.report.elements import add, clean
-from mxf.report.facts import facts_of
-from mxf.report.opening import add_description, add_skim, add_verdict
-from mxf.report.pages import made_text, new_page, text_of
-from mxf.report.restoring import add_orders, add_units
+from mxf.report.drawings import drawing_of_bar, drawing_of_strip
+from mxf.report.facts import BESIDE, Facts
+from mxf.report.judging import parts_of, verdict_of
+from mxf.report.partition_drawing import drawing_of_partitions
+from mxf.report.strips import what_is_ordered
 from mxf.report.told import Told, file_of
 from mxf.report.wording import count_text
 
@@ -31,16 +31,12 @@ def page_of_recording(tool: Asking, words: Words) -> str:
     with tempfile.TemporaryDirectory(prefix="mxf_report.") as folder:
         tool.join(folder)
         try:
-            facts = facts_of(tool, words)
+            facts = Facts(tool, words)
         except LineFault as fault:
-            raise OwnFault(NO_PROGRAM, f"{tool.program()} prints {fault}") from fault
-    page, body = new_page(words.title or title_of(facts.told))
-    parts = (
-        add_skim, add_description, add_verdict, add_orders, add_recording, add_units, add_disputes, add_reference,
-        add_findings, add_partitions, add_metadata, add_sources,
+            raise OwnFault(NO_PROGRAM, f"{tool.tool.program} prints {fault}") from fault
+    return pages.page_of(
+        "recording.html", words.title or title_of(facts.told), facts=facts, **vars(facts), calls="; ".join(tool.calls),
+        verdict=verdict_of(facts), parts=list(parts_of(facts)), bar=drawing_of_bar(facts), drawing_of_strip=drawing_of_strip,
+        drawing=drawing_of_partitions(facts), what_is_ordered=what_is_ordered, end_of_packet=end_of_packet,
+        fields_of=fields_of, beside=f"mxf_tool {BESIDE}", command=shlex.join,
     )  # fmt: skip
-    for part in parts:
-        part(body, facts)
-    made = add(body, "p", f"Made on {made_text()} of what mxf_tool says: ", class_="made", id="made")
-    add(made, "code", clean("; ".join(tool.calls), 2000)).tail = "."
-    return text_of(page)

@@ -1,13 +1,11 @@
 """Rows of which a page shows the first."""
 from __future__ import annotations
 
-from collections.abc import Callable
 from typing import Generic, TypeVar
 
 from mxf.report.bounds import ROWS
 
 Row = TypeVar("Row")
-Other = TypeVar("Other")
 
 
 class Rows(Generic[Row]):
@@ -24,8 +22,6 @@ class Rows(Generic[Row]):
         if len(self.kept) < self.most:
             self.kept.append(row)
 
-    def map(self, change: Callable[[Row], Other]) -> Rows[Other]:
-        """The same number of rows, those that are kept changed."""
-        rows: Rows[Other] = Rows(self.most)
-        rows.kept, rows.count = [change(row) for row in self.kept], self.count
-        return rows
+    def left(self) -> int:
+        """How many aren't kept."""
+        return self.count - len(self.kept)

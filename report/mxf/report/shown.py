@@ -5,11 +5,12 @@ import array
 import bisect
 import collections
 from collections.abc import Iterable, Sequence
+from functools import partial
 from typing import NamedTuple
 
 from mxf.lines import (
     AnyLine, ChainLine, CopyLine, ExtentLine, Line, MapLine, NoteLine, PartitionLine, PieceLine, PreferredLine, RangeLine,
-    ReferenceLine, RipEntryLine, RipLine, RowLine, SegmentLine, Takers, end_of_packet, take_lines,
+    ReferenceLine, RipEntryLine, RipLine, RowLine, SegmentLine, Takers, take_lines,
 )  # fmt: skip
 from mxf.report.bounds import NAMES, NODES
 from mxf.report.rows import Rows
@@ -28,16 +29,11 @@ class Mapped:
         self.numbers: MapLine = {"end": 0, "held": 0, "hand": 0, "missing": 0, "gaps": 0, "disputed": 0, "cell": 1}
         self.cells = ""
         self.extents: Rows[ExtentLine] = Rows()
-        takers = {
-            "map": (MapLine, self.take_map),
+        take_lines(lines, {
+            "map": (MapLine, partial(setattr, self, "numbers")),
             "row": (RowLine, self.take_row),
             "extent": (ExtentLine, self.extents.add),
-        }
-        take_lines(lines, takers)
-
-    def take_map(self, line: MapLine) -> None:
-        """The numbers."""
-        self.numbers = line
+        })  # fmt: skip
 
     def take_row(self, line: RowLine) -> None:
         """Some cells."""
@@ -69,6 +65,18 @@ class Record(NamedTuple):
     reference: ReferenceLine
     details: dict[str, Line]
 
+    def said(self) -> list[tuple[str, str]]:
+        """What the set says: names, and texts."""
+        return [(name, text_of(line)) for name, line in self.details.items()]
+
+
+def text_of(line: Line) -> str:
+    """What a line says of a set."""
+    if "year" not in line:
+        return next((str(value) for key, value in line.items() if key != "line"), "")
+    date = "{year}-{month:02}-{day:02} {hour:02}:{minute:02}:{second:02}"
+    return date.format(**line) if line["month"] else "not stated"
+
 
 class Shown:
     """What `show` says: first rows and numbers. Packets are counted and not kept."""
@@ -79,21 +87,21 @@ class Shown:
         self.heads = self.cut_heads = 0
         self.values = array.array("Q")  # where the values of heads would begin
         self.readings = Readings()
-        self.end = 0
         self.pieces: Rows[PieceLine] = Rows()
         self.copies: Rows[CopyLine] = Rows()
         self.entries: Rows[RipEntryLine] = Rows()
         self.records: Rows[Record] = Rows()
-        self.record: Record | None = None
+        self.details: dict[str, Line] = {}
         self.partitions: Rows[PartitionLine] = Rows()
         self.last: collections.deque[PartitionLine] = collections.deque(maxlen=NODES // 2)
         self.offsets: set[int] = set()
         self.begins: dict[int, Rows[str]] = collections.defaultdict(lambda: Rows(NAMES))
-        self.chain = "broken"
-        self.preferred: int | None = None
+        self.chain: ChainLine = {"chain": "broken"}
+        self.preferred: PreferredLine = {"partition": None}
         self.rip: RipLine = {"standing": "none"}
         self.index_sids: set[int] = set()
         take_lines(lines, self.takers())
+        self.rising = sorted(self.offsets)
 
     def takers(self) -> Takers:
         """What takes the lines, by their names."""
@@ -103,12 +111,12 @@ class Shown:
             "note": (NoteLine, self.take_note),
             "gap": (RangeLine, self.take_gap),
             "partition": (PartitionLine, self.take_partition),
-            "chain": (ChainLine, self.take_chain),
+            "chain": (ChainLine, partial(setattr, self, "chain")),
             "copy": (CopyLine, self.copies.add),
-            "preferred": (PreferredLine, self.take_preferred),
+            "preferred": (PreferredLine, partial(setattr, self, "preferred")),
             "identification": (ReferenceLine, self.take_reference),
             "package": (ReferenceLine, self.take_reference),
-            "segment": (SegmentLine, self.take_segment),
+            "segment": (SegmentLine, lambda line: self.index_sids.add(line["index-sid"])),
             "rip": (RipLine, self.take_rip),
             "rip-entry": (RipEntryLine, self.take_rip_entry),
         }
@@ -116,7 +124,6 @@ class Shown:
     def take_note(self, line: NoteLine) -> None:
         """A packet."""
         self.kinds[line["kind"]] += 1
-        self.end = max(self.end, end_of_packet(line))
         if line["head"]:
             self.heads += 1
             self.values.append(line["offset"] + 16 + line["width"])
@@ -134,27 +141,14 @@ class Shown:
         self.offsets.add(line["offset"])
         self.begins[line["offset"] // self.cell].add(f"{line['part']} partition at {line['offset']}")
 
-    def take_chain(self, line: ChainLine) -> None:
-        """How the partitions hang together."""
-        self.chain = line["chain"]
-
-    def take_preferred(self, line: PreferredLine) -> None:
-        """The copy to take."""
-        self.preferred = line["partition"]
-
     def take_reference(self, line: ReferenceLine) -> None:
         """A reference to a set that says which program wrote the file, or to that of a package."""
-        self.record = Record(line, {})
-        self.records.add(self.record)
+        self.details = {}
+        self.records.add(Record(line, self.details))
 
     def take_detail(self, line: Line) -> None:
         """What the set of the last reference says."""
-        if self.record:
-            self.record.details[line["line"]] = line
-
-    def take_segment(self, line: SegmentLine) -> None:
-        """An index table segment."""
-        self.index_sids.add(line["index-sid"])
+        self.details[line["line"]] = line
 
     def take_rip(self, line: RipLine) -> None:
         """The random index pack."""

@@ -6,9 +6,10 @@ import collections
 import shlex
 from collections.abc import Iterable, Sequence
 from dataclasses import dataclass, field
+from functools import partial
 
 from mxf.report.clocks import Clock, Place, Timecodes
-from mxf.report.guide import STANDING_WORDS
+from mxf.report.guide import REASONS, STANDING_WORDS
 from mxf.lines import Line, RestoreLine, UnitLine, UnitsLine, VerifiedUnitsLine, take_lines
 from mxf.report.planned import Planned
 from mxf.report.rows import Rows
@@ -89,11 +90,7 @@ class Strip:
 
     def take_units(self, lines: Iterable[Line]) -> None:
         """Takes what `units` says."""
-        take_lines(lines, {"unit": (UnitLine, self.take_unit), "units": (UnitsLine, self.take_total)})
-
-    def take_total(self, line: UnitsLine) -> None:
-        """Takes how many units there are."""
-        self.total = line
+        take_lines(lines, {"unit": (UnitLine, self.take_unit), "units": (UnitsLine, partial(setattr, self, "total"))})
 
     def take_unit(self, line: UnitLine) -> None:
         """Takes an edit unit, with the timecode that it shows if one is known."""
@@ -111,7 +108,26 @@ class Strip:
         if self.run:
             self.run.shown = Timecodes(line.get("first-at"), line.get("last-at"))
 
+    def last(self) -> int:
+        """The last unit."""
+        return self.first + len(self.codes) - 1
+
+    def is_timed(self) -> bool:
+        """Whether a timecode of a run is known."""
+        return any(run.shown.first for run in self.runs.kept)
+
     def counts(self, begin: int = 0, end: int | None = None) -> dict[str, int]:
         """How many units stand by each word, from one place of the strip up to another."""
         counts = collections.Counter(self.codes[begin:end])
         return {STANDING_WORDS[code]: counts[code] for code in sorted(counts)}
+
+
+def what_is_ordered(order: RestoreLine, strips: list[Strip]) -> str:
+    """What lies in an order, with the timecodes of the edit units that it is of, and their index if there are several."""
+    told = REASONS.get(order["reason"], order["reason"])
+    told += "; these bytes were handed in already, and don't do" if order["again"] else ""
+    for strip in strips:
+        timecodes = strip.ordered.within(order)
+        named = f" of index {strip.index_sid}" if len(strips) > 1 else ""
+        told += f"; edit units{named} at {timecodes.text()}" if timecodes.first else ""
+    return told

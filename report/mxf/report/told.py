@@ -3,10 +3,11 @@ from __future__ import annotations
 
 import collections
 import os
-from collections.abc import Iterable
+from collections.abc import Iterable, Sequence
 
 from mxf.lines import Line, NoteLine, SourceLine, take_lines
 from mxf.report.asking import Asking
+from mxf.report.bounds import NAMES
 from mxf.report.rows import Rows
 from mxf.report.shown import Readings, Shown
 
@@ -31,6 +32,11 @@ class Told:
         for one in self.sources.kept:
             file = file_of(one["word"])
             self.names[one["source"]] = file if files[file] == 1 else one["word"]
+
+    def named(self, numbers: Sequence[int]) -> list[tuple[int, str]]:
+        """Sources with their names, if they are few and all are known."""
+        are_known = len(numbers) <= 2 * NAMES and all(number in self.names for number in numbers)
+        return [(number, self.names[number]) for number in numbers] if are_known else []
 
     def take_source(self, line: SourceLine) -> None:
         """A source."""

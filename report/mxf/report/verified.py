@@ -2,6 +2,7 @@
 from __future__ import annotations
 
 from collections.abc import Iterable
+from functools import partial
 
 from mxf.lines import DiffersLine, Line, PacketLine, RangeLine, StopLine, VerifiedLine, VerifiedUnitsLine, take_lines
 from mxf.report.rows import Rows
@@ -11,7 +12,7 @@ from mxf.report.strips import Strip
 class Verified:
     """What `verify` says: what differs or is cut, and its numbers; and how edit units stand by it."""
 
-    def __init__(self, lines: Iterable[Line], strip: Strip | None) -> None:
+    def __init__(self, lines: Iterable[Line], strip: Strip) -> None:
         self.differs: Rows[DiffersLine] = Rows()
         self.cut: Rows[PacketLine] = Rows()
         self.unverified: Rows[RangeLine] = Rows()
@@ -28,8 +29,8 @@ class Verified:
             "unknown": (RangeLine, self.unknown.add),
             "stop": (StopLine, self.take_stop),
             "unverified": (RangeLine, self.take_unverified),
-            "units": (VerifiedUnitsLine, self.take_units),
-            "verified": (VerifiedLine, self.take_verified),
+            "units": (VerifiedUnitsLine, strip.take_verified),
+            "verified": (VerifiedLine, partial(setattr, self, "numbers")),
         })  # fmt: skip
 
     def take_stop(self, line: StopLine) -> None:
@@ -41,15 +42,6 @@ class Verified:
         """Bytes of the reference that weren't verified."""
         self.unverified.add(line)
         self.unverified_bytes += line["end"] - line["start"]
-
-    def take_units(self, line: VerifiedUnitsLine) -> None:
-        """Edit units that stand alike."""
-        if self.strip:
-            self.strip.take_verified(line)
-
-    def take_verified(self, line: VerifiedLine) -> None:
-        """The numbers."""
-        self.numbers = line
 
     def is_all_there(self) -> bool:
         """Whether each byte of the reference is as it says in some source, also of packets that differ in others."""

@@ -1,0 +1,205 @@
+-- What each code of a doubt says of the notes (this project's profile).
+use Rattle.std.specs.Prelude.{◌≡◌, ◌≢◌, ℕ, ◌+◌, ◌<◌, ◌≤◌, ◌⊎◌, IsTrue, true, Some, None, IsSome, List, [], ◌∷◌, length, take, drop}
+use Rattle.mxf_klv.specs.declared.kinds.Kind.TheVariants as kinds
+use Rattle.mxf_klv.specs.Parts.{NoteParts}
+use Rattle.mxf_klv.specs.Note.{end_of, keeps_value}
+use Rattle.mxf_klv.specs.Kind.{kind_of}
+use Rattle.mxf_klv.specs.Rising.{In}
+use Rattle.mxf_sets.specs.Batch.{BatchParts, batch_items}
+use Rattle.mxf_sets.specs.Fields.{is_batch}
+use Rattle.mxf_sets.specs.Instance.{instance_uid_at}
+use Rattle.mxf_sets.specs.Items.{ItemParts}
+use Rattle.mxf_sets.specs.PackReadings.{batch_in}
+use Rattle.mxf_sets.specs.Primer.{IsOnlyLabel}
+use Rattle.mxf_catalogue.specs.Disputes.{IsClear}
+use Rattle.mxf_views.specs.declared.copy.CopyInfo.{CopyInfo}
+use Rattle.mxf_views.specs.Copies.{IsCopy, IsSetKind}
+use Rattle.mxf_views.specs.Labels.{primer_of}
+use Rattle.mxf_views.specs.Readings.{IsReadAs}
+use Rattle.mxf_views.specs.SetItems.{IsMadeUpOf}
+use Rattle.mxf_doubts.specs.declared.doubt.Code.{Code}
+use Rattle.mxf_doubts.specs.declared.doubt.Code.TheVariants.{G01, G02, G06, G07, G08, G09, G10}
+use Rattle.mxf_doubts.specs.declared.doubt.Doubt.{Doubt}
+use Rattle.mxf_doubts.specs.Classes.{IsMisfit}
+use Rattle.mxf_doubts.specs.Header.{is_batch_tag, is_reference_tag}
+use Rattle.mxf_doubts.specs.Sound.{IsInSoundZone}
+use Rattle.mxf_doubts.specs.Strange.{IsLone, bare_key, named_keys}
+
+-- ---- Strange packets
+
+-- Byte 7 of the key, the structure of what its register names, is 1.
+abbrev pub HasStructure1 : List ℕ → Type 0
+HasStructure1 key = take 1 (drop 6 key) ≡ 0x01 ∷ []
+
+-- The packet is of no known kind, no other has its key but for the version, and no standard names the key; or the packet is
+-- an essence element or a raw set whose key has another structure.
+pub data IsStrange (notes : List NoteParts) (n : NoteParts) : Type 0 where
+  unknown : kind_of n.key ≡ kinds.Other → IsLone notes n → (In (bare_key n.key) named_keys → ⊥) → IsStrange notes n
+  essence : kind_of n.key ≡ kinds.Essence → (HasStructure1 n.key → ⊥) → IsStrange notes n
+  raw_set : kind_of n.key ≡ kinds.RawSet → (HasStructure1 n.key → ⊥) → IsStrange notes n
+
+-- A finished copy begins with the packet.
+pub record IsFirstPrimer (notes : List NoteParts) (n : NoteParts) : Type 0 where
+  pub kind : kind_of n.key ≡ kinds.Primer
+  pub copy : CopyInfo
+  pub copied : IsCopy notes copy
+  pub finished : copy.finished ≡ true
+  pub begins : copy.start ≡ Some n.offset
+
+-- Header metadata have such a packet.
+pub data IsOfHeader (notes : List NoteParts) (n : NoteParts) : Type 0 where
+  a_set : IsSetKind (kind_of n.key) → IsOfHeader notes n
+  a_fill : kind_of n.key ≡ kinds.Fill → IsOfHeader notes n
+  an_unknown : kind_of n.key ≡ kinds.Other → IsOfHeader notes n
+  a_primer : IsFirstPrimer notes n → IsOfHeader notes n
+
+-- ---- Tracks
+
+-- A clear raw set in the zone of a finished copy has the number as that of a track: four bytes, not all zero.
+pub record NamesTrack (notes : List NoteParts) (number : List ℕ) : Type 0 where
+  pub set : NoteParts
+  pub clear : IsClear set notes
+  pub kind : kind_of set.key ≡ kinds.RawSet
+  pub sound : IsInSoundZone notes set
+  pub items : List ItemParts
+  pub made : IsMadeUpOf set items
+  pub item : ItemParts
+  pub has : In item items
+  pub tag : item.tag ≡ 0x4804
+  pub value : item.value ≡ number
+  pub four : length number ≡ 4
+  pub some : number ≢ 0x00 ∷ 0x00 ∷ 0x00 ∷ 0x00 ∷ []
+
+-- ---- Orderly copies
+
+-- The note is clear, and lies wholly in the bytes of the copy.
+pub record IsOfCopy (notes : List NoteParts) (c : CopyInfo) (start : ℕ) (n : NoteParts) : Type 0 where
+  pub clear : IsClear n notes
+  pub from : start ≤ n.offset
+  pub before : end_of n ≤ start + c.bytes
+
+-- A primer at the start of a copy, a set, a fill, or of no known kind.
+pub data IsOrderlyNote (start : ℕ) (n : NoteParts) : Type 0 where
+  its_primer : kind_of n.key ≡ kinds.Primer → n.offset ≡ start → IsOrderlyNote start n
+  its_set : IsSetKind (kind_of n.key) → IsOrderlyNote start n
+  its_fill : kind_of n.key ≡ kinds.Fill → IsOrderlyNote start n
+  its_unknown : kind_of n.key ≡ kinds.Other → IsOrderlyNote start n
+
+-- A finished copy of which each packet is such.
+pub record IsOrderly (notes : List NoteParts) (c : CopyInfo) (start : ℕ) : Type 0 where
+  pub copied : IsCopy notes c
+  pub finished : c.finished ≡ true
+  pub begins : c.start ≡ Some start
+  pub each : (n : NoteParts) → IsOfCopy notes c start n → IsOrderlyNote start n
+
+-- A set of the copy.
+abbrev pub IsSetIn : List NoteParts → CopyInfo → ℕ → NoteParts → Type 0
+IsSetIn notes c start n = IsOfCopy notes c start n × IsSetKind (kind_of n.key)
+
+-- The set has an item with a dynamic tag, 8000 or above, that has not exactly one label in the primer pack.
+pub record LacksLabel (primer : BatchParts) (n : NoteParts) : Type 0 where
+  pub items : List ItemParts
+  pub made : IsMadeUpOf n items
+  pub item : ItemParts
+  pub has : In item items
+  pub dynamic : 0x8000 ≤ item.tag
+  pub none : (label : List ℕ) → IsOnlyLabel item.tag primer label → ⊥
+
+-- ---- References
+
+-- An item holds a reference: the item is one, or a batch of them (ST 377-1, batch).
+pub data HoldsReference (i : ItemParts) (uid : List ℕ) : Type 0 where
+  one : IsTrue (is_reference_tag i.tag) → length i.value ≡ 16 → i.value ≡ uid → HoldsReference i uid
+  many : IsTrue (is_batch_tag i.tag) → IsTrue (is_batch 16 i.value) → In uid (batch_items (batch_in i.value))
+      → HoldsReference i uid
+
+-- The note is a set that is kept, whose items can be read, and that has the instance identifier.
+pub record HasInstance (n : NoteParts) (uid : List ℕ) : Type 0 where
+  pub items : List ItemParts
+  pub made : IsMadeUpOf n items
+  pub uid_is : IsReadAs instance_uid_at n uid
+
+-- Each packet of the copy is a fill, a primer pack, or a set with an instance identifier.
+pub record IsTold (notes : List NoteParts) (c : CopyInfo) (start : ℕ) : Type 0 where
+  pub each : (n : NoteParts) → IsOfCopy notes c start n
+      → (kind_of n.key ≡ kinds.Fill) ⊎ ((kind_of n.key ≡ kinds.Primer) ⊎ ((uid : List ℕ) × HasInstance n uid))
+
+-- The set holds a reference, and no set of the copy has the identifier that the reference names.
+pub record RefersToNone (notes : List NoteParts) (c : CopyInfo) (start : ℕ) (n : NoteParts) : Type 0 where
+  pub items : List ItemParts
+  pub made : IsMadeUpOf n items
+  pub item : ItemParts
+  pub has : In item items
+  pub uid : List ℕ
+  pub holds : HoldsReference item uid
+  pub none : (m : NoteParts) → IsSetIn notes c start m → HasInstance m uid → ⊥
+
+-- ---- The codes
+
+-- A clear note at the offset is such.
+abbrev pub AtClear : List NoteParts → (NoteParts → Type 0) → ℕ → Type 0
+AtClear notes IsSuch offset = (n : NoteParts) × IsClear n notes × (n.offset ≡ offset) × IsSuch n
+
+-- A finished copy of the partition at the offset has a set, and not exactly one Preface.
+pub record LacksPreface (notes : List NoteParts) (offset : ℕ) : Type 0 where
+  pub copy : CopyInfo
+  pub copied : IsCopy notes copy
+  pub there : copy.partition ≡ offset
+  pub finished : copy.finished ≡ true
+  pub prefaces : copy.prefaces ≢ 1
+  pub start : ℕ
+  pub begins : copy.start ≡ Some start
+  pub set : NoteParts
+  pub has : IsSetIn notes copy start set
+
+pub record IsStrangeInside (notes : List NoteParts) (n : NoteParts) : Type 0 where
+  pub sound : IsInSoundZone notes n
+  pub why : IsStrange notes n ⊎ (IsOfHeader notes n → ⊥)
+
+pub record IsStrangeOutside (notes : List NoteParts) (n : NoteParts) : Type 0 where
+  pub outside : IsInSoundZone notes n → ⊥
+  pub strange : IsStrange notes n
+
+pub record IsUntracked (notes : List NoteParts) (n : NoteParts) : Type 0 where
+  pub kind : kind_of n.key ≡ kinds.Essence
+  pub lone : IsLone notes n
+  pub some : (number : List ℕ) × NamesTrack notes number
+  pub none : NamesTrack notes (drop 12 n.key) → ⊥
+
+-- A set at the offset is one of an orderly, told copy, and refers to none of the copy's sets.
+pub record IsUnreferred (notes : List NoteParts) (offset : ℕ) : Type 0 where
+  pub copy : CopyInfo
+  pub start : ℕ
+  pub orderly : IsOrderly notes copy start
+  pub told : IsTold notes copy start
+  pub set : NoteParts
+  pub in_copy : IsSetIn notes copy start set
+  pub there : set.offset ≡ offset
+  pub refers : RefersToNone notes copy start set
+
+-- A set at the offset is the first one of an orderly copy that lacks a label.
+pub record IsFirstUnlabelled (notes : List NoteParts) (offset : ℕ) : Type 0 where
+  pub copy : CopyInfo
+  pub start : ℕ
+  pub orderly : IsOrderly notes copy start
+  pub set : NoteParts
+  pub in_copy : IsSetIn notes copy start set
+  pub there : set.offset ≡ offset
+  pub primer : BatchParts
+  pub is_primer : primer_of notes copy ≡ Some primer
+  pub lacks : LacksLabel primer set
+  pub first : (m : NoteParts) → IsSetIn notes copy start m → m.offset < offset → LacksLabel primer m → ⊥
+
+-- The cause of the code is met at the offset.
+abbrev pub IsDoubtedAt : Code → List NoteParts → ℕ → Type 0
+IsDoubtedAt G01 notes offset = LacksPreface notes offset
+IsDoubtedAt G02 notes offset = AtClear notes (IsStrangeInside notes) offset
+IsDoubtedAt G06 notes offset = AtClear notes (IsStrangeOutside notes) offset
+IsDoubtedAt G07 notes offset = AtClear notes (IsUntracked notes) offset
+IsDoubtedAt G08 notes offset = AtClear notes IsMisfit offset
+IsDoubtedAt G09 notes offset = IsUnreferred notes offset
+IsDoubtedAt G10 notes offset = IsFirstUnlabelled notes offset
+
+-- It is a doubt of the notes.
+abbrev pub IsDoubt : List NoteParts → Doubt → Type 0
+IsDoubt notes d = IsDoubtedAt d.code notes d.offset

@@ -1,0 +1,1 @@
+"""Labels of SMPTE by name: essence containers, picture codings and sound codings."""
