@@ -5,8 +5,9 @@ import contextlib
 import functools
 import multiprocessing
 import os
+import signal
 from array import array
-from collections.abc import Callable, Generator, Iterator, Sequence
+from collections.abc import Callable, Collection, Generator, Iterator, Sequence
 from multiprocessing.connection import Connection, wait
 from multiprocessing.process import BaseProcess
 from typing import Generic, TypeVar, cast
@@ -60,17 +61,40 @@ def beside(stream: Stream[Item, Answer], items: Sequence[Item], jobs: int) -> It
                 words = (stream, items, numbers.fileno(), sender, [*workers, receiver])
                 workers[receiver] = CONTEXT.Process(target=serve, args=words)
                 workers[receiver].start()
+                lead(workers[receiver].pid)
                 sender.close()
             yield done_of(workers)
         except BaseException:
-            for worker in multiprocessing.active_children():
-                worker.terminate()
+            end(workers.values())
             raise
         finally:
             for receiver in workers:
                 receiver.close()
             for worker in multiprocessing.active_children():
                 worker.join()
+
+
+def lead(pid: int | None) -> None:
+    """Lets a process, or with 0 this one, lead a group of its own. The process itself and the one that started it do so, since
+    either may be the first."""
+    with contextlib.suppress(OSError):
+        os.setpgid(pid or 0, pid or 0)
+
+
+def end(workers: Collection[BaseProcess]) -> None:
+    """Ends processes and their calls, also those that begin meanwhile: a process and its calls are one group."""
+    for worker in workers:
+        end_group(worker)
+    for worker in workers:
+        worker.join()
+        end_group(worker)
+
+
+def end_group(worker: BaseProcess) -> None:
+    """Ends what is left of the group of a process."""
+    assert worker.pid is not None  # it was started
+    with contextlib.suppress(ProcessLookupError):
+        os.killpg(worker.pid, signal.SIGTERM)
 
 
 def done_of(workers: dict[Connection, BaseProcess]) -> Iterator[Done[Item, Answer]]:
@@ -92,8 +116,9 @@ def done_of(workers: dict[Connection, BaseProcess]) -> Iterator[Done[Item, Answe
 def serve(
     stream: Stream[Item, Answer], items: Sequence[Item], numbers: int, sender: Connection, others: list[Connection]
 ) -> None:
-    """Sends what is done of items, until none is left, or nobody receives it. An interrupt of a terminal reaches the program
-    that receives it too."""
+    """Sends what is done of items, until none is left, or nobody receives it. It leads a group of its
+    own, which an interrupt of a terminal doesn't reach."""
+    lead(0)
     for receiver in others:
         receiver.close()  # so that sending fails where that program is killed
     with contextlib.suppress(KeyboardInterrupt, BrokenPipeError):
