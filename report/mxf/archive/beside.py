@@ -10,7 +10,7 @@ from array import array
 from collections.abc import Callable, Collection, Generator, Iterator, Sequence
 from multiprocessing.connection import Connection, wait
 from multiprocessing.process import BaseProcess
-from typing import Generic, TypeVar, cast
+from typing import Any, Generic, TypeVar, cast
 
 from mxf.faults import NO_PROGRAM, OwnFault, ToolFault
 
@@ -21,6 +21,8 @@ FAULTS = (ToolFault, OwnFault, OSError)  # of one item; any other is one of this
 
 # A process that is forked knows all that this one does, so no work has to be told to it.
 CONTEXT = multiprocessing.get_context("fork")
+
+SIGNALS = (signal.SIGHUP, signal.SIGINT, signal.SIGTERM)  # that end this program
 
 
 class Outcome(Generic[Answer]):
@@ -59,9 +61,8 @@ def beside(stream: Stream[Item, Answer], items: Sequence[Item], jobs: int) -> It
             for _ in range(min(jobs, len(items))):
                 receiver, sender = CONTEXT.Pipe(duplex=False)
                 words = (stream, items, numbers.fileno(), sender, [*workers, receiver])
-                workers[receiver] = CONTEXT.Process(target=serve, args=words)
-                workers[receiver].start()
-                lead(workers[receiver].pid)
+                with held_back():
+                    workers[receiver] = started(words)
                 sender.close()
             yield done_of(workers)
         except BaseException:
@@ -72,6 +73,24 @@ def beside(stream: Stream[Item, Answer], items: Sequence[Item], jobs: int) -> It
                 receiver.close()
             for worker in multiprocessing.active_children():
                 worker.join()
+
+
+@contextlib.contextmanager
+def held_back() -> Iterator[None]:
+    """Signals that would end this process come after the block, so that it knows of each process that it has started."""
+    signal.pthread_sigmask(signal.SIG_BLOCK, SIGNALS)
+    try:
+        yield
+    finally:
+        signal.pthread_sigmask(signal.SIG_UNBLOCK, SIGNALS)
+
+
+def started(words: tuple[Any, ...]) -> BaseProcess:
+    """A process that serves by these words, and leads a group of its own."""
+    worker = CONTEXT.Process(target=serve, args=words)
+    worker.start()
+    lead(worker.pid)
+    return worker
 
 
 def lead(pid: int | None) -> None:
@@ -119,6 +138,7 @@ def serve(
     """Sends what is done of items, until none is left, or nobody receives it. It leads a group of its
     own, which an interrupt of a terminal doesn't reach."""
     lead(0)
+    signal.pthread_sigmask(signal.SIG_UNBLOCK, SIGNALS)
     for receiver in others:
         receiver.close()  # so that sending fails where that program is killed
     with contextlib.suppress(KeyboardInterrupt, BrokenPipeError):
