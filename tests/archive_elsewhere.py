@@ -50,12 +50,10 @@ class Store:
         return self.here.sql(f"{question} WHERE r.name = ? ORDER BY s.number", name)
 
     def names(self) -> list[str]:
-        """The names of the recordings in the database."""
-        return (
-            [row[0] for row in self.here.sql("SELECT name FROM recordings ORDER BY name")]
-            if self.here.db.exists()
-            else []
-        )
+        """The names of the recordings in the database. A call that was killed may have left it without tables."""
+        if not self.here.db.exists() or not self.here.sql("SELECT * FROM sqlite_master"):
+            return []
+        return [row[0] for row in self.here.sql("SELECT name FROM recordings ORDER BY name")]
 
     def bytes(self) -> bytes:
         """All bytes of the files of the database."""

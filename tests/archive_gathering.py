@@ -277,6 +277,14 @@ def try_side_by_side(t: Trial, here: Folder) -> None:
     t.equal("it is joined again by the next scan", (here.scan().status, here.sql(ROW)), (0, rows))
 
 
+def is_running(pid: str) -> bool:
+    """Whether a process runs. One that has ended may wait for its parent to ask for its status."""
+    try:
+        return ") Z " not in pathlib.Path(f"/proc/{pid}/stat").read_text()
+    except OSError:
+        return False
+
+
 def try_signals(t: Trial) -> None:
     """A signal ends a scan and its calls, and nothing is left."""
     here = Folder(t, "signals")
@@ -295,7 +303,7 @@ def try_signals(t: Trial) -> None:
         scan.send_signal(signal.SIGTERM)
         said = scan.communicate()
         t.verdict(f"SIGTERM ends a scan at {words}", scan.returncode == 128 + signal.SIGTERM, scan.returncode, *said)
-        left = [pid for pid in pids.read_text().split() if pathlib.Path(f"/proc/{pid}").exists()]
+        left = [pid for pid in pids.read_text().split() if is_running(pid)]
         t.equal(f"its calls end too: {words}", left, [])
         t.equal(f"and nothing is left: {words}", [path.name for path in here.catalogues.glob(".begun*")], [])
     t.equal("the next scan gathers both", here.scan().out.count("added "), 2)

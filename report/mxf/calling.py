@@ -6,13 +6,11 @@ import io
 import os
 import pathlib
 import subprocess
-import threading
 from collections.abc import Callable, Iterator, Sequence
 from types import TracebackType
-from typing import IO, Protocol
 
 from mxf.faults import NO_PROGRAM, OwnFault, ToolFault
-from mxf.lines import Line, LineFault, line_of
+from mxf.lines import Line, LineFault, lines_in
 from mxf.sources import Sources
 
 # The line that each command prints whatever it finds.
@@ -45,39 +43,40 @@ def current(name: str, version: str) -> str:
     return str(built) if built.is_file() else name
 
 
-def file_without_name() -> IO[bytes]:
-    """A file in memory, which ends with the programs that have it open."""
-    return open(os.memfd_create("mxf"), "w+b")
-
-
 class Call:
-    """A call of a program. It begins when it is told to, at the latest when its lines are asked for. What it says of
-    faults is kept, or goes where that of this program goes. The call is over when its block ends, and is ended if that ends
-    by a fault."""
+    """A call of a program, which may have further files of this one open. It begins when it is told to, at the latest when its
+    lines are asked for. What it says of faults is kept, or goes where that of this program goes. The call is over when its
+    block ends, and is ended if that ends by a fault."""
 
-    def __init__(self, words: Sequence[str], given: bytes = b"", is_kept: bool = True) -> None:
-        self.words, self.given, self.is_kept = list(words), given, is_kept
+    def __init__(
+        self, words: Sequence[str], given: bytes = b"", is_kept: bool = True, passed: Sequence[int] = ()
+    ) -> None:
+        self.words, self.given, self.is_kept, self.passed = list(words), given, is_kept, passed
         self.process: subprocess.Popen[bytes] | None = None
-        self.faults: IO[bytes] | None = None  # what the program says of them, if that is kept
+        self.faults: int | None = None  # the file that takes what the program says of them, if that is kept
         self.said = b""
         self.status = 0
 
     def begin(self) -> subprocess.Popen[bytes]:
-        """Starts the program, if that wasn't done. What it is given and what it says of faults are files without a name, so
-        neither program waits for the other."""
+        """Starts the program, if that wasn't done. What it is given and what it says of faults are files in memory, so neither
+        program waits for the other."""
         if self.process is None:
-            self.faults = file_without_name() if self.is_kept else None
-            with file_without_name() if self.given else open(os.devnull, "rb") as given:
+            self.faults = os.memfd_create("mxf") if self.is_kept else None
+            given = os.memfd_create("mxf") if self.given else subprocess.DEVNULL
+            try:
                 if self.given:
-                    given.write(self.given)
-                    given.seek(0)
+                    os.pwrite(given, self.given, 0)
                 self.process = self.started(given)
+            finally:
+                if self.given:
+                    os.close(given)
         return self.process
 
-    def started(self, given: IO[bytes]) -> subprocess.Popen[bytes]:
+    def started(self, given: int) -> subprocess.Popen[bytes]:
         """The program, which reads this file."""
+        pipe = subprocess.PIPE
         try:
-            return subprocess.Popen(self.words, stdin=given, stdout=subprocess.PIPE, stderr=self.faults)
+            return subprocess.Popen(self.words, stdin=given, stdout=pipe, stderr=self.faults, pass_fds=self.passed)
         except OSError as fault:
             raise OwnFault(NO_PROGRAM, f"{self.words[0]} can't be run: {fault.strerror}") from fault
 
@@ -103,16 +102,14 @@ class Call:
             self.status = self.process.returncode
             self.process = None
         if self.faults is not None:
-            self.faults.seek(0)
-            self.said = self.faults.read()
-            self.faults.close()
+            self.said = os.pread(self.faults, os.fstat(self.faults).st_size, 0)
+            os.close(self.faults)
             self.faults = None
 
-    def stop(self) -> None:
-        """Ends the program, if it runs."""
-        process = self.process  # another thread may see its end meanwhile
-        if process is not None:
-            process.terminate()
+    def checked(self) -> None:
+        """Sees that a call that is over has ended with status 0 or 1."""
+        if self.status not in (0, 1):
+            raise ToolFault(self.status if self.status > 0 else 128 - self.status, self.said)
 
     def __enter__(self) -> Call:
         return self
@@ -120,16 +117,9 @@ class Call:
     def __exit__(
         self, kind: type[BaseException] | None, fault: BaseException | None, trace: TracebackType | None
     ) -> None:
-        if kind is not None:
-            self.stop()
+        if kind is not None and self.process is not None:
+            self.process.terminate()
         self.end()
-
-
-class Stoppable(Protocol):
-    """Work that another thread may stop."""
-
-    def stop(self) -> None:
-        """Ends it."""
 
 
 class Tool:
@@ -139,9 +129,6 @@ class Tool:
         self.program = program()
         self.has_called = is_silent
         self.told: str | None = None
-        self.lock = threading.Lock()
-        self.running: set[Stoppable] = set()
-        self.is_stopped = False
 
     def version(self) -> str:
         """What the program calls itself. From then on the program that is current is asked."""
@@ -162,47 +149,50 @@ class Tool:
 
     @contextlib.contextmanager
     def begun(self, call: Call) -> Iterator[None]:
-        """A call that goes on until the block ends, or until all calls are stopped."""
-        with self.under_way(call, call.begin), call:
+        """A call that goes on until the block ends."""
+        with call:
+            call.begin()
             yield
 
-    @contextlib.contextmanager
-    def under_way(self, work: Stoppable, begin: Callable[[], object] = lambda: None) -> Iterator[None]:
-        """Work that begins now, and is stopped with the calls."""
-        with self.lock:
-            if self.is_stopped:
-                raise KeyboardInterrupt
-            begin()
-            self.running.add(work)
-        try:
-            yield
-        finally:
-            self.running.discard(work)
-
-    def stop(self) -> None:
-        """Ends the calls and the other work that go on in other threads, and lets none begin."""
-        with self.lock:
-            self.is_stopped = True
-            for work in [*self.running]:
-                work.stop()
-
-    def lines_of(self, call: Call, keeps: Keeps = bytes.splitlines) -> Iterator[Line]:
-        """The lines of a call, which may have begun, as far as they are kept. A call that fails is a fault after its last
-        line, and so is one that prints what isn't of mxf_tool, or not the line that it prints whatever it finds."""
+    def blocks_of(self, call: Call) -> Iterator[bytes]:
+        """The lines of a call, which may have begun, some at once. A call that fails is a fault after its last line, and so is
+        one that doesn't print the line that it prints whatever it finds."""
         name, command = call.words[:2]
-        closing, is_whole, fault = b'{"line":"%s"' % CLOSING[command].encode(), False, ""
+        closing, is_whole = b'{"line":"%s"' % CLOSING[command].encode(), False
         with self.begun(call):
             for block in call.blocks():
                 is_whole = is_whole or closing in block
-                try:
-                    yield from map(line_of, () if fault else keeps(block))
-                except LineFault as bad:
-                    fault = f"{name} prints {bad}"
-        if call.status not in (0, 1):
-            raise ToolFault(call.status if call.status > 0 else 128 - call.status, call.said)
-        if fault or not is_whole:
-            raise OwnFault(NO_PROGRAM, fault or f"{name} {command} prints no line {CLOSING[command]}")
+                yield block
+        call.checked()
+        if not is_whole:
+            raise OwnFault(NO_PROGRAM, f"{name} {command} prints no line {CLOSING[command]}")
+
+    def lines_of(self, call: Call) -> Iterator[Line]:
+        """The lines of a call as they come. One that prints what isn't of mxf_tool is a fault too."""
+        fault = None
+        for block in self.blocks_of(call):
+            try:
+                yield from () if fault else lines_in(block.splitlines())
+            except LineFault as bad:
+                fault = bad
+        if fault:
+            raise self.other(fault)
+
+    def texts_of(self, call: Call, keeps: Keeps = bytes.splitlines) -> list[bytes]:
+        """The lines of a call as texts, as far as they are kept."""
+        return [text for block in self.blocks_of(call) for text in keeps(block)]
+
+    def lines_in(self, texts: Sequence[bytes]) -> list[Line]:
+        """The lines of texts that the program printed."""
+        try:
+            return lines_in(texts)
+        except LineFault as fault:
+            raise self.other(fault) from fault
+
+    def other(self, fault: LineFault) -> OwnFault:
+        """The fault of a program that isn't mxf_tool."""
+        return OwnFault(NO_PROGRAM, f"{self.program} prints {fault}")
 
     def ask(self, words: Sequence[str], sources: Sources, keeps: Keeps = bytes.splitlines) -> list[Line]:
         """The lines that a command prints of the sources, as far as they are kept."""
-        return list(self.lines_of(self.call(words, sources), keeps))
+        return self.lines_in(self.texts_of(self.call(words, sources), keeps))

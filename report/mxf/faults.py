@@ -13,7 +13,7 @@ class ToolFault(Exception):
     """A call of mxf_tool that failed: its status, and what it said."""
 
     def __init__(self, status: int, message: bytes) -> None:
-        super().__init__(message)
+        super().__init__(status, message)  # all that makes it anew, where it comes from another process
         self.status = status
         self.message = message
 
@@ -26,8 +26,12 @@ class OwnFault(Exception):
     """A fault of a program in Python: its status, and its line."""
 
     def __init__(self, status: int, message: str) -> None:
-        super().__init__(message)
+        super().__init__(status, message)
         self.status = status
+        self.message = message
+
+    def __str__(self) -> str:
+        return self.message
 
 
 def tell(said: bytes) -> None:

@@ -3,7 +3,7 @@ from __future__ import annotations
 
 import functools
 import json
-from collections.abc import Callable, Iterable, Mapping
+from collections.abc import Callable, Iterable, Mapping, Sequence
 from typing import Any, NoReturn, TypedDict, TypeVar, cast
 
 # A line whose form isn't looked at yet. Its member "line" is its name.
@@ -333,15 +333,22 @@ def refuse(constant: str) -> NoReturn:
 DECODER = json.JSONDecoder(parse_constant=refuse)
 
 
-def line_of(text: bytes) -> Line:
-    """The JSON object of a line, which has its name."""
+def lines_in(texts: Sequence[bytes]) -> list[Line]:
+    """The JSON objects of lines, each of which has its name. Many are read in less time together than each by itself."""
     try:
-        line = DECODER.decode(text.decode("utf-8", "replace"))
+        lines = DECODER.decode(f"[{b','.join(texts).decode('utf-8', 'replace')}]")
     except (ValueError, RecursionError) as fault:
         raise LineFault("a line that is no JSON of mxf_tool") from fault
-    if not isinstance(line, dict) or not isinstance(line.get("line"), str):
+    if len(lines) != len(texts) or not all(
+        isinstance(line, dict) and isinstance(line.get("line"), str) for line in lines
+    ):
         raise LineFault("a line that is no JSON of mxf_tool")
-    return line
+    return cast("list[Line]", lines)
+
+
+def line_of(text: bytes) -> Line:
+    """The JSON object of a line."""
+    return lines_in([text])[0]
 
 
 Form = TypeVar("Form")
@@ -365,10 +372,11 @@ def members_of(form: Any) -> dict[str, tuple[tuple[type, ...], bool]]:
 def checked(line: Line, form: Callable[..., Form]) -> Form:
     """A line that has the members of its form. Others don't matter."""
     for name, (types, is_needed) in members_of(form).items():
-        if name not in line and is_needed:
+        if name in line:
+            if not isinstance(line[name], types):
+                raise LineFault(f"a line {line['line']} with another {name}")
+        elif is_needed:
             raise LineFault(f"a line {line['line']} without {name}")
-        if name in line and not isinstance(line[name], types):
-            raise LineFault(f"a line {line['line']} with another {name}")
     return cast(Form, line)
 
 

@@ -1,15 +1,17 @@
 """The commands that ask mxf_tool of recordings."""
 from __future__ import annotations
 
+import contextlib
 import functools
 import os
 import sys
 import time
+from collections.abc import Generator, Iterator
 
 from mxf.archive import database, lists, origins, printing, storing
-from mxf.archive.beside import beside
+from mxf.archive.beside import Done, Outcome, beside
 from mxf.archive.elsewhere import Elsewhere, How, Listed, Looking
-from mxf.archive.gathering import Gathering, Named
+from mxf.archive.gathering import Gathering, Named, gathered
 from mxf.archive.rows import Recording, recordings_of
 from mxf.archive.words import Words
 from mxf.calling import Tool
@@ -39,11 +41,12 @@ def listed_by(words: Words) -> Listed:
     return place
 
 
-def gathered(tool: Tool, named: Listed, how: How, is_beside: bool) -> list[Line]:
-    """The lines of a recording, as mxf_tool tells it. One that lies elsewhere is looked at first."""
+def begun(tool: Tool, named: Listed, how: How, opened: contextlib.ExitStack, is_beside: bool) -> Gathering | Looking:
+    """What gathers a recording, as mxf_tool tells it, whose calls end with what is opened. One that lies elsewhere is looked at
+    first."""
     if isinstance(named, Elsewhere):
-        return Looking(tool, named, how, is_beside).gather()
-    return Gathering(tool, named, is_beside).gather()
+        return Looking(tool, named, how, is_beside)
+    return Gathering(tool, named, opened, is_beside)
 
 
 def how_of(words: Words, jobs: int) -> How:
@@ -79,7 +82,8 @@ def add(words: Words) -> int:
     database.check_place(words.database)
     tool = Tool(is_silent=words.where is not None)
     how = how_of(words, words.jobs or REQUESTS)
-    recording = recording_of(tool, gathered(tool, named, how, is_beside=True))
+    with contextlib.ExitStack() as opened:
+        recording = recording_of(tool, begun(tool, named, how, opened, is_beside=True).gather())
     with database.writer(words.database, is_new=True) as writer:
         keep(writer, tool, recording)
     return 0
@@ -87,39 +91,55 @@ def add(words: Words) -> int:
 
 def lines(words: Words) -> int:
     """Prints the lines of a recording, which load takes."""
-    printing.print_objects(Gathering(Tool(), named_by(words), is_beside=True).gather())
+    printing.print_objects(gathered(Tool(), named_by(words), is_beside=True))
     return 0
 
 
 def add_list(path: str, words: Words) -> int:
     """Puts the recordings of a list into the database, each by itself. Those of which something fails are told at the end."""
-    recordings = lists.recordings_in(path, words.skim)
+    listed = lists.recordings_in(path, words.skim)
     database.check_place(words.database)
     tool = Tool(is_silent=True)
     tool.version()
     failed: dict[str, str] = {}
-    progress = Progress(len(recordings))
-    gather = functools.partial(gathered, tool, how=how_of(words, jobs=1), is_beside=False)
+    progress = Progress(len(listed))
+    stream = functools.partial(recordings_ahead, tool, how_of(words, jobs=1))
     try:
-        with database.writer(words.database, is_new=True) as writer, beside(
-            tool, gather, recordings, words.jobs or 1
-        ) as done:
-            for named, job in done:
+        with beside(stream, listed, words.jobs or 1) as each, database.writer(words.database, is_new=True) as writer:
+            for named, outcome in each:
                 progress.clear()
                 try:
-                    keep(writer, tool, recording_of(tool, job.result()))
+                    keep(writer, tool, outcome.result())
                 except (ToolFault, OwnFault, OSError) as fault:
                     # Where the database or the answer can't be written, no other recording can be kept either.
-                    if not job.exception() and not (isinstance(fault, OwnFault) and fault.status == NO_PROGRAM):
+                    if not outcome.fault and not (isinstance(fault, OwnFault) and fault.status == NO_PROGRAM):
                         raise
                     failed[named.name] = cause_of(fault)
                 progress.tell(len(failed))
     finally:
         progress.end()
-        for named in recordings:
+        for named in listed:
             if named.name in failed:
                 tell_own(f"{printing.cell(named.name)}: {failed[named.name]}")
     return 1 if failed else 0
+
+
+def recordings_ahead(tool: Tool, how: How, each: Iterator[Listed]) -> Generator[Done[Listed, Recording], None, None]:
+    """Recordings of a list. While the lines of one are taken apart, the first call of the next goes on."""
+    former: Done[Listed, list[Line]] | None = None
+    for named in each:
+        with contextlib.ExitStack() as opened:
+            asking = Outcome(functools.partial(begun, tool, named, how, opened, is_beside=False))
+            if former is not None:
+                yield recorded(tool, *former)
+            former = named, Outcome(lambda: asking.result().gather())
+    if former is not None:
+        yield recorded(tool, *former)
+
+
+def recorded(tool: Tool, named: Listed, gathered_lines: Outcome[list[Line]]) -> Done[Listed, Recording]:
+    """The recording of lines that were gathered."""
+    return named, Outcome(lambda: recording_of(tool, gathered_lines.result()))
 
 
 def cause_of(fault: ToolFault | OwnFault | OSError) -> str:

@@ -1,14 +1,13 @@
 """Work on several recordings side by side, whose calls of programs end if this one is ended."""
 from __future__ import annotations
 
-import subprocess
-from collections.abc import Callable, Generator, Iterable, Sequence
-from concurrent.futures import Future
-from typing import IO, NamedTuple
+import contextlib
+from collections.abc import Callable, Iterator, Sequence
+from typing import NamedTuple
 
-from mxf.archive.beside import Answer, Item, beside
+from mxf.archive.beside import Answer, Done, Item, beside, one_by_one
 from mxf.calling import Call, Tool
-from mxf.faults import NO_PROGRAM, OwnFault, ToolFault
+from mxf.faults import ToolFault
 
 
 class Ended(NamedTuple):
@@ -29,22 +28,8 @@ class Ended(NamedTuple):
         return self
 
 
-class PassingCall(Call):
-    """A call of a program that has further files open."""
-
-    passed: Sequence[int] = ()
-
-    def started(self, given: IO[bytes]) -> subprocess.Popen[bytes]:
-        """The program, which reads this file."""
-        pipe = subprocess.PIPE
-        try:
-            return subprocess.Popen(self.words, stdin=given, stdout=pipe, stderr=self.faults, pass_fds=self.passed)
-        except OSError as fault:
-            raise OwnFault(NO_PROGRAM, f"{self.words[0]} can't be run: {fault.strerror}") from fault
-
-
 class Crew:
-    """Threads that call mxf_tool and other programs."""
+    """Processes that call mxf_tool and other programs."""
 
     def __init__(self, jobs: int) -> None:
         self.jobs = jobs
@@ -52,15 +37,13 @@ class Crew:
 
     def call(self, words: Sequence[str], given: str = "", passed: Sequence[int] = ()) -> Ended:
         """Calls a program, which reads what is given, and has these files open."""
-        call = PassingCall(words, given.encode())
-        call.passed = passed
+        call = Call(words, given.encode(), passed=passed)
         with self.tool.begun(call):
             printed = b"".join(block + b"\n" for block in call.blocks())
         return Ended(call.status, printed, call.said)
 
     def each(
-        self, work: Callable[[Item], Answer], items: Iterable[Item]
-    ) -> Generator[tuple[Item, Future[Answer]], None, None]:
-        """The items, each when the work on it is done, whatever comes of it. Few of them are under way at once."""
-        with beside(self.tool, work, items, self.jobs) as done:
-            yield from done
+        self, work: Callable[[Item], Answer], items: Sequence[Item]
+    ) -> contextlib.AbstractContextManager[Iterator[Done[Item, Answer]]]:
+        """The items, each when the work on it is done, whatever comes of it, until the block ends."""
+        return beside(one_by_one(work), items, self.jobs)

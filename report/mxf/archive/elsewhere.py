@@ -63,17 +63,18 @@ class Looking:
     def gather(self) -> list[Line]:
         """The lines of the recording, as of one whose essence is passed over."""
         self.tool.version()  # nothing is got where nobody can be asked
-        with self.folder() as path, self.opened(path) as getting, self.tool.under_way(getting):
+        with self.folder() as path, self.opened(path) as getting, contextlib.ExitStack() as opened_calls:
             try:
                 looking.look(getting, Asking(self.tool, getting.folder))
             except Bounded as fault:
                 raise OwnFault(BEYOND, f"{getting.folder.recording.shown}: {fault}") from fault
             folder = getting.folder
             named = Named(self.named.name, Sources(folder.sources()), None, is_skim=True)
-            gathering = Gathering(self.tool, named, self.is_beside)
+            gathering = Gathering(self.tool, named, opened_calls, self.is_beside)
             if self.named.into is None:
                 gathering.origins = [origin_at(folder, line) for line in gathering.origins]
-            return gathering.gather()
+            lines = gathering.gather()
+        return lines
 
     @contextlib.contextmanager
     def folder(self) -> Iterator[Path]:

@@ -7,12 +7,13 @@ from __future__ import annotations
 
 import contextlib
 import os
+import re
 import tempfile
 from collections.abc import Iterable
 from typing import NamedTuple
 
 from mxf import moments
-from mxf.archive.origins import is_identifier, origin_of
+from mxf.archive.origins import IDENTIFIED, origin_of
 from mxf.calling import Call, Keeps, Tool
 from mxf.faults import ToolFault
 from mxf.files import sha256_of
@@ -28,10 +29,12 @@ SMALL = 1 << 24  # bytes of a catalogue that several calls may hold at once
 # What is asked of a recording first, in this order.
 COMMANDS = ("show", "describe", "check", "plan", "map")
 
-# Lines of `show` of which few are kept: packets in dispute, and identifiers.
+# Lines of `show` that are kept: of packets those in dispute, of items identifiers, and all others but how sources end.
 NOTE = b'{"line":"note"'
-PASSED = (b'{"line":"item"', b'{"line":"piece"')
-DISPUTED = b'"disputed":true'
+KEPT = re.compile(
+    rb'^(?:\{"line":"(?!note"|item"|piece").*|%s.*|\{"line":"note".*"disputed":true.*)$' % IDENTIFIED.pattern,
+    re.MULTILINE,
+)
 
 # Why mxf_tool doesn't count edit units.
 TOO_MANY, NO_LAST = "too many units", "no last unit"
@@ -65,46 +68,67 @@ class Named(NamedTuple):
 
 
 class Gathering:
-    """The lines of a recording, as they come. Files are looked at before they are read. If calls may go side by side, a
-    small catalogue is asked by all at once."""
+    """The lines of a recording. Files are looked at before they are read. If calls may go side by side, a small catalogue is
+    asked by all at once. Otherwise one call goes on at a time, and begins before the lines of the one ahead are taken apart.
+    Calls end with what is opened."""
 
-    def __init__(self, tool: Tool, named: Named, is_beside: bool) -> None:
-        self.tool, self.named, self.is_beside = tool, named, is_beside
+    def __init__(self, tool: Tool, named: Named, opened: contextlib.ExitStack, is_beside: bool = False) -> None:
+        self.tool, self.named, self.opened, self.is_beside = tool, named, opened, is_beside
         self.gathered = moments.fine_text_of(moments.now())
         self.origins = named.origins()
         self.lines: list[Line] = []
-        self.opened = contextlib.ExitStack()
+        self.waiting: list[Call] = []  # that haven't begun
+        self.program = tool.version()
+        self.sources = named.asked()
+        self.calls: list[Call] = []
+        if self.sources is not None:
+            self.ask(self.sources)
+
+    def ask(self, sources: Sources) -> None:
+        """Begins the calls of the commands, as many as may go on at once."""
+        are_beside = self.is_beside and is_small_catalogue(sources)
+        self.calls = [self.tool.call([command, *self.skimming()], sources, not are_beside) for command in COMMANDS]
+        self.waiting += self.calls
+        self.begin(len(COMMANDS) if are_beside else 1)
+
+    def begin(self, count: int = 1) -> None:
+        """Begins so many of the calls that wait."""
+        for call in self.waiting[:count]:
+            self.opened.enter_context(call).begin()
+        del self.waiting[:count]
 
     def gather(self) -> list[Line]:
         """All lines of the recording, in the order in which a reader needs them."""
-        first = {"format": FORMAT, "name": self.named.name, "gathered": self.gathered, "program": self.tool.version()}
+        first = {"format": FORMAT, "name": self.named.name, "gathered": self.gathered, "program": self.program}
         self.lines += [{"line": "recording", **first, "skim": self.named.is_skim}, *self.origins]
-        with self.opened:
-            sources = self.named.asked() or self.joined()
-            self.is_beside = self.is_beside and is_small_catalogue(sources)
-            calls = self.begun(
-                [self.tool.call([command, *self.skimming()], sources, not self.is_beside) for command in COMMANDS]
-            )
-            for line in self.origins:
-                if line["form"] == "cat":
-                    line["sha256"] = sha256_of(line["path"])
-            self.add_show(calls[0])
-            units = {index_sid: self.tool.call(self.units_words(index_sid), sources) for index_sid in self.indexes()}
-            self.begun([*units.values()][:1])
-            for command, call in zip(COMMANDS[1:], calls[1:]):
-                self.lines.append({"line": "asked", "command": command})
-                self.lines += self.tool.lines_of(call, without(b'{"line":"row"'))
-            for index_sid, call in units.items():
-                self.lines.append({"line": "asked", "command": "units", "index-sid": index_sid})
-                self.lines.append(self.units_of(index_sid, call, sources))
+        if self.sources is None:
+            self.sources = self.joined()
+            self.ask(self.sources)
+        for line in self.origins:
+            if line["form"] == "cat":
+                line["sha256"] = sha256_of(line["path"])
+        sources = self.sources
+        self.add_show(self.calls[0])
+        units = {index_sid: self.tool.call(self.units_words(index_sid), sources) for index_sid in self.indexes()}
+        are_all_begun = not self.waiting
+        self.waiting += units.values()
+        self.begin(int(are_all_begun))
+        for command, call in zip(COMMANDS[1:], self.calls[1:]):
+            self.lines.append({"line": "asked", "command": command})
+            self.lines += self.lines_of(call, without(b'{"line":"row"'))
+        for index_sid, call in units.items():
+            self.lines.append({"line": "asked", "command": "units", "index-sid": index_sid})
+            self.lines.append(self.units_of(index_sid, call, sources))
         self.lines.append({"line": "recorded", "name": self.named.name, "lines": len(self.lines) + 1})
         return self.lines
 
-    def begun(self, calls: list[Call]) -> list[Call]:
-        """Calls, which begin if they may go side by side. They are over at the latest when all is gathered."""
-        for call in calls if self.is_beside else ():
-            self.opened.enter_context(call).begin()
-        return calls
+    def lines_of(self, call: Call, keeps: Keeps) -> list[Line]:
+        """The lines of a call, as far as they are kept."""
+        if call in self.waiting:
+            self.waiting.remove(call)
+        texts = self.tool.texts_of(call, keeps)
+        self.begin()
+        return self.tool.lines_in(texts)
 
     def joined(self) -> Sources:
         """The catalogue that the sources are joined to, so that they are read once. Which of them is damaged it doesn't
@@ -112,7 +136,7 @@ class Gathering:
         folder = self.opened.enter_context(tempfile.TemporaryDirectory(prefix="mxf_archive."))
         joined = os.path.join(folder, "joined")
         join = self.tool.call(["join", "--strict", "--out", joined], self.named.sources)
-        list(self.tool.lines_of(join))
+        self.tool.texts_of(join)
         if join.status == 1:
             self.lines.append({"line": "asked", "command": "check"})
             self.lines += [line for line in self.tool.ask(["check"], self.named.sources) if line["line"] == "stop"]
@@ -131,11 +155,9 @@ class Gathering:
             """The lines that are kept. All packets are counted."""
             nonlocal packets
             packets += block.count(NOTE)
-            return [
-                text for text in block.splitlines() if (DISPUTED in text if text.startswith(NOTE) else is_told(text))
-            ]
+            return KEPT.findall(block)
 
-        said = list(self.tool.lines_of(call, keeps))
+        said = self.lines_of(call, keeps)
         self.lines += [{"line": "asked", "command": "show"}, {"line": "packets", "packets": packets}, *said]
 
     def indexes(self) -> list[int]:
@@ -160,21 +182,23 @@ class Gathering:
     def counted(self, call: Call) -> Line:
         """The last line of a call of units, or why there is none."""
         try:
-            return list(self.tool.lines_of(call, without(b'{"line":"unit"')))[-1]
+            return self.lines_of(call, without(b'{"line":"unit"'))[-1]
         except ToolFault as fault:
             if fault.last_line() in (TOO_MANY, NO_LAST):
                 return uncounted(fault.last_line())
             raise
 
 
+def gathered(tool: Tool, named: Named, is_beside: bool = False) -> list[Line]:
+    """The lines of a recording."""
+    with contextlib.ExitStack() as opened:
+        lines = Gathering(tool, named, opened, is_beside).gather()
+    return lines
+
+
 def without(beginning: bytes) -> Keeps:
     """What keeps the lines that don't begin so."""
     return lambda block: [text for text in block.splitlines() if not text.startswith(beginning)]
-
-
-def is_told(text: bytes) -> bool:
-    """Whether a line of `show` that is no packet is kept."""
-    return not text.startswith(PASSED) or is_identifier(text)
 
 
 def last_unit(lines: Iterable[Line], index_sid: int) -> int | None:

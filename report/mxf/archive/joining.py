@@ -80,7 +80,8 @@ class Reader:
         spans = [(start, end) for start, end in zip(borders, borders[1:]) if end > start]
         if len(spans) < 2:
             return self.crew.call([self.program, "join", "--strict", "--out", out, f"at:0:{path}"])
-        each = [done.result() for _, done in Crew(parts).each(lambda span: self.join_slice(path, span, out), spans)]
+        with Crew(parts).each(lambda span: self.join_slice(path, span, out), spans) as joined:
+            each = [done.result() for _, done in joined]
         worst = max(each, key=lambda one: one.status if one.status >= 0 else 256 - one.status)
         if worst.status not in (0, 1):
             return worst

@@ -56,14 +56,9 @@ def origin_of(number: int, source: Source) -> Line:
     return origin
 
 
-def is_identifier(text: bytes) -> bool:
-    """Whether a line of show is an item with an identifier."""
-    return IDENTIFIED.match(text) is not None
-
-
 def identifiers_in(block: bytes) -> list[bytes]:
     """Those of some lines of show that are items with an identifier."""
-    return list(filter(is_identifier, block.splitlines()))
+    return list(filter(IDENTIFIED.match, block.splitlines()))
 
 
 def identifier_of(line: ItemLine) -> tuple[str, bytes] | None:

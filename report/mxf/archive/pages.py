@@ -1,7 +1,6 @@
 """The command that makes a page of each recording that was scanned, and one of all."""
 from __future__ import annotations
 
-import contextlib
 import os
 import sys
 
@@ -76,7 +75,7 @@ def make_all(made: Pages, changed: list[scanned.Scanned]) -> list[str]:
     """Makes pages side by side, and answers why some couldn't be made."""
     faults = []
     progress = Progress(len(changed))
-    with contextlib.closing(made.crew.each(made.make, changed)) as each:
+    with made.crew.each(made.make, changed) as each:
         for one, done in each:
             try:
                 ended = done.result()

@@ -1,7 +1,6 @@
 """The command that joins recordings of a folder on one of many machines, and how a scan takes what it made."""
 from __future__ import annotations
 
-import contextlib
 import json
 import os
 import shutil
@@ -76,7 +75,7 @@ def join(words: Words) -> int:
     workers = crew.Crew(words.jobs)
     reader = Reader(workers)
     status = 0
-    with contextlib.closing(workers.each(lambda found: joined.make(reader, found), changed)) as each:
+    with workers.each(lambda found: joined.make(reader, found), changed) as each:
         for found, done in each:
             try:
                 fault = done.result()

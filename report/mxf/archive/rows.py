@@ -5,7 +5,7 @@ import collections
 import hashlib
 import json
 from collections.abc import Iterable, Iterator, Mapping
-from typing import Any
+from typing import Any, NamedTuple
 
 from mxf import moments
 from mxf.archive import spans
@@ -25,6 +25,8 @@ Row = dict[str, Any]  # the values of a row, by the names of its columns
 
 GREATEST = 2**63 - 1  # of an INTEGER of SQLite
 
+LARGE = ("partitions", "findings", "orders")  # the tables with numbers that may pass that
+
 # What is kept of a source.
 ORIGIN = ("number", "word", "form", "offset", "path", "size", "modified", "sha256")
 
@@ -39,8 +41,19 @@ def columns_of(line: Mapping[str, Any], *names: str) -> Row:
     return {name.replace("-", "_"): line[name] for name in names}
 
 
-class Recording:
-    """A recording as its lines tell it: its name, its state, what stands in the table of recordings, and rows of others."""
+class Recording(NamedTuple):
+    """A recording as the tables have it: its name, its state, what stands in the table of recordings, the rows of others by
+    their names, and the texts by whose words it is found, each with what it is."""
+
+    name: str
+    state: Row
+    facts: Row
+    rows: dict[str, list[Row]]
+    texts: list[tuple[str, str]]
+
+
+class Making:
+    """A recording that is made of its lines."""
 
     def __init__(self, line: Line) -> None:
         if line.get("line") != "recording" or line["format"] != FORMAT or not moments.TIME.fullmatch(line["gathered"]):
@@ -55,7 +68,8 @@ class Recording:
         self.identifiers: dict[tuple[str, bytes], None] = {}
         self.index_sid: int | None = None
         self.takers: dict[str, Takers] = {
-            "show": self.takers_of_show(), "describe": self.takers_of_describe(), "check": self.takers_of_check(),
+            "show": self.takers_of_show(), "describe": self.takers_of_describe(),
+            "check": {"stop": (StopLine, self.take_stop), "finding": (FindingLine, self.take_finding)},
             "plan": {"restore": (OrderLine, self.take_order), "planned": (PlannedLine, self.take_planned)},
             "map": {"map": (MapCounts, self.take_map)},
             "units": {"units": (UnitsLine, self.take_units), "uncounted": (AnyLine, self.take_uncounted)},
@@ -75,7 +89,7 @@ class Recording:
     def add(self, table: str, **row: object) -> int:
         """Adds a row to a table, and answers its number there, from 1 on."""
         rows = self.rows[table]
-        rows.append({name: number_of(value) for name, value in row.items()})
+        rows.append({name: number_of(value) for name, value in row.items()} if table in LARGE else row)
         return len(rows)
 
     def add_numbered(self, table: str, **row: object) -> int:
@@ -95,11 +109,11 @@ class Recording:
     def takers_of_show(self) -> Takers:
         """What takes its lines."""
         return {
-            "packets": (AnyLine, self.take_packets),
+            "packets": (AnyLine, lambda line: self.state.update(packets=line["packets"])),
             "note": (DisputeLine, self.take_dispute),
             "item": (ItemLine, self.take_item),
             "partition": (PackLine, self.take_partition),
-            "chain": (ChainLine, self.take_chain),
+            "chain": (ChainLine, lambda line: self.facts.update(chain=line["chain"])),
             "identification": (ReferenceLine, self.take_identification),
             "company": (TextLine, lambda line: self.add_to_program(line, "company", line["text"])),
             "product": (TextLine, lambda line: self.add_to_program(line, "product", line["text"])),
@@ -108,10 +122,6 @@ class Recording:
             "generation": (UidLine, lambda line: self.add_to_program(line, "generation", line["uid"])),
             "modified": (StampLine, lambda line: self.add_to_program(line, "modified", moments.text_of_stamp(line))),
         }
-
-    def take_packets(self, line: Line) -> None:
-        """How many packets there are."""
-        self.state["packets"] = line["packets"]
 
     def take_dispute(self, line: DisputeLine) -> None:
         """A packet in dispute."""
@@ -132,10 +142,6 @@ class Recording:
         self.add("partitions", version=f"{line['major']}.{line['minor']}", pattern=pattern, **row)
         self.facts["pattern"] = line["pattern"]
 
-    def take_chain(self, line: ChainLine) -> None:
-        """Whether the chain of partitions is whole."""
-        self.facts["chain"] = line["chain"]
-
     def take_identification(self, line: ReferenceLine) -> None:
         """A program that wrote the file, if the set is found."""
         names = ("company", "product", "version", "product_uid", "generation", "modified")
@@ -154,10 +160,10 @@ class Recording:
     def takers_of_describe(self) -> Takers:
         """What takes its lines."""
         return {
-            "described": (DescribedLine, self.take_described),
+            "described": (DescribedLine, lambda line: self.facts.update(metadata=line.get("state"))),
             "package": (AnyLine, self.take_package),
             "name": (NameLine, self.take_name),
-            "created": (StampLine, self.take_created),
+            "created": (StampLine, lambda line: self.add_to_package(created=moments.text_of_stamp(line))),
             "container": (ContainerLine, self.take_container),
             "track": (AnyLine, self.take_track),
             "track-name": (TextLine, self.take_track_name),
@@ -168,10 +174,6 @@ class Recording:
             "sound": (SoundLine, self.take_sound),
             "clock": (ClockLine, self.take_clock),
         }
-
-    def take_described(self, line: DescribedLine) -> None:
-        """Whether the copy of the header metadata is whole."""
-        self.facts["metadata"] = line.get("state")
 
     def take_package(self, line: Line) -> None:
         """A package that is found."""
@@ -195,10 +197,6 @@ class Recording:
         self.packages.take_name(line)
         self.add_to_package(name=line["text"])
         self.add_text("package", line["text"])
-
-    def take_created(self, line: StampLine) -> None:
-        """When it was made."""
-        self.add_to_package(created=moments.text_of_stamp(line))
 
     def take_container(self, line: ContainerLine) -> None:
         """The streams of its essence and its index."""
@@ -273,10 +271,6 @@ class Recording:
 
     # What the other commands say.
 
-    def takers_of_check(self) -> Takers:
-        """What takes the lines of `check`."""
-        return {"stop": (StopLine, self.take_stop), "finding": (FindingLine, self.take_finding)}
-
     def take_stop(self, line: StopLine) -> None:
         """How a source ends, if it is damaged."""
         if is_damaged_at(line["stop"]):
@@ -324,7 +318,7 @@ class Recording:
         self.rows["identifiers"] = [{"what": what, "uid": uid} for what, uid in self.identifiers]
         said = (self.state, self.facts, self.rows, [*self.texts])
         self.state["digest"] = hashlib.sha256(json.dumps(said, default=bytes.hex).encode()).hexdigest()
-        return self
+        return Recording(self.name, self.state, self.facts, dict(self.rows), [*self.texts])
 
 
 def recordings_of(lines: Iterable[Line], where: str) -> Iterator[Recording]:
@@ -334,7 +328,7 @@ def recordings_of(lines: Iterable[Line], where: str) -> Iterator[Recording]:
         for number, line in enumerate(lines, 1):
             count += 1
             if recording is None:
-                recording, count = Recording(line), 1
+                recording, count = Making(line), 1
             elif line["line"] == "recorded":
                 if line["lines"] != count or line["name"] != recording.name:
                     raise LineFault("lines are missing")

@@ -1,19 +1,18 @@
 """The command that gathers a folder of recordings, and again only those that changed."""
 from __future__ import annotations
 
-import contextlib
 import dataclasses
 import os
 import shutil
 from collections.abc import Sequence
-from concurrent.futures import Future
 
 from mxf.archive import database, first_days, folders, printing, renaming, scanned, storing
 from mxf.archive.adding import Progress, cause_of
+from mxf.archive.beside import Outcome
 from mxf.archive.catalogues import Catalogues
 from mxf.archive.crew import Crew, Ended
 from mxf.archive.folders import Found, Looked
-from mxf.archive.gathering import Gathering, Named
+from mxf.archive.gathering import Named, gathered
 from mxf.archive.joining import Reader
 from mxf.archive.parts import Joined
 from mxf.archive.rows import Recording, recordings_of
@@ -109,7 +108,7 @@ class Scan:
         progress = Progress(len(changed))
         with self.catalogues.begun() as folder:
             places = [(found, os.path.join(folder, str(number))) for number, found in enumerate(changed)]
-            with contextlib.closing(self.crew.each(self.gathered, places)) as each:
+            with self.crew.each(self.gathered, places) as each:
                 for (found, place), done in each:
                     progress.clear()
                     self.finish(found, done)
@@ -155,16 +154,16 @@ class Scan:
     def recording_of(self, reader: Reader, found: Found, is_damaged: bool) -> Recording:
         """What mxf_tool says of a recording, by its catalogue, unless it has ranges. Which file is damaged the catalogue
         doesn't tell."""
-        named = [found.word_of(file) for file in reader.numbers_of(found, found.files)]
-        sources = Sources([word for word in named if "\n" in word], [word for word in named if "\n" not in word])
-        asked = Gathering(self.crew.tool, Named(found.name, sources, self.catalogues.of(found.name)), is_beside=False)
-        lines = asked.gather()
+        words = [found.word_of(file) for file in reader.numbers_of(found, found.files)]
+        sources = Sources([word for word in words if "\n" in word], [word for word in words if "\n" not in word])
+        named = Named(found.name, sources, self.catalogues.of(found.name))
+        lines = gathered(self.crew.tool, named)
         if is_damaged and not found.has_ranges():
-            add_stops(lines, reader, found, len(asked.origins))
+            add_stops(lines, reader, found, len(named.origins()))
         (recording,) = recordings_of(lines, reader.program)
         return recording
 
-    def finish(self, found: Found, done: Future[Gathered]) -> None:
+    def finish(self, found: Found, done: Outcome[Gathered]) -> None:
         """Stores what came of a recording."""
         try:
             answer = done.result()

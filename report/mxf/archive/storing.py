@@ -2,6 +2,7 @@
 from __future__ import annotations
 
 import contextlib
+import functools
 import sqlite3
 from collections.abc import Iterator
 from sqlite3 import Connection
@@ -36,11 +37,16 @@ def bad_values(what: str, status: int) -> Iterator[None]:
 def insert(connection: Connection, table: str, recording: int, rows: list[Row]) -> None:
     """Adds rows of a recording to a table."""
     if rows:
-        names = list(rows[0])
-        columns = ", ".join(f'"{name}"' for name in names)
-        marks = ", ".join("?" for _ in names)
-        values = [(recording, *(row[name] for name in names)) for row in rows]
-        connection.executemany(f"INSERT INTO {table} (recording, {columns}) VALUES (?, {marks})", values)
+        names = tuple(rows[0])
+        values = [(recording, *map(row.__getitem__, names)) for row in rows]
+        connection.executemany(insertion(table, ("recording", *names)), values)
+
+
+@functools.lru_cache(maxsize=None)
+def insertion(table: str, names: tuple[str, ...]) -> str:
+    """The statement that adds a row with these columns to a table."""
+    columns = ", ".join(f'"{name}"' for name in names)
+    return f"INSERT INTO {table} ({columns}) VALUES ({', '.join('?' * len(names))})"
 
 
 def is_known(connection: Connection, name: str) -> int | None:

@@ -1,7 +1,6 @@
 """The command that verifies recordings that were scanned against their first days, and keeps what comes of each."""
 from __future__ import annotations
 
-import contextlib
 import os
 from typing import NamedTuple
 
@@ -94,7 +93,7 @@ def verify_all(words: Words, catalogues: Catalogues, founds: list[Found]) -> lis
         """What `verify` says of a recording."""
         return verified_of(reader, found, catalogues.first(found.name))
 
-    with contextlib.closing(crew.each(verified, founds)) as each:
+    with crew.each(verified, founds) as each:
         for found, done in each:
             answer = done.result()
             if not answer.fault:

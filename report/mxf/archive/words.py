@@ -58,6 +58,8 @@ EPILOG = (
 BEHIND = "\0"
 
 
+Adds = Callable[[Any], object]  # what adds words to a command, or to a group of its options
+
 LARGE = 4_000_000_000  # bytes of a recording of which slices are joined side by side
 
 
@@ -96,47 +98,133 @@ def word(text: str) -> str:
     return text.removeprefix(BEHIND)
 
 
-def add_database(command: argparse.ArgumentParser) -> None:
-    """The word that names the database."""
-    command.add_argument("database", metavar="DB", type=word, help="the file of the database")
+def part(text: str) -> tuple[int, int]:
+    """Which part is meant, of how many."""
+    which, _, parts = text.partition("/")
+    if not 1 <= number(which) <= number(parts):
+        raise argparse.ArgumentTypeError("a part is K/N, from 1/N to N/N")
+    return int(which), int(parts)
 
 
-def add_name(command: argparse.ArgumentParser) -> None:
-    """The word that names a recording."""
-    command.add_argument("name", metavar="NAME", type=word, help="the name of the recording")
+def argument(*names: str, **more: Any) -> Adds:
+    """What adds an option to a command, by the words of argparse."""
+    return lambda command: command.add_argument(*names, **more)
 
 
-def add_sources(command: argparse.ArgumentParser, metavar: str = "SRC", said: str = "a source") -> None:
-    """The words that name sources, and the option of a list of them."""
-    command.add_argument("source", metavar=metavar, nargs="*", default=[], type=word, help=said)
-    command.add_argument("--sources", metavar="FILE", help="a list of sources, one a line; - is standard input")
+def words_for(name: str, metavar: str, said: str, **more: Any) -> Adds:
+    """What adds a word that is no option, or several."""
+    return argument(name, metavar=metavar, type=word, help=said, **more)
 
 
-def add_forms(command: argparse.ArgumentParser) -> None:
-    """The options of the form that is printed."""
-    form = command.add_mutually_exclusive_group()
-    for name, said in (("csv", "print CSV"), ("json", "print a JSON object a line")):
-        form.add_argument(f"--{name}", dest="form", action="store_const", const=name, default="table", help=said)
+def one_of(field: str, default: str, told: dict[str, str], *others: Adds) -> Adds:
+    """What adds options of which one may be there, each the value of a field and what it says; and others beside them."""
+    flags = [
+        argument(f"--{name}", dest=field, action="store_const", const=name, default=default, help=said)
+        for name, said in told.items()
+    ]
+
+    def add(command: Any) -> None:
+        """Adds them as one group."""
+        group = command.add_mutually_exclusive_group()
+        for each in (*flags, *others):
+            each(group)
+
+    return add
 
 
-def of_add(command: argparse.ArgumentParser) -> None:
-    """The words of add."""
-    add_database(command)
-    add_asked(command, metavar="NAME SRC", said="the name of the recording, and its sources")
-    said = "where it lies, in place of sources: a URL, cmd:COMMAND or a path, of which little is got, as mxf_fetch look does"
-    command.add_argument("--from", dest="where", metavar="WHERE", type=word, help=said)
-    said = "keeps what is got, and begins with what is there"
-    command.add_argument("--into", dest="kept", metavar="FOLDER", help=said)
-    said = (
-        "a list of recordings, each a line with its name and its sources, and a tab before each source, or with its name, a tab"
-        " and a URL or cmd:COMMAND; - is standard input"
-    )
-    command.add_argument("--list", dest="listed", metavar="FILE", help=said)
-    said = (
-        f"how many of a list are asked for at once (1); beside --from how many requests go on side by side ({REQUESTS})"
-    )
-    command.add_argument("--jobs", metavar="N", type=number_from_1, default=0, help=said)
-    add_requests(command, f"the most bytes that are got of a recording that lies elsewhere ({MOST_LOOKED})")
+def sources(metavar: str = "SRC", said: str = "a source") -> tuple[Adds, ...]:
+    """What adds the words that name sources, and the option of a list of them."""
+    listed = argument("--sources", metavar="FILE", help="a list of sources, one a line; - is standard input")
+    return words_for("source", metavar, said, nargs="*", default=[]), listed
+
+
+def asked(*named: str) -> tuple[Adds, ...]:
+    """What adds the words that say what is asked of a recording."""
+    catalogue = argument("--catalogue", metavar="FILE", help="a saved catalogue of it, asked in place of its sources")
+    skim = argument("--skim", action="store_true", help="pass over essence, as mxf_tool does")
+    return catalogue, skim, *sources(*named)
+
+
+DATABASE = words_for("database", "DB", "the file of the database")
+NAME = words_for("name", "NAME", "the name of the recording")
+FOLDER = words_for("folder", "FOLDER", "the folder of recordings")
+FORMS = one_of("form", "table", {"csv": "print CSV", "json": "print a JSON object a line"})
+JOBS = argument(
+    "--jobs", metavar="N", type=number_from_1, default=os.cpu_count() or 1,
+    help="how many recordings go on side by side; else as many as there are processors",
+)  # fmt: skip
+
+# The commands, what each does, and what adds its words.
+COMMANDS: dict[str, tuple[str, tuple[Adds, ...]]] = {
+    "add": ("put a recording into the database, or in its own place", (
+        DATABASE, *asked("NAME SRC", "the name of the recording, and its sources"),
+        argument("--from", dest="where", metavar="WHERE", type=word, help="where it lies, in place of sources: a URL, "
+                 "cmd:COMMAND or a path, of which little is got, as mxf_fetch look does"),
+        argument("--into", dest="kept", metavar="FOLDER", help="keeps what is got, and begins with what is there"),
+        argument("--list", dest="listed", metavar="FILE", help="a list of recordings, each a line with its name and its "
+                 "sources, and a tab before each source, or with its name, a tab and a URL or cmd:COMMAND; - is standard "
+                 "input"),
+        argument("--jobs", metavar="N", type=number_from_1, default=0, help="how many of a list are asked for at once (1); "
+                 f"beside --from how many requests go on side by side ({REQUESTS})"),
+        lambda command: add_requests(
+            command, f"the most bytes that are got of a recording that lies elsewhere ({MOST_LOOKED})"),
+    )),
+    "list": ("print recordings", (
+        DATABASE,
+        one_of("what", "all", {
+            "missing": "those that lack bytes", "damaged": "those that can't be read, or aren't as they were",
+            "disputed": "those that are held in two readings", "changed": "those that aren't as on the first day",
+        }, argument("--unverified-since", metavar="DAYS", dest="days", type=number,
+                    help="those not verified for so many days")),
+        FORMS,
+    )),
+    "find": ("print which recordings have words, an identifier or a timecode", (
+        DATABASE, words_for("word", "WORD", "words of a name, the end of a UMID, or a timecode", nargs="+"), FORMS,
+    )),
+    "show": ("print all of a recording", (DATABASE, NAME, FORMS)),
+    "orders": ("print what is to be restored", (
+        DATABASE,
+        argument("--by", choices=("name", "offset"), default="name", help="what the orders go by"),
+        argument("--merge", metavar="BYTES", type=number, default=0, help="orders that lie less apart are one"),
+        FORMS,
+    )),
+    "scan": ("put the recordings of a folder into the database, again only those that changed", (
+        DATABASE, FOLDER, JOBS,
+        argument("--large", metavar="BYTES", type=number, default=LARGE,
+                 help=f"a file of more than so many bytes is read in slices side by side ({LARGE})"),
+        argument("--joined", metavar="CATALOGUES",
+                 help="a folder of catalogues that join made, which are taken in place of reading"),
+    )),
+    "verify": ("verify recordings, and keep what comes of it", (
+        DATABASE, words_for("name", "NAME", "the name of the recording; without it all that were scanned", nargs="?"),
+        argument("--against", metavar="SOURCE", action="append", default=[],
+                 help="a source of the reference; there may be several; without it the first day"),
+        JOBS, *sources(), FORMS,
+    )),
+    "accept": ("take what is there now for the first day of a recording", (
+        DATABASE, NAME,
+        argument("--drop", action="store_true", help="also if more essence is dropped than is there"),
+    )),
+    "pages": ("make a page of each recording that was scanned, and one of all", (
+        DATABASE, words_for("folder", "FOLDER", "the folder of the pages"), JOBS,
+    )),
+    "rename": ("give a recording another name", (
+        DATABASE, words_for("old", "OLD", "the name of the recording"), words_for("new", "NEW", "its new name"),
+    )),
+    "remove": ("take recordings out of the database", (
+        DATABASE, words_for("names", "NAME", "the name of a recording", nargs="+"),
+    )),
+    "match": ("print of which recording fragments are, and where they lie in it", (DATABASE, *sources(), FORMS)),
+    "join": ("join recordings of a folder on one of many machines, for a scan", (
+        FOLDER, words_for("into", "CATALOGUES", "the folder of the catalogues"),
+        argument("--part", metavar="K/N", type=part, default=(1, 1), help="the recordings of one of N parts; else all"),
+        JOBS,
+    )),
+    "lines": ("print what add would put into the database", (NAME, *asked())),
+    "load": ("put recordings into the database of which lines were printed", (
+        DATABASE, words_for("file", "FILE", "a file of lines; - is standard input", nargs="+"),
+    )),
+}  # fmt: skip
 
 
 def check_add(words: Words) -> None:
@@ -161,77 +249,6 @@ def check_add(words: Words) -> None:
             raise argparse.ArgumentTypeError(f"argument {said}")
 
 
-def of_lines(command: argparse.ArgumentParser) -> None:
-    """The words of lines."""
-    add_name(command)
-    add_asked(command)
-
-
-def add_asked(command: argparse.ArgumentParser, **named: str) -> None:
-    """The words that say what is asked of a recording."""
-    command.add_argument("--catalogue", metavar="FILE", help="a saved catalogue of it, asked in place of its sources")
-    command.add_argument("--skim", action="store_true", help="pass over essence, as mxf_tool does")
-    add_sources(command, **named)
-
-
-def of_list(command: argparse.ArgumentParser) -> None:
-    """The words of list."""
-    add_database(command)
-    what = command.add_mutually_exclusive_group()
-    for name, said in (
-        ("missing", "those that lack bytes"),
-        ("damaged", "those that can't be read, or aren't as they were"),
-        ("disputed", "those that are held in two readings"),
-        ("changed", "those that aren't as on the first day"),
-    ):
-        what.add_argument(f"--{name}", dest="what", action="store_const", const=name, default="all", help=said)
-    what.add_argument(
-        "--unverified-since", metavar="DAYS", dest="days", type=number, help="those not verified for so many days"
-    )
-    add_forms(command)
-
-
-def of_find(command: argparse.ArgumentParser) -> None:
-    """The words of find."""
-    add_database(command)
-    said = "words of a name, the end of a UMID, or a timecode"
-    command.add_argument("word", metavar="WORD", nargs="+", type=word, help=said)
-    add_forms(command)
-
-
-def of_show(command: argparse.ArgumentParser) -> None:
-    """The words of show."""
-    add_database(command)
-    add_name(command)
-    add_forms(command)
-
-
-def of_orders(command: argparse.ArgumentParser) -> None:
-    """The words of orders."""
-    add_database(command)
-    command.add_argument("--by", choices=("name", "offset"), default="name", help="what the orders go by")
-    command.add_argument("--merge", metavar="BYTES", type=number, default=0, help="orders that lie less apart are one")
-    add_forms(command)
-
-
-def of_verify(command: argparse.ArgumentParser) -> None:
-    """The words of verify."""
-    add_database(command)
-    said = "the name of the recording; without it all that were scanned"
-    command.add_argument("name", metavar="NAME", nargs="?", type=word, help=said)
-    said = "a source of the reference; there may be several; without it the first day"
-    command.add_argument("--against", metavar="SOURCE", action="append", default=[], help=said)
-    add_jobs(command)
-    add_sources(command)
-    add_forms(command)
-
-
-def add_jobs(command: argparse.ArgumentParser) -> None:
-    """The option of how many recordings are asked at once."""
-    said = "how many recordings go on side by side; else as many as there are processors"
-    command.add_argument("--jobs", metavar="N", type=number_from_1, default=os.cpu_count() or 1, help=said)
-
-
 def check_verify(words: Words) -> None:
     """Sees that there is a reference for sources that are named, and a recording for a reference."""
     if words.against and words.name is None:
@@ -239,93 +256,6 @@ def check_verify(words: Words) -> None:
     if not words.against and (words.source or words.sources is not None):
         raise argparse.ArgumentTypeError("the following arguments are required: --against")
 
-
-def of_scan(command: argparse.ArgumentParser) -> None:
-    """The words of scan."""
-    add_database(command)
-    command.add_argument("folder", metavar="FOLDER", type=word, help="the folder of recordings")
-    add_jobs(command)
-    said = f"a file of more than so many bytes is read in slices side by side ({LARGE})"
-    command.add_argument("--large", metavar="BYTES", type=number, default=LARGE, help=said)
-    said = "a folder of catalogues that join made, which are taken in place of reading"
-    command.add_argument("--joined", metavar="CATALOGUES", help=said)
-
-
-def of_join(command: argparse.ArgumentParser) -> None:
-    """The words of join."""
-    command.add_argument("folder", metavar="FOLDER", type=word, help="the folder of recordings")
-    command.add_argument("into", metavar="CATALOGUES", type=word, help="the folder of the catalogues")
-    said = "the recordings of one of N parts; else all"
-    command.add_argument("--part", metavar="K/N", type=part, default=(1, 1), help=said)
-    add_jobs(command)
-
-
-def part(text: str) -> tuple[int, int]:
-    """Which part is meant, of how many."""
-    which, _, parts = text.partition("/")
-    if not 1 <= number(which) <= number(parts):
-        raise argparse.ArgumentTypeError("a part is K/N, from 1/N to N/N")
-    return int(which), int(parts)
-
-
-def of_accept(command: argparse.ArgumentParser) -> None:
-    """The words of accept."""
-    add_database(command)
-    add_name(command)
-    command.add_argument("--drop", action="store_true", help="also if more essence is dropped than is there")
-
-
-def of_pages(command: argparse.ArgumentParser) -> None:
-    """The words of pages."""
-    add_database(command)
-    command.add_argument("folder", metavar="FOLDER", type=word, help="the folder of the pages")
-    add_jobs(command)
-
-
-def of_remove(command: argparse.ArgumentParser) -> None:
-    """The words of remove."""
-    add_database(command)
-    command.add_argument("names", metavar="NAME", nargs="+", type=word, help="the name of a recording")
-
-
-def of_rename(command: argparse.ArgumentParser) -> None:
-    """The words of rename."""
-    add_database(command)
-    command.add_argument("old", metavar="OLD", type=word, help="the name of the recording")
-    command.add_argument("new", metavar="NEW", type=word, help="its new name")
-
-
-def of_match(command: argparse.ArgumentParser) -> None:
-    """The words of match."""
-    add_database(command)
-    add_sources(command)
-    add_forms(command)
-
-
-def of_load(command: argparse.ArgumentParser) -> None:
-    """The words of load."""
-    add_database(command)
-    command.add_argument("file", metavar="FILE", nargs="+", type=word, help="a file of lines; - is standard input")
-
-
-# The commands, what each does, and what adds its words.
-COMMANDS: dict[str, tuple[str, Callable[[argparse.ArgumentParser], None]]] = {
-    "add": ("put a recording into the database, or in its own place", of_add),
-    "list": ("print recordings", of_list),
-    "find": ("print which recordings have words, an identifier or a timecode", of_find),
-    "show": ("print all of a recording", of_show),
-    "orders": ("print what is to be restored", of_orders),
-    "scan": ("put the recordings of a folder into the database, again only those that changed", of_scan),
-    "verify": ("verify recordings, and keep what comes of it", of_verify),
-    "accept": ("take what is there now for the first day of a recording", of_accept),
-    "pages": ("make a page of each recording that was scanned, and one of all", of_pages),
-    "rename": ("give a recording another name", of_rename),
-    "remove": ("take recordings out of the database", of_remove),
-    "match": ("print of which recording fragments are, and where they lie in it", of_match),
-    "join": ("join recordings of a folder on one of many machines, for a scan", of_join),
-    "lines": ("print what add would put into the database", of_lines),
-    "load": ("put recordings into the database of which lines were printed", of_load),
-}
 
 # What is seen to beyond that.
 CHECKS: dict[str, Callable[[Words], None]] = {"add": check_add, "verify": check_verify}
@@ -342,10 +272,11 @@ def program_parser() -> argparse.ArgumentParser:
 
 def command_parser(name: str) -> argparse.ArgumentParser:
     """What reads the other words of a command."""
-    said, add_words = COMMANDS[name]
+    said, arguments = COMMANDS[name]
     command = Parser(f"mxf_archive {name}", f"{said[0].upper()}{said[1:]}.")
     command.set_defaults(command=name)
-    add_words(command)
+    for add in arguments:
+        add(command)
     return command
 
 
