@@ -28,8 +28,7 @@ class Bounds(NamedTuple):
 
 
 class Getting:
-    """Gets what isn't there yet. It counts its requests and the bytes that came, and keeps to the most that a call may
-    get. Another thread may stop it."""
+    """Gets what isn't there yet. It counts its requests and the bytes that came, and keeps to the most that a call may get."""
 
     def __init__(self, place: Place, folder: Folder, bounds: Bounds) -> None:
         self.place = place
@@ -37,7 +36,6 @@ class Getting:
         self.most, self.jobs, _ = bounds
         self.requests = 0
         self.progress = Progress(bounds.is_silent)
-        self.is_stopped = False
 
     @property
     def size(self) -> int | None:
@@ -59,24 +57,13 @@ class Getting:
             raise Bounded(self.came + length, self.most)
         before = self.came
         self.progress.ask(length)
-        self.check_wanted()
         try:
             Round(self, spans).run()
         finally:
             self.progress.clear()
             if self.folder.saved is not None:
                 self.folder.save()
-        self.check_wanted()
         return self.came > before
-
-    def check_wanted(self) -> None:
-        """Ends the work of this thread, if another one has stopped it."""
-        if self.is_stopped:
-            raise KeyboardInterrupt
-
-    def stop(self) -> None:
-        """Ends the requests that go on, and lets none begin."""
-        self.is_stopped = True
 
     def lacks(self, wanted: Iterable[Span]) -> list[Span]:
         """What of the spans isn't there."""
@@ -101,7 +88,7 @@ class Round:
             worker.start()
         try:
             for worker in self.workers:
-                while worker.is_alive() and not (self.is_over.is_set() or self.getting.is_stopped):
+                while worker.is_alive() and not self.is_over.is_set():
                     worker.join(0.1)
         finally:
             self.is_over.set()
