@@ -66,7 +66,8 @@ def answers_of(asking: Asking) -> dict[str, list[Line]]:
         calls = {command: call_of(asking, command, is_beside) for command in COMMANDS}
         for call in calls.values() if is_beside else ():
             opened.enter_context(call).begin()
-        answers = {command: list(asking.tool.lines_of(call, keeps_of(command))) for command, call in calls.items()}
+        texts = {command: asking.tool.texts_of(call, keeps_of(command)) for command, call in calls.items()}
+        answers = {command: asking.tool.lines_in(kept) for command, kept in texts.items()}
     said = calls["check"].said.decode("utf-8", "replace").split("\n")
     asking.hints += [line[len(HINT) :] for line in said if line.startswith(HINT)]
     return answers
