@@ -12,18 +12,8 @@ from mxf.faults import USAGE, OwnFault
 
 # The columns of a list.
 HEADS = (
-    "recording",
-    "name",
-    "length",
-    "timecode",
-    "end",
-    "missing",
-    "orders",
-    "findings",
-    "disputes",
-    "verified",
-    "coding",
-)
+    "recording", "name", "length", "timecode", "end", "missing", "orders", "findings", "disputes", "verified", "coding",
+)  # fmt: skip
 
 # How a line of a list is laid out between the name of the recording and its own name, and the time of its verification.
 LAYOUT = "%-12s  %-11s  %13s  %13s  %6s  %8s  %8s"

@@ -15,7 +15,7 @@ from mxf.wording import times_text
 PICTURE = ("width", "height", "display-width", "display-height", "layout", "aspect", "depth", "coding")
 SOUND = ("rate", "channels", "bits", "coding")
 
-# What the texts are by which a recording is found, and which are no names.
+# The kinds of texts that are no names.
 KINDS = ("container", "picture", "sound")
 
 
