@@ -28,6 +28,8 @@ import subprocess
 import sys
 import unicodedata
 
+import essence_words
+
 TOP = pathlib.Path(__file__).resolve().parent.parent
 ARCHIVE = TOP / "report" / "mxf_archive"
 
@@ -55,6 +57,9 @@ FIELDS = {
     "orders": ("plan", "restore", {"start": "start", "end": "end", "length": "length", "reason": "reason",
                                    "pack": "source", "is_inside": "inside", "is_again": "again"}),
 }  # fmt: skip
+
+# What the table of recordings has of the essence.
+ESSENCE = ("container", "coding", "picture", "sound")
 
 DAMAGED = ("not-ul", "bad-length", "too-far")
 COUNTED = ("packets", "end", "held", "hand", "missing", "findings", "disputes", "orders", "ordered", "open")
@@ -95,6 +100,16 @@ def wanted_counts(said):
     return {name: value_of(number) for name, number in numbers.items()}
 
 
+def wanted_essence(said):
+    """What the container, the coding, the pictures and the sounds of a recording are called, by the lines."""
+    pictures, sounds = (essence_words.told(kind, said["describe"]) for kind in ("picture", "sound"))
+    values = (
+        essence_words.container(said["describe"], said["show"]), essence_words.coding(said["describe"]),
+        essence_words.together(pictures), essence_words.together(sounds),
+    )  # fmt: skip
+    return dict(zip(ESSENCE, values))
+
+
 def compare(tool, database, name, words):
     """Prints where the rows of a recording differ from the lines of the program."""
     connection = opened(database)
@@ -109,6 +124,7 @@ def compare(tool, database, name, words):
         differ(table, want, [tuple(row) for row in got])
     (state,) = connection.execute("SELECT * FROM states WHERE recording = ? AND number = ?", (recording["id"], recording["state"]))
     differ("states", wanted_counts(said), {column: state[column] for column in COUNTED})
+    differ("what the recording is", wanted_essence(said), {column: recording[column] for column in ESSENCE})
     names = [line["text"] for line in said["describe"] if line["line"] in ("name", "track-name")]
     texts = connection.execute("SELECT text FROM texts WHERE recording = ? AND what IN ('package', 'track')", (recording["id"],))
     differ("texts", set(filter(None, names)), {row["text"] for row in texts})
@@ -177,12 +193,16 @@ def wanted_times(said):
 
 
 def wanted_words(said, name):
-    """The rows of the view `named` by the lines: each word of the names of a recording, its programs and its parts."""
+    """The rows of the view `named` by the lines: each word of the names of a recording, its programs and its parts, and of
+    what its container, its pictures and its sounds are called."""
     named = (("company", "show", "company"), ("product", "show", "product"), ("package", "describe", "name"),
              ("track", "describe", "track-name"))  # fmt: skip
     lines = [(what, line["text"]) for what, command, of in named for line in lines_in(said, command, of)]
     texts = {(what, text) for what, text in lines if text}
     texts.add(("recording", name))
+    texts |= {(kind, text) for kind in ("picture", "sound") for text in essence_words.told(kind, said["describe"])}
+    container = essence_words.container(said["describe"], said["show"])
+    texts |= {("container", container)} if container else set()
     words = {}
     for _, text in texts:
         plain = "".join(letter for letter in unicodedata.normalize("NFKD", text) if not unicodedata.combining(letter))
@@ -286,6 +306,9 @@ def make_anew(database, other):
         columns = [{row[1] for row in connection.execute(f"PRAGMA {place}table_info({table})")} for place in ("", "former.")]
         shared = ", ".join(f'"{name}"' for name in sorted(set.intersection(*columns)))
         connection.execute(f"INSERT INTO main.{table} ({shared}) SELECT {shared} FROM former.{table}")
+    # The recordings of these databases have neither pictures nor sounds, so of a container the pattern alone is known.
+    connection.execute("UPDATE recordings SET container = pattern")
+    connection.execute("INSERT INTO texts (recording, what, text) SELECT id, 'container', pattern FROM recordings WHERE pattern IS NOT NULL")
     connection.commit()
 
 
@@ -393,7 +416,7 @@ def run_killed(place, words):
 ASKED = (
     ["list", "--missing"], ["list", "--damaged"], ["list", "--disputed"], ["list", "--changed"],
     ["list", "--unverified-since", "30"], ["orders"], ["find", "10:04:10:00"], ["find", "0123456789abcdef"],
-    ["find", "monday"], ["find", "cup final"], ["show", "made 1"],
+    ["find", "monday"], ["find", "cup final"], ["find", "long gop"], ["show", "made 1"],
 )  # fmt: skip
 # The view of docs/ARCHIVE.md whose question is answered by all rows of a table.
 OF_ALL_ROWS = "FROM restores"

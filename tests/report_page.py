@@ -24,6 +24,7 @@ import subprocess
 import sys
 
 import clocks
+import essence_words
 
 TOP = pathlib.Path(__file__).resolve().parent.parent
 sys.dont_write_bytecode = True
@@ -252,8 +253,8 @@ def differences_of_metadata(page, told):
 
 
 def differences_of_description(page, told):
-    """How what the recording is differs: the identifier, length and timecode are those of the material package, and each
-    name, picture and sound that is stated is told."""
+    """How what the recording is differs: the identifier, length and timecode are those of the material package, and the
+    container, each picture and sound, and who wrote the file are told."""
     lines = told.lines("describe")
     rows = page.table("What it is", "description")
     values = collections.defaultdict(list)
@@ -275,13 +276,16 @@ def differences_of_description(page, told):
         if values["Start timecode"] != [times[0] or "not stated" if times else "not stated"] or values["UMID"] != [main]:
             yield f"the recording is {values}, of {main} that starts at {times}"
     for kind in ("picture", "sound"):
-        if any(line["line"] == kind for line in lines) != (kind.capitalize() in values):
-            yield f"the recording is {values}, of {kind}"
-    for line in lines:
-        shown = [f"{line['width']} x {line['height']}"] if line["line"] == "picture" else []
-        shown += [f"{line['channels']} channel"] if line["line"] == "sound" else []
-        if shown and None not in line.values() and not any(shown[0] in value for value in values[line["line"].capitalize()]):
-            yield f"{line} isn't told: {values}"
+        counts = essence_words.told(kind, lines)
+        want = [text + (f" ({count} times)" if count > 1 else "") for text, count in counts.items()]
+        left = len(want) - bounds.NAMES
+        want = want[: bounds.NAMES] + ([f"{left} others, of which mxf_tool describe tells"] if left > 0 else [])
+        if values[kind.capitalize()] != want:
+            yield f"the {kind}s are {values[kind.capitalize()]}, not {want}"
+    show = told.lines("show")
+    for name, text in (("Container", essence_words.container(lines, show)), ("Written by", essence_words.writer(show))):
+        if values[name] != ([text] if text else []):
+            yield f"{name} is {values[name]}, not {text}"
 
 
 def differences_of_findings(page, told):

@@ -122,6 +122,22 @@ class Call:
         self.end()
 
 
+class Closing:
+    """The line that a call prints whatever it finds."""
+
+    def __init__(self, call: Call) -> None:
+        self.program, self.command = call.words[:2]
+        self.begin = b'{"line":"%s"' % CLOSING[self.command].encode()
+
+    def begins_in(self, block: bytes) -> bool:
+        """Whether the line is among these."""
+        return self.begin in block
+
+    def fault(self) -> OwnFault:
+        """The fault of a call that doesn't print the line."""
+        return OwnFault(NO_PROGRAM, f"{self.program} {self.command} prints no line {CLOSING[self.command]}")
+
+
 class Tool:
     """mxf_tool. Unless it is silent, its first call of sources says its faults and how far it is by itself."""
 
@@ -155,32 +171,36 @@ class Tool:
             yield
 
     def blocks_of(self, call: Call) -> Iterator[bytes]:
-        """The lines of a call, which may have begun, some at once. A call that fails is a fault after its last line, and so is
-        one that doesn't print the line that it prints whatever it finds."""
-        name, command = call.words[:2]
-        closing, is_whole = b'{"line":"%s"' % CLOSING[command].encode(), False
+        """The lines of a call, which may have begun, some at once. A call that fails is a fault after its last line."""
         with self.begun(call):
-            for block in call.blocks():
-                is_whole = is_whole or closing in block
-                yield block
+            yield from call.blocks()
         call.checked()
-        if not is_whole:
-            raise OwnFault(NO_PROGRAM, f"{name} {command} prints no line {CLOSING[command]}")
 
     def lines_of(self, call: Call) -> Iterator[Line]:
-        """The lines of a call as they come. One that prints what isn't of mxf_tool is a fault too."""
-        fault = None
+        """The lines of a call as they come. One that prints what isn't of mxf_tool is a fault too, and so is one that doesn't
+        print the line that it prints whatever it finds."""
+        closing, is_whole, fault = Closing(call), False, None
         for block in self.blocks_of(call):
+            is_whole = is_whole or closing.begins_in(block)
             try:
                 yield from () if fault else lines_in(block.splitlines())
             except LineFault as bad:
                 fault = bad
         if fault:
             raise self.other(fault)
+        if not is_whole:
+            raise closing.fault()
 
     def texts_of(self, call: Call, keeps: Keeps = bytes.splitlines) -> list[bytes]:
-        """The lines of a call as texts, as far as they are kept."""
-        return [text for block in self.blocks_of(call) for text in keeps(block)]
+        """The lines of a call as texts, as far as they are kept. Its faults are those of its lines."""
+        closing, is_whole, texts = Closing(call), False, []
+        for block in self.blocks_of(call):
+            is_whole = is_whole or closing.begins_in(block)
+            texts += keeps(block)
+        if not is_whole:
+            self.lines_in(texts)  # what isn't of mxf_tool is told first
+            raise closing.fault()
+        return texts
 
     def lines_in(self, texts: Sequence[bytes]) -> list[Line]:
         """The lines of texts that the program printed."""

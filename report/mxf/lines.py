@@ -265,11 +265,11 @@ PictureLine = TypedDict("PictureLine", {
 })  # fmt: skip
 
 # How many samples of luminance there are for each of colour, across and down.
-SamplingWords = TypedDict("SamplingWords", {"horizontal": "int | None", "vertical": "int | None"})
+SamplingWords = TypedDict("SamplingWords", {"horizontal": "int | None", "vertical": "int | None"}, total=False)
 
 
 class SampledPictureLine(PictureLine, SamplingWords):
-    """All that a descriptor says of a picture."""
+    """All that a descriptor says of a picture. What is kept of a line may lack how colour is sampled."""
 
 
 # What a descriptor says of a sound.

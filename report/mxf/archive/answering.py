@@ -11,14 +11,16 @@ from mxf.archive.printing import number_or_none
 from mxf.faults import USAGE, OwnFault
 
 # The columns of a list.
-HEADS = ("recording", "name", "length", "timecode", "end", "missing", "orders", "findings", "disputes", "verified")
+HEADS = (
+    "recording", "name", "length", "timecode", "end", "missing", "orders", "findings", "disputes", "verified", "coding",
+)  # fmt: skip
 
-# How a line of a list is laid out behind the name of the recording and its own name.
-LAYOUT = "%-12s  %-11s  %13s  %13s  %6s  %8s  %8s  %s"
+# How a line of a list is laid out between the name of the recording and its own name, and the time of its verification.
+LAYOUT = "%-12s  %-11s  %13s  %13s  %6s  %8s  %8s"
 
 # What a list has of recordings, by their last states.
 ROW = """r.name, r.title, r.length, r.timecode, s."end", s.missing, s.orders, s.findings, s.disputes,
-  nullif(r.verified, '') AS verified"""
+  nullif(r.verified, '') AS verified, r.coding"""
 STATED = "recordings r JOIN states s ON s.recording = r.id AND s.number = r.state"
 LISTED = f"SELECT {ROW} FROM {STATED} "
 
@@ -48,7 +50,7 @@ FROM {STATED} ORDER BY r.name
 # What `show` prints of a recording, table by table.
 SHOWN = {
     "recordings": """SELECT name, title, length, timecode, pattern, metadata, chain, is_missing, is_damaged, is_disputed,
-        is_changed, nullif(verified, '') AS verified FROM recordings WHERE id = ?""",
+        is_changed, nullif(verified, '') AS verified, container, coding, picture, sound FROM recordings WHERE id = ?""",
     "states": """SELECT number, gathered, program, is_skim, packets, "end", held, hand, missing, findings, disputes, orders,
         ordered, open FROM states WHERE recording = ? ORDER BY number""",
     "sources": """SELECT number, word, size, modified, sha256 FROM sources WHERE recording = ? ORDER BY number""",
@@ -104,9 +106,11 @@ def listed(connection: Connection, what: str, days: int | None) -> Rows:
 
 
 def layout_of(rows: Rows) -> str:
-    """How a list is laid out: the two names are as wide as the widest."""
-    widths = [max(map(len, [HEADS[place], *(row[place] or "-" for row in rows)])) for place in (0, 1)]
-    return f"%-{widths[0]}s  %-{widths[1]}s  {LAYOUT}"
+    """How a list is laid out: the two names and the time of a verification are as wide as the widest."""
+    name, title, verified = (
+        max(map(len, [HEADS[place], *(row[place] or "-" for row in rows)])) for place in (0, 1, HEADS.index("verified"))
+    )
+    return f"%-{name}s  %-{title}s  {LAYOUT}  %-{verified}s  %s"
 
 
 def before(days: int) -> str:

@@ -9,7 +9,7 @@ import time
 from collections.abc import Iterator
 from sqlite3 import Connection, Row
 
-from mxf.archive import schema
+from mxf.archive import essence, schema
 from mxf.faults import DATA, NO_PROGRAM, READ, UNWRITTEN, OwnFault, tell_own
 
 PATIENCE = 1  # seconds after which it is said that another writer is waited for
@@ -199,5 +199,7 @@ def take_steps(connection: Connection, version: int) -> None:
         return
     for statement in schema.steps_from(version):
         connection.execute(statement)
+    if version:
+        essence.fill(connection)
     connection.execute(f"PRAGMA application_id = {schema.APPLICATION}")
     connection.execute(f"PRAGMA user_version = {schema.VERSION}")

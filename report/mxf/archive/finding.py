@@ -1,4 +1,4 @@
-"""The command that finds recordings by words of a name, the end of an identifier, or a timecode."""
+"""The command that finds recordings by words of a name or a coding, the end of an identifier, or a timecode."""
 from __future__ import annotations
 
 import functools
@@ -9,6 +9,7 @@ from typing import Any
 from mxf import timecodes
 from mxf.archive import database, printing
 from mxf.archive.answering import answer_of
+from mxf.archive.essence import KINDS
 from mxf.archive.texts import question_of
 from mxf.archive.words import Words
 
@@ -31,8 +32,8 @@ WHERE h.hour = ? AND h.first < ?
 ORDER BY r.name, h.number
 """
 
-BY_WORDS = """
-SELECT r.name, 'name of ' || t.what, t.text
+BY_WORDS = f"""
+SELECT r.name, CASE WHEN t.what IN {KINDS} THEN t.what ELSE 'name of ' || t.what END, t.text
 FROM words w JOIN texts t ON t.id = w.rowid JOIN recordings r ON r.id = t.recording WHERE words MATCH ?
 """
 
@@ -63,7 +64,7 @@ def found(connection: Connection, words: Sequence[str]) -> list[tuple[Any, ...]]
 
 
 def found_by(connection: Connection, word: str) -> Found:
-    """What is found by one word: a timecode, the end of an identifier, or words of a name."""
+    """What is found by one word: a timecode, the end of an identifier, or words of a text."""
     if timecodes.is_timecode(word):
         return found_by_timecode(connection, word)
     return [*found_by_words(connection, word), *found_by_umid(connection, digits_of(word))]

@@ -8,18 +8,20 @@ from collections.abc import Iterable, Iterator, Mapping
 from typing import Any, NamedTuple
 
 from mxf import moments
-from mxf.archive import spans
+from mxf.archive import essence, spans
 from mxf.archive.gathering import FORMAT
 from mxf.archive.origins import identifier_of
+from mxf.described import Described
 from mxf.faults import DATA, OwnFault
 
 from mxf.lines import (
     AnyLine, ChainLine, ClipLine, ClockLine, ContainerLine, DescribedLine, DisputeLine, EssenceLine, FindingLine, ItemLine,
-    Line, LineFault, MapCounts, NameLine, OrderLine, PackageLine, PackLine, PictureLine, PlannedLine, ReferenceLine, SoundLine,
-    StampLine, StopLine, Takers, TextLine, TimecodeLine, TrackLine, UidLine, UnitsLine, checked, take_line,
+    LabelLine, Line, LineFault, MapCounts, NameLine, OrderLine, PackageLine, PackLine, PlannedLine, ReferenceLine,
+    SampledPictureLine, SoundLine, StampLine, StopLine, Takers, TextLine, TimecodeLine, TrackLine, UidLine, UnitsLine, checked,
+    take_line,
 )  # fmt: skip
-from mxf.packages import Packages
 from mxf.standing import is_damaged_at, is_lacking, is_unreadable
+from mxf.written import Written
 
 Row = dict[str, Any]  # the values of a row, by the names of its columns
 
@@ -62,8 +64,7 @@ class Making:
         self.state: Row = {"gathered": line["gathered"], "program": line["program"], "is_skim": int(line["skim"])}
         self.facts: Row = {"pattern": None, "metadata": None, "chain": None}
         self.rows: dict[str, list[Row]] = collections.defaultdict(list)
-        self.packages = Packages()
-        self.essence: Row = dict.fromkeys(("track", "rate", "container"))
+        self.described, self.written = Described(), Written()
         self.texts: dict[tuple[str, str], None] = {}
         self.identifiers: dict[tuple[str, bytes], None] = {}
         self.index_sid: int | None = None
@@ -113,6 +114,7 @@ class Making:
             "note": (DisputeLine, self.take_dispute),
             "item": (ItemLine, self.take_item),
             "partition": (PackLine, self.take_partition),
+            "container": (LabelLine, self.written.take_container),
             "chain": (ChainLine, lambda line: self.facts.update(chain=line["chain"])),
             "identification": (ReferenceLine, self.take_identification),
             "company": (TextLine, lambda line: self.add_to_program(line, "company", line["text"])),
@@ -141,6 +143,7 @@ class Making:
         pattern = " ".join([line["pattern"], *([line["qualifier"]] if "qualifier" in line else [])])
         self.add("partitions", version=f"{line['major']}.{line['minor']}", pattern=pattern, **row)
         self.facts["pattern"] = line["pattern"]
+        self.written.take_partition(line)
 
     def take_identification(self, line: ReferenceLine) -> None:
         """A program that wrote the file, if the set is found."""
@@ -169,15 +172,15 @@ class Making:
             "track-name": (TextLine, self.take_track_name),
             "clip": (ClipLine, self.take_clip),
             "timecode": (TimecodeLine, self.take_timecode),
-            "essence": (EssenceLine, self.take_essence),
-            "picture": (PictureLine, self.take_picture),
+            "essence": (EssenceLine, self.described.take_essence),
+            "picture": (SampledPictureLine, self.take_picture),
             "sound": (SoundLine, self.take_sound),
             "clock": (ClockLine, self.take_clock),
         }
 
     def take_package(self, line: Line) -> None:
         """A package that is found."""
-        self.packages.take_package(line)
+        self.described.take_package(line)
         if "uid" in line:
             found = checked(line, PackageLine)
             row = dict.fromkeys(("name", "created", "body_sid", "index_sid"))
@@ -185,7 +188,7 @@ class Making:
 
     def package(self) -> int:
         """The number of the package that lines are of."""
-        self.packages.last()
+        self.described.last()
         return len(self.rows["packages"])
 
     def add_to_package(self, **row: object) -> None:
@@ -194,18 +197,18 @@ class Making:
 
     def take_name(self, line: NameLine) -> None:
         """Its name."""
-        self.packages.take_name(line)
+        self.described.take_name(line)
         self.add_to_package(name=line["text"])
         self.add_text("package", line["text"])
 
     def take_container(self, line: ContainerLine) -> None:
         """The streams of its essence and its index."""
-        self.packages.take_container(line)
+        self.described.take_container(line)
         self.add_to_package(**columns_of(line, "body-sid", "index-sid"))
 
     def take_track(self, line: Line) -> None:
         """A track that is found."""
-        self.packages.take_track(line)
+        self.described.take_track(line)
         if "id" in line:
             found = checked(line, TrackLine)
             row = columns_of(found, "kind", "rate", "origin", "duration", "length")
@@ -230,7 +233,7 @@ class Making:
 
     def take_timecode(self, line: TimecodeLine) -> None:
         """A timecode component."""
-        self.packages.take_timecode(line)
+        self.described.take_timecode(line)
         row = columns_of(line, "start", "duration", "at", "base")
         number = self.add_component("timecodes", track=line["of-track"], **row)
         span = spans.span_of_component(line, spans.rate_of(self.track()["rate"]))
@@ -245,27 +248,25 @@ class Making:
         for hour in span.hours() if span else ():
             self.add_numbered("hours", **of, **hour)
 
-    def take_essence(self, line: EssenceLine) -> None:
-        """What a descriptor says of any essence."""
-        self.essence = columns_of(line, "track", "rate", "container")
-
-    def take_picture(self, line: PictureLine) -> None:
-        """What it says of a picture."""
-        row = columns_of(
-            line, "width", "height", "display-width", "display-height", "layout", "aspect", "depth", "coding"
-        )
-        self.add_component("pictures", **self.essence, **row)
+    def take_picture(self, line: SampledPictureLine) -> None:
+        """What a descriptor says of a picture."""
+        self.described.take_picture(line)
+        self.add_component("pictures", **self.of_essence(), **columns_of(line, *essence.PICTURE))
 
     def take_sound(self, line: SoundLine) -> None:
-        """What it says of a sound."""
-        row = columns_of(line, "rate", "channels", "bits", "coding")
-        self.add_component("sounds", **{**self.essence, **row})
+        """What a descriptor says of a sound."""
+        self.described.take_sound(line)
+        self.add_component("sounds", **{**self.of_essence(), **columns_of(line, *essence.SOUND)})
+
+    def of_essence(self) -> Row:
+        """What the descriptor says of any essence."""
+        return columns_of(self.described.essence, "track", "rate", "container")
 
     def take_clock(self, line: ClockLine) -> None:
         """A run of the clock of an index."""
         row = columns_of(line, "index-sid", "position", "count", "first", "last", "base")
         number = self.add_numbered("clocks", told_by=line["by"], **row)
-        track = self.packages.track_of_index(line["index-sid"])
+        track = self.described.track_of_index(line["index-sid"])
         span = spans.span_of_clock(line, spans.rate_of(track["rate"]) if track else None)
         self.add_hours(span, clock=number, timecode=None)
 
@@ -309,8 +310,8 @@ class Making:
     def finish(self) -> Recording:
         """The recording with what all of its lines say of it together."""
         self.state["findings"], self.state["disputes"] = len(self.rows["findings"]), len(self.rows["disputes"])
-        packages = self.packages
-        self.facts.update(title=packages.title(), length=packages.length(), timecode=packages.timecode())
+        described = self.described
+        self.facts.update(title=described.title(), length=described.length(), timecode=described.timecode())
         self.facts["is_disputed"] = int(bool(self.rows["disputes"]))
         self.facts["is_missing"] = int(is_lacking(self.facts["is_missing"], self.state["orders"]))
         codes = (row["code"] for row in self.rows["findings"])
@@ -318,6 +319,10 @@ class Making:
         self.rows["identifiers"] = [{"what": what, "uid": uid} for what, uid in self.identifiers]
         said = (self.state, self.facts, self.rows, [*self.texts])
         self.state["digest"] = hashlib.sha256(json.dumps(said, default=bytes.hex).encode()).hexdigest()
+        # A state isn't another one because a label has got another name.
+        self.facts.update(essence.words_of(described, self.written))
+        for what, text in essence.texts_of(described, self.written):
+            self.add_text(what, text)
         return Recording(self.name, self.state, self.facts, dict(self.rows), [*self.texts])
 
 

@@ -32,6 +32,10 @@ OTHERWISE = """
 DROP VIEW named;
 DROP TABLE words;
 ALTER TABLE states ADD COLUMN digest TEXT;
+ALTER TABLE recordings ADD COLUMN container TEXT;
+ALTER TABLE recordings ADD COLUMN coding TEXT;
+ALTER TABLE recordings ADD COLUMN picture TEXT;
+ALTER TABLE recordings ADD COLUMN sound TEXT;
 """
 REBUILT = "INSERT INTO words (words) VALUES ('rebuild');"
 

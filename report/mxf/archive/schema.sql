@@ -1,5 +1,5 @@
 -- The tables and views of the database. docs/ARCHIVE.md says what each is. Numbers that can pass 9,223,372,036,854,775,807
--- have the type ANY, and stand as text then.
+-- have the type ANY, and stand as text then. The last columns of recordings stand as ALTER TABLE writes them.
 
 CREATE TABLE recordings (
   id INTEGER PRIMARY KEY,
@@ -9,7 +9,7 @@ CREATE TABLE recordings (
   pattern TEXT, metadata TEXT, chain TEXT,
   is_missing INTEGER NOT NULL, is_damaged INTEGER NOT NULL, is_disputed INTEGER NOT NULL, is_changed INTEGER NOT NULL,
   verified TEXT NOT NULL
-) STRICT;
+, container TEXT, coding TEXT, picture TEXT, sound TEXT) STRICT;
 CREATE INDEX recordings_missing ON recordings (is_missing, name);
 CREATE INDEX recordings_damaged ON recordings (is_damaged, name);
 CREATE INDEX recordings_disputed ON recordings (is_disputed, name);

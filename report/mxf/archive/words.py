@@ -179,7 +179,7 @@ COMMANDS: dict[str, tuple[str, tuple[Adds, ...]]] = {
         FORMS,
     )),
     "find": ("print which recordings have words, an identifier or a timecode", (
-        DATABASE, words_for("word", "WORD", "words of a name, the end of a UMID, or a timecode", nargs="+"), FORMS,
+        DATABASE, words_for("word", "WORD", "words of a name or a coding, the end of a UMID, or a timecode", nargs="+"), FORMS,
     )),
     "show": ("print all of a recording", (DATABASE, NAME, FORMS)),
     "orders": ("print what is to be restored", (

@@ -3,20 +3,21 @@ from __future__ import annotations
 
 from collections.abc import Sequence
 
+from mxf.described import Described
 from mxf.faults import ToolFault
 from mxf.lines import ExtentLine, UnitLine, take_lines
 from mxf.report.asked import Words
 from mxf.report.asking import Asking
 from mxf.report.bounds import CELLS, INDEXES, NAMES, UNITS
-from mxf.report.described import Described
+from mxf.report.clocks import Clock
 from mxf.report.judging import Grounds
 from mxf.report.planned import Checked, Planned
 from mxf.report.shown import Mapped, Shown, between
 from mxf.report.strips import OrderedUnits, Strip
 from mxf.report.told import told_of
 from mxf.report.verified import Verified
-from mxf.report.wording import count_text
 from mxf.timecodes import is_timecode
+from mxf.wording import count_text
 
 # What is said of edit units if header metadata are ordered in their place.
 NO_TIMECODES = (
@@ -50,13 +51,18 @@ class Facts(Grounds):
             return [int(words.index)]
         if not any(map(is_timecode, self.span)):
             return sorted(self.shown.index_sids)[:INDEXES]
-        clocked: list[int | None] = list(self.described.clocks)
+        clocked: list[int | None] = [*self.described.clocked()]
         return clocked if len(clocked) == 1 else [None]
+
+    def clock_of(self, index_sid: int | None) -> Clock | None:
+        """The clock of an index, if it has one."""
+        runs = self.described.runs_of(index_sid)
+        return Clock(runs) if runs else None
 
     def strip_of(self, index_sid: int | None, span: list[str]) -> Strip:
         """The edit units of an index, and what is ordered for those that are named. If they aren't reported, the strip says
         why."""
-        strip = Strip(index_sid, "units", span, self.described.clock(index_sid))
+        strip = Strip(index_sid, "units", span, self.clock_of(index_sid))
         orders = self.planned.orders.kept
         try:
             if self.span:
@@ -108,7 +114,7 @@ class Facts(Grounds):
         strips = []
         for one in self.strips:
             span = ["--from", str(one.first), "--to", str(one.last())]
-            clock = self.described.clock(one.index_sid)
+            clock = self.clock_of(one.index_sid)
             strips += [Strip(one.index_sid, BESIDE, span, clock)] if one.codes else []
         strips = strips or [Strip(None, BESIDE, [])]
         return [Verified(self.tool.ask("verify", *against, *strip.options), strip) for strip in strips]

@@ -68,9 +68,6 @@ REASONS = {
     "unit": "bytes of edit units",
 }
 
-# How the lines of a picture are stored: FrameLayout of ST 377-1.
-LAYOUTS = ("full frames", "separate fields", "single fields", "mixed fields", "segmented frames")
-
 # How a piece or a range ends (docs/FORMATS.md).
 STOPS = {
     "end": "It ends with a packet.",

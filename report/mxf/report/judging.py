@@ -9,7 +9,7 @@ from mxf.report.shown import Mapped, Shown
 from mxf.report.verdicts import OF_RECORDING, Verdict, first_of
 from mxf.standing import is_lacking
 from mxf.report.verified import Verified
-from mxf.report.wording import are_text, bytes_text, count_text
+from mxf.wording import are_text, bytes_text, count_text
 
 
 class Grounds:

@@ -10,8 +10,8 @@ from typing import Any
 
 import jinja2
 
-from mxf import moments
-from mxf.report import bounds, guide, wording
+from mxf import moments, wording
+from mxf.report import bounds, guide
 from mxf.report.drawings import FILLS
 
 FOLDER = pathlib.Path(__file__).parent / "templates"

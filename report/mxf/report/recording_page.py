@@ -4,6 +4,7 @@ from __future__ import annotations
 import shlex
 import tempfile
 
+from mxf.described import containers_text
 from mxf.faults import NO_PROGRAM, OwnFault
 from mxf.lines import LineFault, end_of_packet, fields_of
 from mxf.report import pages
@@ -15,7 +16,7 @@ from mxf.report.judging import parts_of, verdict_of
 from mxf.report.partition_drawing import drawing_of_partitions
 from mxf.report.strips import what_is_ordered
 from mxf.report.told import Told, file_of
-from mxf.report.wording import count_text
+from mxf.wording import count_text
 
 
 def title_of(told: Told) -> str:
@@ -38,5 +39,6 @@ def page_of_recording(tool: Asking, words: Words) -> str:
         "recording.html", words.title or title_of(facts.told), facts=facts, **vars(facts), calls="; ".join(tool.calls),
         verdict=verdict_of(facts), parts=list(parts_of(facts)), bar=drawing_of_bar(facts), drawing_of_strip=drawing_of_strip,
         drawing=drawing_of_partitions(facts), what_is_ordered=what_is_ordered, end_of_packet=end_of_packet,
-        fields_of=fields_of, beside=f"mxf_tool {BESIDE}", command=shlex.join,
+        fields_of=fields_of, container=containers_text(facts.described, facts.shown.written),
+        beside=f"mxf_tool {BESIDE}", command=shlex.join,
     )  # fmt: skip

@@ -10,10 +10,11 @@ from typing import NamedTuple
 
 from mxf.lines import (
     AnyLine, ChainLine, CopyLine, ExtentLine, Line, MapLine, NoteLine, PartitionLine, PieceLine, PreferredLine, RangeLine,
-    ReferenceLine, RipEntryLine, RipLine, RowLine, SegmentLine, Takers, take_lines,
+    ReferenceLine, RipEntryLine, RipLine, RowLine, SegmentLine, Takers, take_line, take_lines,
 )  # fmt: skip
 from mxf.report.bounds import NAMES, NODES
 from mxf.report.rows import Rows
+from mxf.written import Written
 
 # The lines that say what the set of an identification or of a package says.
 DETAILS = (
@@ -78,6 +79,17 @@ def text_of(line: Line) -> str:
     return date.format(**line) if line["month"] else "not stated"
 
 
+def together(first: Takers, second: Takers) -> Takers:
+    """What hands each line to both that take lines of its name."""
+
+    def take(line: Line) -> None:
+        """Hands a line to both."""
+        take_line(line, first)
+        take_line(line, second)
+
+    return {**first, **second, **{name: (AnyLine, take) for name in first.keys() & second.keys()}}
+
+
 class Shown:
     """What `show` says: first rows and numbers. Packets are counted and not kept."""
 
@@ -100,7 +112,8 @@ class Shown:
         self.preferred: PreferredLine = {"partition": None}
         self.rip: RipLine = {"standing": "none"}
         self.index_sids: set[int] = set()
-        take_lines(lines, self.takers())
+        self.written = Written()
+        take_lines(lines, together(self.takers(), self.written.takers()))
         self.rising = sorted(self.offsets)
 
     def takers(self) -> Takers:

@@ -7,8 +7,9 @@ from typing import NamedTuple
 from mxf.calling import Tool
 from mxf.lines import ExtentLine, NoteLine, take_lines
 from mxf.sources import Sources
-from mxf.summary.judged import Asking, bytes_text, count_text
+from mxf.summary.judged import Asking
 from mxf.summary.summary import Row, Summary
+from mxf.wording import bytes_text, count_text
 
 RANGES = 3  # missing ranges of a recording that are told
 DISPUTED = b'{"line":"disputed"'  # how a reading of a packet begins, of which sources differ

@@ -1,21 +1,19 @@
-"""What a summary takes from the page: how the recording is judged, and words. All imports of the page stand here."""
+"""What a summary takes from the page: how the recording is judged. All imports of the page stand here."""
 from __future__ import annotations
 
 from collections.abc import Mapping, Sequence
 
-from mxf.lines import Line, RestoreLine, SoundLine, TrackLine
+from mxf.described import Described
+from mxf.lines import Line, RestoreLine
 from mxf.report.asking import HINT, JOINED, Asking, is_skim
-from mxf.report.described import Described
 from mxf.report.guide import REASONS
 from mxf.report.judging import Grounds, parts_of, verdict_of
 from mxf.report.planned import Checked, Planned
 from mxf.report.shown import Mapped, Shown
-from mxf.report.wording import bytes_text, count_text, length_text, rate_text, sound_text
+from mxf.wording import count_text
+from mxf.written import Written
 
-__all__ = [
-    "HINT", "JOINED", "Asking", "Judged", "SoundLine", "TrackLine", "bytes_text", "count_text", "is_skim", "length_text",
-    "rate_text", "reason_text", "sound_text",
-]  # fmt: skip
+__all__ = ["HINT", "JOINED", "Asking", "Judged", "is_skim", "reason_text"]
 
 
 class Judged:
@@ -26,6 +24,10 @@ class Judged:
         shown = Shown(answers["show"], mapped.numbers["cell"])
         self.grounds = Grounds(mapped, shown, Checked(answers["check"], hints), Planned(answers["plan"]))
         self.described = Described(answers["describe"])
+
+    def written(self) -> Written:
+        """Who wrote the file."""
+        return self.grounds.shown.written
 
     def verdict(self) -> str:
         """The word that the sentence begins with."""

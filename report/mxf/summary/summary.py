@@ -7,11 +7,12 @@ import shlex
 from collections.abc import Iterator, Mapping, Sequence
 from typing import Protocol
 
+from mxf.described import containers_of, containers_text
 from mxf.labels.naming import container_text
 from mxf.lines import Line, RestoreLine
 from mxf.summary.calls import answers_of
-from mxf.summary.judged import Asking, Judged, bytes_text, count_text, length_text, reason_text
-from mxf.summary.recording import Recording, Written, containers_of, containers_text
+from mxf.summary.judged import Asking, Judged, reason_text
+from mxf.wording import bytes_text, count_text, length_text, times_text
 
 PICTURES, SOUNDS, ORDERS, TAPES, NAMED = 2, 3, 2, 2, 2  # of which so many are told
 LETTERS = 100  # of a text of the recording
@@ -51,10 +52,9 @@ class Summary:
         self.sources = [os.fsencode(word).decode("utf-8", "replace") for word in asking.sources.each()]
         self.is_skimmed = asking.is_skimming
         self.judged = Judged(answers, asking.hints)
-        self.recording = Recording(answers["describe"])
-        self.written = Written(answers["show"])
-        self.pictures: Counts = [*self.recording.pictures.items()]
-        self.sounds: Counts = [*self.recording.sounds.items()]
+        self.described, self.written = self.judged.described, self.judged.written()
+        self.pictures: Counts = [*self.described.pictures.items()]
+        self.sounds: Counts = [*self.described.sounds.items()]
 
     def lines(self) -> Iterator[str]:
         """The lines for a terminal, whose heads stand in a column."""
@@ -66,24 +66,21 @@ class Summary:
 
     def description(self) -> Iterator[Row]:
         """What the recording is."""
-        main, doubt = self.recording.main(), self.judged.doubt()
+        main, doubt = self.described.main(), self.judged.doubt()
         if main:
-            yield "Name", cut(self.recording.title() or "not stated")
+            yield "Name", cut(self.described.title() or "not stated")
             track = main.essence_track()
             yield "Length", length_text(track) if track else "not known"
             yield "Timecode", self.timecode_text()
-        containers = containers_text(self.recording, self.written)
+        containers = containers_text(self.described, self.written)
         if containers:
             yield "Container", containers
         yield from told_rows("Picture", self.pictures, PICTURES)
         yield from told_rows("Sound", self.sounds, SOUNDS)
         writer = self.written.writer()
-        if writer and writer.text():
-            others = len(self.written.writers) - 1
-            yield "Written by", cut(writer.text() or "") + (
-                f"; {count_text(others, 'program')} before it" if others else ""
-            )
-        tapes = self.recording.tapes()
+        if writer:
+            yield "Written by", cut(writer) + self.written.earlier()
+        tapes = self.described.tapes()
         if tapes:
             more = f", and {len(tapes) - TAPES} more" if len(tapes) > TAPES else ""
             yield "Tape", ", ".join(map(cut, tapes[:TAPES])) + more
@@ -94,7 +91,7 @@ class Summary:
 
     def timecode_text(self) -> str:
         """From which timecode to which the recording goes."""
-        first, last = self.recording.timecodes()
+        first, last = self.described.timecodes()
         if first is None:
             return "not stated"
         return f"{first} to {last}" if last else f"from {first} on"
@@ -131,13 +128,13 @@ class Summary:
 
     def members(self) -> Mapping[str, object]:
         """The same as members of an object, with all pictures and sounds."""
-        main = self.recording.main()
+        main = self.described.main()
         track = main.essence_track() if main else None
-        writer = self.written.writer()
-        first, last = self.recording.timecodes()
+        writer = self.written.last
+        first, last = self.described.timecodes()
         return {
             "sources": self.sources,
-            "name": self.recording.title(),
+            "name": self.described.title(),
             "length": track and track["length"],
             "units": track and track["duration"],
             "rate": track and track["rate"],
@@ -146,12 +143,12 @@ class Summary:
             "pattern": self.written.pattern,
             "containers": [
                 {"container": container_text(label), "label": label}
-                for label in containers_of(self.recording, self.written)
+                for label in containers_of(self.described, self.written)
             ],
             "pictures": counted(self.pictures),
             "sounds": counted(self.sounds),
             "written": writer._asdict() if writer else None,
-            "tapes": self.recording.tapes(),
+            "tapes": self.described.tapes(),
             "umid": main.uid if main else None,
             "doubt": self.judged.doubt(),
             "verdict": self.judged.verdict(),
@@ -184,7 +181,7 @@ def told_rows(head: str, counts: Counts, most: int) -> Iterator[Row]:
     """The rows of pictures or sounds, like ones together."""
     rest = len(counts) - most
     for place, (one, count) in enumerate(counts[: most if rest <= 0 else most - 1]):
-        yield "" if place else head, one.text() + (f" ({count} times)" if count > 1 else "")
+        yield "" if place else head, times_text(one.text(), count)
     if rest > 0:
         yield "", f"{rest + 1} others, which mxf_tool describe tells"
 

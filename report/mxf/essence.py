@@ -5,7 +5,7 @@ from typing import NamedTuple
 
 from mxf.labels.naming import picture_coding, sound_coding
 from mxf.lines import EssenceLine, SampledPictureLine, SoundLine
-from mxf.summary.judged import count_text, rate_text, sound_text
+from mxf.wording import count_text, rate_text
 
 # How the lines of a picture are stored, by the FrameLayout of ST 377-1. The height of fields and segments is that of one.
 PROGRESSIVE, FIELDS, SINGLE, MIXED, SEGMENTED = range(5)
@@ -76,8 +76,13 @@ class Sound(NamedTuple):
 
     def text(self) -> str:
         """The sound in words."""
-        line: SoundLine = {"rate": self.rate, "channels": self.channels, "bits": self.bits, "coding": self.label}
-        return f"{self.coding or 'coding not stated'}, {sound_text(line)}"
+        parts = (
+            self.coding or "coding not stated",
+            count_text(self.channels, "channel") if self.channels is not None else None,
+            self.rate and f"{rate_text(self.rate)} a second",
+            count_text(self.bits, "bit") if self.bits is not None else None,
+        )
+        return ", ".join(part for part in parts if part)
 
     def members(self) -> dict[str, object]:
         """The sound as members of an object."""
@@ -94,7 +99,7 @@ def size_of(width: int | None, height: int | None, layout: int | None) -> Size |
 def picture_of(essence: EssenceLine, line: SampledPictureLine) -> Picture:
     """The picture that a descriptor states."""
     layout = line["layout"]
-    across, down = line["horizontal"], line["vertical"]
+    across, down = line.get("horizontal"), line.get("vertical")
     sampling = (
         SAMPLINGS.get((across, down), f"{across} by {down} samples for one of colour") if across and down else None
     )
