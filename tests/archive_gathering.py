@@ -14,6 +14,9 @@ import time
 from archive_trial import ROW, WHOLE, PARTS, Trial, Folder, touch, said_in
 
 
+# Kills the program, which leads a session of its own, and the group that this call is of.
+KILL = "kill -9 $(ps -o sid= -p $$) 0"
+
 STEPS = (
     "join --strict",
     "show --json",
@@ -209,7 +212,7 @@ def try_failures(t: Trial, here: Folder) -> None:
         t.equal(f"the next scan makes up for {words}", (here.scan().status, here.sql(ROW)), (0, rows))
     for words in STEPS:
         touch(piece)
-        ended = here.scan(tool=t.stand_in(words, "kill -9 0"), start_new_session=True)
+        ended = here.scan(tool=t.stand_in(words, KILL), start_new_session=True)
         t.equal(f"a kill at {words}", ended.status, -9)
         t.equal(f"what a kill at {words} left is made up for", here.scan().status, 0)
         t.equal(f"the rows after a kill at {words}", here.sql(ROW), rows)
@@ -222,12 +225,12 @@ def try_first_day_killed(t: Trial) -> None:
     here = Folder(t, "killed")
     here.put("blocks/0.range", t.m[:120])
     here.put("blocks/120.range", t.m[120:])
-    ended = here.scan(tool=t.stand_in("join --out", "kill -9 0"), start_new_session=True)
+    ended = here.scan(tool=t.stand_in("join --out", KILL), start_new_session=True)
     t.equal("a kill at the first day", ended.status, -9)
     t.equal("is made up for", (here.scan().status, (here.catalogues / "first/blocks.cat").exists()), (0, True))
     first = here.cat("first/blocks")
     (here.recordings / "blocks").rename(here.recordings / "renamed")
-    ended = here.scan(tool=t.stand_in("find --json", "kill -9 0"), start_new_session=True)
+    ended = here.scan(tool=t.stand_in("find --json", KILL), start_new_session=True)
     t.equal("a kill as a recording that was renamed is looked for", ended.status, -9)
     ended = here.scan()
     t.verdict("it is told by the next scan", "renamed is blocks\n" in ended.out, ended.out)

@@ -6,10 +6,10 @@ import functools
 import multiprocessing
 import os
 import signal
-from array import array
 from collections.abc import Callable, Collection, Generator, Iterator, Sequence
 from multiprocessing.connection import Connection, wait
 from multiprocessing.process import BaseProcess
+from multiprocessing.sharedctypes import Synchronized
 from typing import Any, Generic, TypeVar, cast
 
 from mxf.faults import NO_PROGRAM, OwnFault, ToolFault
@@ -54,25 +54,23 @@ def beside(stream: Stream[Item, Answer], items: Sequence[Item], jobs: int) -> It
     """The items, each when the work on it is done, whatever comes of that; so many jobs go on at once. Those of one job come
     in their order. If the block ends before they do, their calls end."""
     workers: dict[Connection, BaseProcess] = {}
-    with open(os.memfd_create("items"), "w+b", buffering=0) as numbers:
-        numbers.write(array("q", range(len(items))))
-        numbers.seek(0)
-        try:
-            for _ in range(min(jobs, len(items))):
-                receiver, sender = CONTEXT.Pipe(duplex=False)
-                words = (stream, items, numbers.fileno(), sender, [*workers, receiver])
-                with held_back():
-                    workers[receiver] = started(words)
-                sender.close()
-            yield done_of(workers)
-        except BaseException:
-            end(workers.values())
-            raise
-        finally:
-            for receiver in workers:
-                receiver.close()
-            for worker in multiprocessing.active_children():
-                worker.join()
+    begun = CONTEXT.Value("q", 0)
+    try:
+        for _ in range(min(jobs, len(items))):
+            receiver, sender = CONTEXT.Pipe(duplex=False)
+            words = (stream, items, begun, sender, [*workers, receiver])
+            with held_back():
+                workers[receiver] = started(words)
+            sender.close()
+        yield done_of(workers)
+    except BaseException:
+        end(workers.values())
+        raise
+    finally:
+        for receiver in workers:
+            receiver.close()
+        for worker in multiprocessing.active_children():
+            worker.join()
 
 
 @contextlib.contextmanager
@@ -133,7 +131,11 @@ def done_of(workers: dict[Connection, BaseProcess]) -> Iterator[Done[Item, Answe
 
 
 def serve(
-    stream: Stream[Item, Answer], items: Sequence[Item], numbers: int, sender: Connection, others: list[Connection]
+    stream: Stream[Item, Answer],
+    items: Sequence[Item],
+    begun: Synchronized[int],
+    sender: Connection,
+    others: list[Connection],
 ) -> None:
     """Sends what is done of items, until none is left, or nobody receives it. It leads a group of its
     own, which an interrupt of a terminal doesn't reach."""
@@ -142,16 +144,19 @@ def serve(
     for receiver in others:
         receiver.close()  # so that sending fails where that program is killed
     with contextlib.suppress(KeyboardInterrupt, BrokenPipeError):
-        with contextlib.closing(stream(taken(items, numbers))) as each:
+        with contextlib.closing(stream(taken(items, begun))) as each:
             for done in each:
                 sender.send(done)
 
 
-def taken(items: Sequence[Item], numbers: int) -> Iterator[Item]:
-    """Items, one after another, that no other process takes. All share the offset of the file of their numbers, so each number
-    is read once."""
-    while number := os.read(numbers, 8):
-        yield items[array("q", number)[0]]
+def taken(items: Sequence[Item], begun: Synchronized[int]) -> Iterator[Item]:
+    """Items, one after another, that no other process takes: all share the number of items that were begun."""
+    while True:
+        with begun.get_lock():
+            number, begun.value = begun.value, begun.value + 1
+        if number >= len(items):
+            return
+        yield items[number]
 
 
 def one_by_one(work: Callable[[Item], Answer]) -> Stream[Item, Answer]:
