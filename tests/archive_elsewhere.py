@@ -261,13 +261,15 @@ def try_kills(store: Store) -> None:
     where = store.server.url("slow/op1a_mpeg2_long_gop.mxf")
     listed.write_text("".join(f"{name}\t{where}\n" for name in names))
     words = [str(t.top / "report/mxf_archive"), "add", str(here.db), "--list", str(listed), "--jobs", "3"]
-    temporary = here.root / "temporary"
-    temporary.mkdir()
-    environment = {**os.environ, "MXF_TOOL": t.tool, "TMPDIR": str(temporary)}
+    environment = {**os.environ, "MXF_TOOL": t.tool}
     store.here, kept = here, store.here
     wanted = store.wanted(store.root / "op1a_mpeg2_long_gop.mxf")
     for kill in range(KILLS):
-        call = subprocess.Popen(words, env=environment, stdout=subprocess.DEVNULL, stderr=subprocess.DEVNULL)
+        # The workers of a program that is killed end by themselves, later, so each program has a folder of its own.
+        temporary = here.root / f"temporary {kill}"
+        temporary.mkdir()
+        known = {**environment, "TMPDIR": str(temporary)}
+        call = subprocess.Popen(words, env=known, stdout=subprocess.DEVNULL, stderr=subprocess.DEVNULL)
         time.sleep(chance.uniform(0.1, 0.9))
         number = (signal.SIGKILL, signal.SIGTERM, signal.SIGINT)[kill % 3]
         call.send_signal(number)
@@ -281,9 +283,6 @@ def try_kills(store: Store) -> None:
             t.equal(f"{name}: no folder stays", [*temporary.iterdir()], [])
         rows = {name: store.described(name) == wanted for name in store.names()}
         t.verdict(f"kill {kill}: each recording is whole or not there", all(rows.values()), rows)
-        # The workers of a program that was killed end by themselves, and remove their folders meanwhile.
-        for folder in temporary.iterdir():
-            shutil.rmtree(folder, ignore_errors=True)
     ended = subprocess.run(words, env=environment, capture_output=True, check=False)
     t.equal("after them all are added", (ended.returncode, store.names()), (0, names))
     store.here = kept
