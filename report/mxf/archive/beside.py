@@ -137,8 +137,8 @@ def serve(
     sender: Connection,
     others: list[Connection],
 ) -> None:
-    """Sends what is done of items, until none is left, or nobody receives it. It leads a group of its
-    own, which an interrupt of a terminal doesn't reach."""
+    """Sends what is done of items, until none is left, or nobody receives what is sent. This process leads a group of its own,
+    which an interrupt of a terminal doesn't reach."""
     lead(0)
     signal.pthread_sigmask(signal.SIG_UNBLOCK, SIGNALS)
     for receiver in others:
