@@ -8,6 +8,8 @@ pub enum Ask {
     Show { scan: Scan },
     /// What is found wrong or missing.
     Check,
+    /// What is found wrong or missing, and what is in doubt.
+    Doubts,
     /// What the recording is, by its header metadata.
     Describe,
     /// Where the edit unit begins in its essence stream, by the index of this IndexSID.

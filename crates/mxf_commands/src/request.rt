@@ -85,7 +85,7 @@ fn told_of<'a>(name: &str, inner: &ArgMatches<'a>, units: AskedUnits<'a>) -> Opt
         "show" => Some(Told::Answer(Ask::Show {
             scan: scan_of(inner),
         })),
-        "check" => Some(Told::Answer(Ask::Check)),
+        "check" => Some(Told::Answer(checked_of(inner))),
         "locate" => Some(Told::Answer(Ask::Locate {
             index: inner.get_one("index")?,
             unit: inner.get_one("unit")?,
@@ -97,6 +97,15 @@ fn told_of<'a>(name: &str, inner: &ArgMatches<'a>, units: AskedUnits<'a>) -> Opt
             with_extents: inner.get_flag("extents"),
         }),
         _ => None,
+    }
+}
+
+/// What the matches of a command check: doubts too, if they ask for doubts.
+fn checked_of(inner: &ArgMatches<'_>) -> Ask {
+    if inner.get_flag("doubts") {
+        Ask::Doubts
+    } else {
+        Ask::Check
     }
 }
 

@@ -4,5 +4,6 @@ pub mod Strange
 pub mod Codes
 pub mod Doubts
 pub mod Header
+pub mod IndexFit
 pub mod Tracks
 pub mod DoubtCauses

@@ -206,8 +206,8 @@ impl Model for Doubts {
 }
 
 impl Doubts {
-    /// What is in doubt of the notes of the views, code by code.
-    pub(crate) fn of(alloc: Global, views: &Views) -> Result<Doubts, OutOfMemory>
+    /// What is in doubt of the notes of the views, by file offset and then code, none twice. It takes memory.
+    pub fn of(alloc: Global, views: &Views) -> Result<Doubts, OutOfMemory>
         ensures { IfOk result (λ d. d ≡ doubts_of views.now) }
     {
         let asked = Asked::of(alloc, views)?;

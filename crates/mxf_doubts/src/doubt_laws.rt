@@ -12,7 +12,7 @@ ghost use Rattle.mxf_doubts.specs.Doubts.{doubts_of};
 ghost use Rattle.mxf_doubts.specs.Sound.{is_first_primer};
 ghost use Rattle.mxf_doubts.specs.Strange.{is_dark, is_strange};
 
-/// A law of [`doubts`](crate::doubts): they are those offsets and codes at which the cause of the code is met, and rise, so none stands
+/// A law of [`Doubts::of`](crate::Doubts::of): doubts are those offsets and codes at which the cause of the code is met, and rise, so none stands
 /// twice.
 pub fn doubts_by_definition()
     ensures doubts { (notes : List NoteParts) (d : Doubt) → IsContent notes

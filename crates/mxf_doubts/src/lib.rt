@@ -3,7 +3,7 @@
 //!
 //! | Question | Call | Answer |
 //! |---|---|---|
-//! | What is in doubt? | [`doubts`] | [`Doubts`]: each [`Code`] with its offset |
+//! | What is in doubt? | [`Doubts::of`] | each [`Code`] with its offset |
 //! | Has no other note the key of one, but for the version? | [`Keys::of`], then [`Keys::is_lone`] | whether it is alone |
 //! | Is a packet one that no standard knows and nobody else writes? | [`Keys::is_strange`] | whether it is |
 //! | Is it dark data? | [`Keys::is_dark`] | whether it is |
@@ -13,8 +13,7 @@
 //! | Does a finished copy begin with it? | [`SoundZones::begins_with`] | whether it is the primer pack of one |
 //! | Has a set an item that sets of its class don't have? | [`is_misfit`] | whether it has |
 //!
-//! Nothing asks these questions yet but the tests: no command prints a doubt, and doubts about indexes and edit units aren't
-//! asked at all. Each call's clause says that its answer is a function of the notes; the laws say what the functions are in the
+//! Doubts about edit units aren't asked yet. Each call's clause says that its answer is a function of the notes; the laws say what the functions are in the
 //! words of notes, copies and items ([`laws::doubts_by_definition`]). Keys, zones and numbers of tracks are listed once, in n
 //! log n steps of what is held, and each question is a search or two.
 //!
@@ -29,10 +28,10 @@
 //! ```
 #![tactic(auto)]
 
-mod asked;
 mod classes;
 mod doubt;
 mod doubt_laws;
+mod index_fit;
 mod labels;
 pub mod laws;
 mod orderly;
@@ -44,7 +43,6 @@ mod strange;
 mod tests;
 mod tracks;
 
-pub use asked::doubts;
 pub use classes::is_misfit;
 pub use doubt::{Code, Doubt, Doubts};
 pub use sound::SoundZones;

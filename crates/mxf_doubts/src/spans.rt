@@ -1,11 +1,14 @@
-//! Where the sets of the header metadata lie.
-ghost use Rattle.std.specs.Prelude.{◌≡◌, List, Some, IfOk};
+//! Where packets of some kinds lie: the sets of the header metadata, and what doesn't belong to index tables.
+ghost use Rattle.std.specs.Prelude.{◌≡◌, List, Some, IfOk, filter, map};
 ghost use Rattle.std.specs.List.{list_any};
 ghost use Rattle.mxf_klv.specs.Parts.{NoteParts};
+ghost use Rattle.mxf_catalogue.specs.Disputes.{clear_notes};
+ghost use Rattle.mxf_doubts.specs.IndexFit.{is_foreign};
 ghost use Rattle.mxf_doubts.specs.Header.{is_within, is_without_one_preface, lacks_preface, set_spans, span_of};
 
+use crate::strange::Keys;
 use mxf_catalogue::Catalogue;
-use mxf_klv::{Keyed, Note, OutOfMemory, below};
+use mxf_klv::{Keyed, Kind, Note, OutOfMemory, below};
 use mxf_views::{CopyInfo, Views, is_set};
 use std::alloc::Global;
 use std::marker::Model;
@@ -43,13 +46,34 @@ fn set_spans(alloc: Global, catalogue: &Catalogue) -> Result<Vec<Span>, OutOfMem
     Ok(sets.map(|note| span_of(note)).collect(alloc)?)
 }
 
-/// Where sets lie that share no byte, in their order.
+/// Whether index tables don't have the packet of a clear note, by the keys of all notes.
+#[tactic(auto, unfolding(crate::specs::IndexFit::is_foreign))]
+fn is_foreign(keys: &Keys<'_>, note: &Note) -> bool
+    ensures { result ≡ is_foreign keys.now note.now }
+{
+    !matches!(note.kind(), Kind::Segment | Kind::Fill) && !keys.is_dark(note)
+}
+
+/// Where the clear packets of a catalogue lie that index tables don't have, in their order.
+fn foreign_spans(
+    alloc: Global,
+    catalogue: &Catalogue,
+    keys: &Keys<'_>,
+) -> Result<Vec<Span>, OutOfMemory>
+    requires { keys.now ≡ catalogue.now }
+    ensures { IfOk result (λ v. v.items ≡ map span_of (filter (is_foreign catalogue.now) (clear_notes catalogue.now))) }
+{
+    let foreign = catalogue.clear().filter(|note| is_foreign(keys, note));
+    Ok(foreign.map(|note| span_of(note)).collect(alloc)?)
+}
+
+/// Where packets that share no byte lie, in their order.
 #[derive(Drop)]
-pub(crate) struct SetSpans {
+pub(crate) struct Spans {
     spans: Vec<Span>,
 }
 
-impl Model for SetSpans {
+impl Model for Spans {
     ghost use Rattle.std.specs.Prelude.{List};
     ghost use Rattle.std.specs.List.Sorted.{IsNonDecreasingBy};
     ghost use Rattle.mxf_doubts.specs.declared.spans.Span.{Span};
@@ -62,17 +86,31 @@ impl Model for SetSpans {
         × IsNonDecreasingBy (λ (x : Span). x.end) s.spans.items };
 }
 
-impl SetSpans {
+impl Spans {
     /// Where the clear sets lie that views know. They take memory.
-    pub fn of(alloc: Global, views: &Views) -> Result<SetSpans, OutOfMemory>
+    pub fn of_sets(alloc: Global, views: &Views) -> Result<Spans, OutOfMemory>
         ensures { IfOk result (λ s. s ≡ set_spans views.now) }
     {
         views.catalogue().laws();
         let spans = set_spans(alloc, views.catalogue())?;
-        Ok(SetSpans { spans })
+        Ok(Spans { spans })
     }
 
-    /// Whether one of the sets lies wholly in the zone of a copy.
+    /// Where the clear packets lie that index tables don't have, by the keys of all notes. They take memory.
+    pub fn of_foreign(
+        alloc: Global,
+        catalogue: &Catalogue,
+        keys: &Keys<'_>,
+    ) -> Result<Spans, OutOfMemory>
+        requires { keys.now ≡ catalogue.now }
+        ensures { IfOk result (λ s. s ≡ map span_of (filter (is_foreign catalogue.now) (clear_notes catalogue.now))) }
+    {
+        catalogue.laws();
+        let spans = foreign_spans(alloc, catalogue, keys)?;
+        Ok(Spans { spans })
+    }
+
+    /// Whether one of the packets lies wholly in the zone of a copy.
     fn has_one_in(&self, copy: &CopyInfo) -> bool
         ensures { result ≡ list_any (is_within copy.now.bytes copy.now.start) self.now }
     {
@@ -82,12 +120,12 @@ impl SetSpans {
         }
     }
 
-    /// Whether one of the sets lies wholly in so many bytes from an offset on: a binary search.
-    fn has_one_from(&self, start: u64, bytes: u64) -> bool
+    /// Whether one of the packets lies wholly in so many bytes from an offset on: a binary search.
+    pub fn has_one_from(&self, start: u64, bytes: u64) -> bool
         ensures { result ≡ list_any (is_within bytes (Some start)) self.now }
     {
         match self.spans.get(below(&self.spans, start)) {
-            Some(set) => u128::from(set.end) <= u128::from(start) + u128::from(bytes),
+            Some(packet) => u128::from(packet.end) <= u128::from(start) + u128::from(bytes),
             None => false,
         }
     }
@@ -101,7 +139,7 @@ fn is_without_one_preface(copy: &CopyInfo) -> bool
 }
 
 /// Whether a finished copy has one of the sets, and not exactly one Preface.
-pub(crate) fn lacks_preface(sets: &SetSpans, copy: &CopyInfo) -> bool
+pub(crate) fn lacks_preface(sets: &Spans, copy: &CopyInfo) -> bool
     ensures { (notes : List NoteParts) → sets.now ≡ set_spans notes → result ≡ lacks_preface notes copy.now }
 {
     is_without_one_preface(copy) && sets.has_one_in(copy)

@@ -1,5 +1,5 @@
 //! Small contents, and what is asked of them.
-use crate::{Code, Keys, SoundZones, doubts, is_container_packet, is_misfit};
+use crate::{Code, Doubts, Keys, SoundZones, is_container_packet, is_misfit};
 use mxf_catalogue::Catalogue;
 use mxf_klv::{Note, OutOfMemory, Ul, read_packet};
 use mxf_views::Views;
@@ -154,7 +154,7 @@ fn a_copy_is_sound(alloc: Global) -> Result<bool, OutOfMemory> {
 /// Whether one thing of R is in doubt: the storage refers to a package that isn't there.
 fn a_reference_leads_nowhere(alloc: Global) -> Result<bool, OutOfMemory> {
     let views = views_of_r(alloc)?;
-    let doubts = doubts(alloc, &views)?;
+    let doubts = Doubts::of(alloc, &views)?;
     match doubts.as_slice().first() {
         Some(doubt) => Ok(doubts.len() == 1 && doubt.offset == 214 && doubt.code == Code::G09),
         None => Ok(false),

@@ -3,6 +3,7 @@ pub mod OneRun
 pub mod PlanLines
 pub mod Answering
 pub mod DescriptionLines
+pub mod DoubtLines
 pub mod FindLines
 pub mod FindingLines
 pub mod IndexLines

@@ -11,6 +11,7 @@ ghost use Rattle.mxf_lines.specs.declared.printing.AnswerFault.TheVariants as fa
 mod check;
 mod content;
 mod description;
+mod doubted;
 mod found;
 mod line;
 mod lines;
@@ -27,6 +28,7 @@ mod verification;
 use check::print_checked;
 use content::Shown;
 use description::print_description;
+use doubted::print_doubted;
 pub use found::{Searched, print_found};
 use line::JoinLine;
 use lines::{Printer, print_with_status};
@@ -75,7 +77,7 @@ impl From<OutOfMemory> for AnswerFault {
 }
 
 /// Prints the lines that are asked for, in a form. The answer is 1 if a check finds something, or a piece doesn't end
-/// with a packet, if an edit unit has no place or more than one, if a plan finds something to restore or a packet is
+/// with a packet, if something is in doubt, if an edit unit has no place or more than one, if a plan finds something to restore or a packet is
 /// disputed, or if a description isn't of a finished copy or lacks something; otherwise it is 0. Only a plan depends on
 /// what is at hand.
 ///
@@ -120,6 +122,7 @@ fn print_asked<W: Write>(
             print_with_status(printer, writer, shown, 0)
         }
         Ask::Check => print_checked(printer, writer, gathered),
+        Ask::Doubts => print_doubted(printer, writer, gathered),
         Ask::Describe => print_description(printer, writer, &gathered.views),
         Ask::Locate { index, unit } => {
             let Ok(place) = gathered.views.locate(index, unit) else {

@@ -226,7 +226,8 @@ fn print_told<'a>(
     };
     let exit = print_asked(rt, inputs, asked, &held)?;
     let exit = told_held(rt, inputs, &held, false, exit)?;
-    let is_skim_checked = inputs.scan == Scan::Skim && matches!(asked, Told::Answer(Ask::Check));
+    let is_skim_checked = inputs.scan == Scan::Skim
+        && matches!(asked, Told::Answer(Ask::Check | Ask::Doubts));
     if is_skim_checked && inputs.telling.has_hints && tell_on_screen(rt, &SKIM_HINT).is_err() {
         return Err(RunFault::OutOfMemory);
     }

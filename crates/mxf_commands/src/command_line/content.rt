@@ -1,6 +1,6 @@
 //! The subcommands that print what the recording is, what sources hold, and what is wrong in it: `describe`, `show` and
 //! `check`.
-use super::options::{SKIM, Subcommand, put};
+use super::options::{CommandOption, FLAG, SKIM, Subcommand, put};
 use clap::Command;
 use std::alloc::{AllocError, Global};
 
@@ -31,12 +31,19 @@ const SHOW: Subcommand = Subcommand {
     options: &[SKIM],
 };
 
+/// The option that prints what is in doubt, too.
+const DOUBTS: CommandOption = CommandOption {
+    name: "doubts",
+    help: "Prints behind the findings what is in doubt: what ordinary writers don't write, and damage does",
+    ..FLAG
+};
+
 /// The subcommand that prints what is wrong or missing.
 const CHECK: Subcommand = Subcommand {
     name: "check",
     about: "Prints what is wrong or missing in what the sources hold together",
     help: CHECK_HELP,
-    options: &[SKIM],
+    options: &[DOUBTS, SKIM],
 };
 
 /// Puts these subcommands behind others.

@@ -9,7 +9,7 @@ use super::asked::Asked;
 use super::collected::Collected;
 use crate::labels::first_unlabelled;
 use crate::references::unreferred;
-use crate::spans::{SetSpans, lacks_preface};
+use crate::spans::{Spans, lacks_preface};
 use mxf_klv::OutOfMemory;
 use mxf_views::Views;
 use std::alloc::Global;
@@ -31,7 +31,7 @@ impl Collected {
     pub(super) fn add_copies(&mut self, alloc: Global, asked: &Asked<'_>) -> Result<(), OutOfMemory>
         ensures { OnOk result (self.new ≡ self.old ++ doubts_for Code.G01 asked.now) }
     {
-        let sets = SetSpans::of(alloc, asked.views())?;
+        let sets = Spans::of_sets(alloc, asked.views())?;
         for copy in asked.views().copies() {
             if lacks_preface(&sets, copy) {
                 self.add(Code::G01, copy.partition)?;

@@ -32,9 +32,16 @@ pub fn print_checked<W: Write>(
 {
     let reports = gathered.reports.as_slice();
     let findings = findings(printer.alloc(), &gathered.views)?;
-    let status = u8::from(!(all_end(reports) && findings.len() == 0));
+    let status = check_status(reports, &findings);
     let lines = Then(Each(StopLines(reports)), &findings);
     print_with_status(printer, writer, lines, status)
+}
+
+/// 0 if all pieces end with a packet and nothing is found, otherwise 1.
+pub fn check_status(reports: &[PieceReport], findings: &Findings) -> u8
+    ensures { result ≡ check_status reports.now findings.now }
+{
+    u8::from(!(all_end(reports) && findings.len() == 0))
 }
 
 /// Whether all pieces end with a packet.

@@ -2,7 +2,7 @@ use Rattle.mxf_views.proofs.Common.{◌≡◌, ◌∙◌, ◌+◌, ◌≤◌, �
 use Rattle.std.specs.List.Sorted.{IsNonDecreasingBy}
 use Rattle.mxf_doubts.specs.declared.spans.Span.{Span}
 use Rattle.mxf_doubts.proofs.SpanLaws.{IsPlace, first_behind, none_behind}
-use Rattle.mxf_doubts.proofs.spans.SetSpans.has_one_from.Goals as goal
+use Rattle.mxf_doubts.proofs.spans.Spans.has_one_from.Goals as goal
 
 pub returns-in-None : goal.returns-in-None
 returns-in-None c =

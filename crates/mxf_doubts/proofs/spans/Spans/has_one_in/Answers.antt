@@ -1,7 +1,7 @@
 use Rattle.mxf_views.proofs.Common.{◌∙◌, ℕ, Option, ap, list_any, sym}
 use Rattle.mxf_doubts.specs.Header.{is_within}
 use Rattle.mxf_doubts.proofs.SpanLaws.{none_within}
-use Rattle.mxf_doubts.proofs.spans.SetSpans.has_one_in.Goals as goal
+use Rattle.mxf_doubts.proofs.spans.Spans.has_one_in.Goals as goal
 
 pub returns-in-None : goal.returns-in-None
 returns-in-None c =

@@ -5,7 +5,7 @@ use Rattle.mxf_catalogue.specs.Disputes.{AreApart, clear_notes}
 use Rattle.mxf_views.specs.Copies.{is_set_note}
 use Rattle.mxf_doubts.specs.declared.spans.Span.{Span}
 use Rattle.mxf_doubts.proofs.SpanLaws.{ends_rise, starts_rise}
-use Rattle.mxf_doubts.proofs.spans.SetSpans.of.Goals as goal
+use Rattle.mxf_doubts.proofs.spans.Spans.of_sets.Goals as goal
 
 pub invariant_of-result : goal.invariant_of-result
 invariant_of-result c =
