@@ -53,7 +53,8 @@ _mxf_tool() {
   case $command in
     '') options='describe show check locate units plan map verify sources find join renew help --help --version' ;;
     help) options='describe show check locate units plan map verify sources find join renew' ;;
-    describe | show | check) options='at: range: slice: cat: --skim --json --hints --sources --help' ;;
+    describe | show) options='at: range: slice: cat: --skim --json --hints --sources --help' ;;
+    check) options='at: range: slice: cat: --doubts --skim --json --hints --sources --help' ;;
     sources) options='at: range: slice: cat: --json --hints --sources --help' ;;
     map) options='at: range: slice: cat: --columns --rows --extents --skim --json --hints --sources --help' ;;
     locate) options='at: range: slice: cat: --index --unit --skim --json --hints --sources --help' ;;

@@ -23,9 +23,9 @@ A case is some lines of a text file in tests/cases. A number sign begins a comme
                                        sources than of the catalogue, and are asked of the sources alone
     show [WORD ..]                     what `show` prints, or those of its lines that begin with one of the words
         LINE
-    check                              what `check` prints; `locate INDEX UNIT`, `units FROM TO [INDEX]`,
-                                       `plan [INDEX FROM TO]`, `map [extents] COLUMNS ROWS` and `join` stand so too. A
-                                       word `-` is left out
+    check [doubts]                     what `check` prints, and with `--doubts` where that stands there. `locate INDEX
+                                       UNIT`, `units FROM TO [INDEX]`, `plan [INDEX FROM TO]`, `map [extents] COLUMNS
+                                       ROWS` and `join` stand so too. A word `-` is left out
         LINE
     verify [whole] [INDEX FROM TO]     what `verify` prints against the pieces of the reference, with `--whole` where
         LINE                           that stands there, and with the units of an index
@@ -68,7 +68,7 @@ OPTIONS = {
     "verify": ("--index", "--from", "--to"),
 }
 # The option of a command that takes no value: its word in a case is the option's without the dashes.
-FLAGS = {"verify": "whole", "map": "extents"}
+FLAGS = {"verify": "whole", "map": "extents", "check": "doubts"}
 # What is said of bytes at hand too, which a saved catalogue hasn't.
 OF_BYTES = ("plan", "map", "units")
 # What may stand before a command, the option of that name.

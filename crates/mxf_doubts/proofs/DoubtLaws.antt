@@ -11,7 +11,7 @@ use Rattle.mxf_views.proofs.CopyLaws.{copies_are, set_note}
 use Rattle.mxf_views.specs.declared.copy.CopyInfo.{CopyInfo}
 use Rattle.mxf_views.specs.Copies.{is_set_note}
 use Rattle.mxf_doubts.specs.declared.doubt.Code.{Code}
-use Rattle.mxf_doubts.specs.declared.doubt.Code.TheVariants.{G01, G02, G06, G07, G08, G09, G10}
+use Rattle.mxf_doubts.specs.declared.doubt.Code.TheVariants.{G01, G02, G03, G06, G07, G08, G09, G10}
 use Rattle.mxf_doubts.specs.declared.doubt.Doubt.{Doubt}
 use Rattle.mxf_doubts.specs.Classes.{is_misfit}
 use Rattle.mxf_doubts.specs.Codes.{all_codes, doubt, doubt_cmp, doubt_cmp-IsAntisymmetric, doubt_total}
@@ -20,6 +20,7 @@ use Rattle.mxf_doubts.specs.Doubts.{doubts_for, doubts_of, is_strange_inside, is
 use Rattle.mxf_doubts.specs.Header.{has_set, is_without_one_preface, lacks_preface}
 use Rattle.mxf_doubts.specs.Tracks.{is_untracked}
 use Rattle.mxf_doubts.proofs.ClassLaws.{misfit}
+use Rattle.mxf_doubts.proofs.MisfitLaws.{index_misfits}
 use Rattle.mxf_doubts.proofs.OrderlyLaws.{unlabelled}
 use Rattle.mxf_doubts.proofs.ReferenceLaws.{lost_references}
 use Rattle.mxf_doubts.proofs.StrangeLaws.{strange_inside, strange_outside}
@@ -95,6 +96,7 @@ causes : (code : Code) (notes : List NoteParts) (o : ℕ) → IsContent notes �
     → In o (offsets_for code notes) ↔ IsDoubtedAt code notes o
 causes G01 notes o r b = lacking notes o r
 causes G02 notes o r b = clear_ones (is_strange_inside notes) _ notes o (λ n c. strange_inside notes n r c)
+causes G03 notes o r b = index_misfits notes r o
 causes G06 notes o r b = clear_ones (is_strange_outside notes) _ notes o (λ n c. strange_outside notes n r c)
 causes G07 notes o r b = clear_ones (is_untracked notes) _ notes o (λ n c. untracked notes n r b c)
 causes G08 notes o r b = clear_ones is_misfit _ notes o (λ n c. misfit n (b n c.held))
@@ -104,11 +106,12 @@ causes G10 notes o r b = unlabelled notes o r b
 held : (code : Code) → In code all_codes
 held G01 = inl refl
 held G02 = inr (inl refl)
-held G06 = inr (inr (inl refl))
-held G07 = inr (inr (inr (inl refl)))
-held G08 = inr (inr (inr (inr (inl refl))))
-held G09 = inr (inr (inr (inr (inr (inl refl)))))
-held G10 = inr (inr (inr (inr (inr (inr (inl refl))))))
+held G03 = inr (inr (inl refl))
+held G06 = inr (inr (inr (inl refl)))
+held G07 = inr (inr (inr (inr (inl refl))))
+held G08 = inr (inr (inr (inr (inr (inl refl)))))
+held G09 = inr (inr (inr (inr (inr (inr (inl refl))))))
+held G10 = inr (inr (inr (inr (inr (inr (inr (inl refl)))))))
 
 -- The doubts are those offsets that are found of their code.
 doubts_are : (notes : List NoteParts) (d : Doubt) → In d (doubts_of notes) ↔ In d.offset (offsets_for d.code notes)

@@ -3,6 +3,8 @@ pub mod KeyLaws
 pub mod LoneLaws
 pub mod SoundLaws
 pub mod SpanLaws
+pub mod FitLaws
+pub mod MisfitLaws
 pub mod TableLaws
 pub mod StrangeLaws
 pub mod DoubtLaws

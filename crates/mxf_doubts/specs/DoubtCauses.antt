@@ -15,10 +15,13 @@ use Rattle.mxf_catalogue.specs.Disputes.{IsClear}
 use Rattle.mxf_views.specs.declared.copy.CopyInfo.{CopyInfo}
 use Rattle.mxf_views.specs.Copies.{IsCopy, IsSetKind}
 use Rattle.mxf_views.specs.Labels.{primer_of}
+use Rattle.mxf_views.specs.Partitions.{PartitionParts, partitions_of}
+use Rattle.mxf_views.specs.Places.{SegmentAtParts, segments_of}
+use Rattle.mxf_places.specs.Named.{IsBehindMetadata, IsOver}
 use Rattle.mxf_views.specs.Readings.{IsReadAs}
 use Rattle.mxf_views.specs.SetItems.{IsMadeUpOf}
 use Rattle.mxf_doubts.specs.declared.doubt.Code.{Code}
-use Rattle.mxf_doubts.specs.declared.doubt.Code.TheVariants.{G01, G02, G06, G07, G08, G09, G10}
+use Rattle.mxf_doubts.specs.declared.doubt.Code.TheVariants.{G01, G02, G03, G06, G07, G08, G09, G10}
 use Rattle.mxf_doubts.specs.declared.doubt.Doubt.{Doubt}
 use Rattle.mxf_doubts.specs.Classes.{IsMisfit}
 use Rattle.mxf_doubts.specs.Header.{is_batch_tag, is_reference_tag}
@@ -140,6 +143,55 @@ pub record RefersToNone (notes : List NoteParts) (c : CopyInfo) (start : ℕ) (n
   pub holds : HoldsReference item uid
   pub none : (m : NoteParts) → IsSetIn notes c start m → HasInstance m uid → ⊥
 
+-- ---- Index table segments
+
+-- Each byte from an offset up to an end is one of a clear packet.
+abbrev pub AreFilled : List NoteParts → ℕ → ℕ → Type 0
+AreFilled notes start end =
+    (x : ℕ) → start ≤ x → x < end → (n : NoteParts) × IsClear n notes × (n.offset ≤ x) × (x < end_of n)
+
+-- A packet that index tables don't have: no segment, no fill, and no dark data.
+pub record IsForeign (notes : List NoteParts) (n : NoteParts) : Type 0 where
+  pub no_segment : kind_of n.key ≢ kinds.Segment
+  pub no_fill : kind_of n.key ≢ kinds.Fill
+  pub bright : IsDark notes n → ⊥
+
+-- The bytes from a segment up to an end aren't those of the segments of the IndexSID.
+pub data IsMiscounted (notes : List NoteParts) (index_sid start end : ℕ) : Type 0 where
+  has_other : (n : NoteParts) → IsClear n notes → start ≤ n.offset → end_of n ≤ end → IsForeign notes n
+      → IsMiscounted notes index_sid start end
+  cuts_one : AreFilled notes start end → (n : NoteParts) → IsClear n notes → n.offset < end → end < end_of n
+      → IsMiscounted notes index_sid start end
+  leaves_one : AreFilled notes start end → (n : NoteParts) → IsClear n notes → n.offset ≡ end
+      → kind_of n.key ≡ kinds.Segment → IsMiscounted notes index_sid start end
+  has_none : AreFilled notes start end → (s : SegmentAtParts) → In s (segments_of notes) → start ≤ s.offset
+      → s.offset < end
+      → ((o : SegmentAtParts) → In o (segments_of notes) → start ≤ o.offset → o.offset < end
+      → o.segment.numbers.index_sid ≢ index_sid) → IsMiscounted notes index_sid start end
+
+-- The packet behind the header metadata of a partition doesn't fit the partition's IndexByteCount and IndexSID.
+pub data IsUnfit (notes : List NoteParts) (p : PartitionParts) (n : NoteParts) : Type 0 where
+  uncounted : p.pack.numbers.index_byte_count ≡ 0 → kind_of n.key ≡ kinds.Segment → IsUnfit notes p n
+  no_index : p.pack.numbers.index_byte_count ≢ 0 → kind_of n.key ≢ kinds.Segment → (IsDark notes n → ⊥)
+      → IsUnfit notes p n
+  miscounted : p.pack.numbers.index_byte_count ≢ 0 → kind_of n.key ≡ kinds.Segment
+      → IsMiscounted notes p.pack.numbers.index_sid n.offset (n.offset + p.pack.numbers.index_byte_count)
+      → IsUnfit notes p n
+
+-- The packet behind the header metadata of a partition and the fills that follow them is clear, and doesn't fit.
+pub record IsIndexMisfit (notes : List NoteParts) (p : PartitionParts) : Type 0 where
+  pub begin : ℕ
+  pub behind : IsBehindMetadata notes p begin
+  pub first : NoteParts
+  pub clear : IsClear first notes
+  pub over : IsOver notes begin first.offset
+  pub unfit : IsUnfit notes p first
+
+-- A partition at the offset is such.
+abbrev pub AtPartition : List NoteParts → ℕ → Type 0
+AtPartition notes offset =
+    (p : PartitionParts) × In p (partitions_of notes) × (p.offset ≡ offset) × IsIndexMisfit notes p
+
 -- ---- The codes
 
 -- A clear note at the offset is such.
@@ -200,6 +252,7 @@ pub record IsFirstUnlabelled (notes : List NoteParts) (offset : ℕ) : Type 0 wh
 abbrev pub IsDoubtedAt : Code → List NoteParts → ℕ → Type 0
 IsDoubtedAt G01 notes offset = LacksPreface notes offset
 IsDoubtedAt G02 notes offset = AtClear notes (IsStrangeInside notes) offset
+IsDoubtedAt G03 notes offset = AtPartition notes offset
 IsDoubtedAt G06 notes offset = AtClear notes (IsStrangeOutside notes) offset
 IsDoubtedAt G07 notes offset = AtClear notes (IsUntracked notes) offset
 IsDoubtedAt G08 notes offset = AtClear notes IsMisfit offset

@@ -6,12 +6,14 @@ use Rattle.mxf_klv.specs.Kind.{kind_of}
 use Rattle.mxf_klv.specs.Rising.{union}
 use Rattle.mxf_catalogue.specs.Disputes.{clear_notes}
 use Rattle.mxf_views.specs.Copies.{copies_of, is_fill, is_set_note}
+use Rattle.mxf_views.specs.Partitions.{partitions_of}
 use Rattle.mxf_doubts.specs.declared.doubt.Code.{Code}
-use Rattle.mxf_doubts.specs.declared.doubt.Code.TheVariants.{G01, G02, G06, G07, G08, G09, G10}
+use Rattle.mxf_doubts.specs.declared.doubt.Code.TheVariants.{G01, G02, G03, G06, G07, G08, G09, G10}
 use Rattle.mxf_doubts.specs.declared.doubt.Doubt.{Doubt}
 use Rattle.mxf_doubts.specs.Classes.{is_misfit}
 use Rattle.mxf_doubts.specs.Codes.{all_codes, doubt, doubt_cmp}
 use Rattle.mxf_doubts.specs.Header.{first_unlabelled, lacks_preface, unreferred}
+use Rattle.mxf_doubts.specs.IndexFit.{is_index_misfit}
 use Rattle.mxf_doubts.specs.Sound.{is_first_primer, is_in_sound_zone}
 use Rattle.mxf_doubts.specs.Strange.{is_other, is_strange}
 use Rattle.mxf_doubts.specs.Tracks.{is_untracked}
@@ -44,6 +46,7 @@ clear_at code notes = map (λ n. n.offset) (filter (is_note_cause code notes) (c
 abbrev pub offsets_for : Code → List NoteParts → List ℕ
 offsets_for G01 notes = map (λ c. c.partition) (filter (lacks_preface notes) (copies_of notes))
 offsets_for G02 notes = clear_at G02 notes
+offsets_for G03 notes = map (λ p. p.offset) (filter (is_index_misfit notes) (partitions_of notes))
 offsets_for G06 notes = clear_at G06 notes
 offsets_for G07 notes = clear_at G07 notes
 offsets_for G08 notes = clear_at G08 notes

@@ -21,8 +21,8 @@ use std::cmp::Ordering;
 use std::fmt;
 use std::marker::Model;
 
-/// A kind of doubt. All speak of clear notes: a disputed one is never in doubt, nor is a head. The numbers between are those of
-/// doubts about indexes and edit units, which aren't asked yet.
+/// A kind of doubt. All speak of clear notes: a disputed one is never in doubt, nor is a head. The numbers left out are
+/// those of doubts about edit units, which aren't asked yet.
 ///
 /// A finished copy is one as in [`Views::copies`](mxf_views::Views::copies), and its zone the bytes that it fills.
 #[derive(Clone, Copy, Debug, PartialEq, Eq)]
@@ -32,6 +32,12 @@ pub enum Code {
     /// A packet that lies wholly in the zone of a finished copy is strange ([`Keys::is_strange`](crate::Keys::is_strange)); or
     /// the packet is no set, no fill, of a known kind, and not the primer pack at the start of a finished copy.
     G02,
+    /// A partition, which begins there, doesn't count its index table segments right. Behind its header metadata and the fills
+    /// that follow stands a segment that IndexByteCount doesn't count, or something else than the segments that it counts. Or in
+    /// the bytes that it counts lies what is no segment, no fill and no dark data. Or packets fill these bytes, and one goes
+    /// on where the bytes end, or another segment begins there, or the readable segments in them are all of other IndexSIDs
+    /// than the partition's.
+    G03,
     /// A packet that doesn't lie wholly in the zone of a finished copy is strange.
     G06 = 6,
     /// No other packet has the key of an essence element, and no track has the number that the last four bytes of the key
@@ -48,9 +54,10 @@ pub enum Code {
 }
 
 /// All codes.
-const CODES: [Code; 7] = [
+const CODES: [Code; 8] = [
     Code::G01,
     Code::G02,
+    Code::G03,
     Code::G06,
     Code::G07,
     Code::G08,
@@ -74,6 +81,7 @@ impl Code {
         match self {
             Code::G01 => "header metadata without one Preface",
             Code::G02 => "strange packet in header metadata",
+            Code::G03 => "index doesn't fit its partition",
             Code::G06 => "strange packet",
             Code::G07 => "essence that no track names",
             Code::G08 => "set's key doesn't fit its items",
@@ -180,6 +188,7 @@ impl Collected {
         match code {
             Code::G01 => self.add_copies(alloc, asked),
             Code::G02 | Code::G06 | Code::G07 | Code::G08 => self.add_clear(code, asked),
+            Code::G03 => self.add_partitions(alloc, asked),
             Code::G09 => self.add_unreferred(alloc, asked),
             Code::G10 => self.add_unlabelled(alloc, asked),
         }

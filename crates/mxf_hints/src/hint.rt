@@ -9,6 +9,7 @@ use mxf_saving::{
     begins_with_scheme,
 };
 use mxf_timed::TimecodeWord;
+use mxf_tracks::Timecode;
 use std::fmt;
 
 /// What to do about a fault. Of a file that is refused as a catalogue or a list, or of a word that names no source and
@@ -92,6 +93,25 @@ fn advice_on_unit(word: &str) -> &'static str {
     }
 }
 
+/// The timecode that a clock of drop frame shows next after one that the clock leaves out; `None` if the clock leaves out no
+/// such one. The first two frames of 30 are left out, and the first four of 60, of each minute that isn't a tenth one (SMPTE
+/// ST 12-1).
+fn next_shown(word: TimecodeWord, base: u16) -> Option<Timecode> {
+    let left_out = u32::from(base / 15);
+    let is_left_out = word.hours < 24
+        && word.minutes < 60
+        && word.minutes % 10 != 0
+        && word.seconds == 0
+        && word.frames < left_out;
+    is_left_out.then_some(Timecode {
+        hours: u64::from(word.hours),
+        minutes: u64::from(word.minutes),
+        seconds: 0,
+        frames: u64::from(left_out),
+        is_drop: true,
+    })
+}
+
 /// Writes which timecodes a clock has that hasn't this one.
 fn write_clock<W: fmt::Write>(
     f: &mut fmt::Formatter<W>,
@@ -109,7 +129,17 @@ fn write_clock<W: fmt::Write>(
             "no clock of the index is known: describe prints those that are; name edit units by their numbers",
         );
     };
-    match TimecodeWord::read(word) {
+    let word = TimecodeWord::read(word);
+    if let Some(next) = word
+        .filter(|_| first.is_drop)
+        .and_then(|word| next_shown(word, base))
+    {
+        return write!(
+            f,
+            "drop frame leaves this timecode out: the next one is {next}"
+        );
+    }
+    match word {
         Some(word) if word.frames >= u32::from(base) => {
             return write!(f, "the clock has {base} frames a second, counted from 00");
         }

@@ -28,6 +28,28 @@ impl fmt::Display for StoppedSource<'_> {
     }
 }
 
+/// What to do about a piece of which a packet is damaged, and what lies behind that isn't read.
+#[derive(Clone, Copy)]
+struct DamagedPiece<'a> {
+    offset: u64,
+    path: &'a str,
+    place: u64,
+}
+
+impl fmt::Display for DamagedPiece<'_> {
+    fn fmt<W: fmt::Write>(&self, f: &mut fmt::Formatter<W>) -> fmt::Result {
+        let DamagedPiece {
+            offset,
+            path,
+            place,
+        } = *self;
+        write!(
+            f,
+            "hint: damaged at {place}: name it range:{offset}:{path}, which is read on behind the damage"
+        )
+    }
+}
+
 /// What to do about a piece or slice that doesn't begin at a packet, or a range without a start.
 #[derive(Clone, Copy)]
 struct FrontHint<'a> {
@@ -203,7 +225,19 @@ fn tell_stop<R: Files + Eprint + AllocGlobal>(
     }
     if is_without_packets(report) {
         let front = Front::of(rt, &source);
-        tell_on_screen(rt, &FrontHint { source, front })?;
+        return tell_on_screen(rt, &FrontHint { source, front });
     }
-    Ok(())
+    match (source, stop) {
+        (Source::Piece { offset, path }, Stop::NotUl(_) | Stop::BadLength(_)) => {
+            tell_on_screen(
+                rt,
+                &DamagedPiece {
+                    offset,
+                    path,
+                    place,
+                },
+            )
+        }
+        _ => Ok(()),
+    }
 }

@@ -68,6 +68,13 @@ impl<'a> Asked<'a> {
         self.views
     }
 
+    /// The keys of the notes.
+    pub fn keys(&self) -> &Keys<'a>
+        ensures { result.now ≡ self.now }
+    {
+        &self.keys
+    }
+
     /// Whether the code is that of what is in doubt about the clear note.
     pub fn is_note_cause(&self, code: Code, note: &Note) -> bool
         ensures { result ≡ is_note_cause code self.now note.now }

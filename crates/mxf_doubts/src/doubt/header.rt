@@ -1,4 +1,4 @@
-//! Doubts about copies of the header metadata.
+//! Doubts about copies of the header metadata, and about index table segments behind them.
 ghost use Rattle.std.specs.Prelude.{◌≡◌, ◌++◌, IfOk, OnOk, flat_map};
 ghost use Rattle.mxf_views.specs.Copies.{copies_of};
 ghost use Rattle.mxf_doubts.specs.Doubts.{doubts_for};
@@ -7,6 +7,7 @@ ghost use Rattle.mxf_doubts.specs.Header.{unreferred};
 use super::Code;
 use super::asked::Asked;
 use super::collected::Collected;
+use crate::index_fit::IndexFit;
 use crate::labels::first_unlabelled;
 use crate::references::unreferred;
 use crate::spans::{Spans, lacks_preface};
@@ -35,6 +36,23 @@ impl Collected {
         for copy in asked.views().copies() {
             if lacks_preface(&sets, copy) {
                 self.add(Code::G01, copy.partition)?;
+            }
+        }
+        Ok(())
+    }
+
+    /// Partitions that don't count their index table segments right.
+    pub(super) fn add_partitions(
+        &mut self,
+        alloc: Global,
+        asked: &Asked<'_>,
+    ) -> Result<(), OutOfMemory>
+        ensures { OnOk result (self.new ≡ self.old ++ doubts_for Code.G03 asked.now) }
+    {
+        let fit = IndexFit::of(alloc, asked.views(), asked.keys())?;
+        for partition in asked.views().partitions_in_numbers() {
+            if fit.is_misfit(partition) {
+                self.add(Code::G03, partition.offset)?;
             }
         }
         Ok(())
