@@ -54,6 +54,7 @@ exit_of_run (runs.WrongOffset word shift) = Usage
 exit_of_run runs.TwoLists = Usage
 exit_of_run runs.BadUnit = Usage
 exit_of_run (runs.Unread path cause) = Unread
+exit_of_run (runs.ShortSlice path offset length) = Unread
 exit_of_run (runs.BadCatalogue path fault) = Refused
 exit_of_run (runs.Unwritten cause) = Unwritten
 exit_of_run (runs.Unsaved path fault) = Unwritten

@@ -1,6 +1,7 @@
 //! Why a run ends without its answer.
 ghost use Rattle.std.specs.Prelude.{◌≡◌};
 ghost use Rattle.mxf_hints.specs.Exits.{exit_of_fault, exit_of_run};
+ghost use Rattle.mxf_hints.specs.declared.exit.Exit.TheVariants as exits;
 ghost use Rattle.mxf_hints.specs.declared.fault.RunFault.TheVariants as runs;
 
 use crate::exit::Exit;
@@ -108,6 +109,13 @@ pub enum RunFault<'a> {
         path: &'a str,
         cause: Option<SystemFault>,
     },
+    /// A slice couldn't be read, and the system gives no cause: its file has fewer bytes.
+    #[error("read fault: {path}")]
+    ShortSlice {
+        path: &'a str,
+        offset: u64,
+        length: u64,
+    },
     /// The file of a catalogue was refused or is too long.
     #[error("catalogue fault: {path}: {fault}")]
     BadCatalogue {
@@ -212,20 +220,51 @@ impl RunFault<'_> {
             | RunFault::TwoLists
             | RunFault::BadUnit => Exit::Usage,
             RunFault::NothingToKeep { .. } => Exit::Found,
-            RunFault::Unread { .. } => Exit::Unread,
+            RunFault::Unread { .. } | RunFault::ShortSlice { .. } => Exit::Unread,
             RunFault::BadCatalogue { .. } => Exit::Refused,
             RunFault::Unwritten { .. } | RunFault::Unsaved { .. } => Exit::Unwritten,
         }
     }
 
-    /// The fault of the part at the path, of a read as the system says.
-    pub fn of_part<'a>(path: &'a str, fault: PartFault, cause: Option<SystemFault>) -> RunFault<'a>
+    /// The fault of the part that a source names, of a read as the system says.
+    pub fn of_part<'a>(
+        source: Source<'a>,
+        fault: PartFault,
+        cause: Option<SystemFault>,
+    ) -> RunFault<'a>
         ensures { exit_of_run result ≡ exit_of_fault fault }
     {
         match fault {
             PartFault::OutOfMemory => RunFault::OutOfMemory,
-            PartFault::ReadFault => RunFault::Unread { path, cause },
-            PartFault::TooLong | PartFault::Catalogue(_) => RunFault::BadCatalogue { path, fault },
+            PartFault::ReadFault => RunFault::of_read(source, cause),
+            PartFault::TooLong | PartFault::Catalogue(_) => RunFault::BadCatalogue {
+                path: source.path(),
+                fault,
+            },
+        }
+    }
+
+    /// That a source couldn't be read, as the system says.
+    fn of_read<'a>(source: Source<'a>, cause: Option<SystemFault>) -> RunFault<'a>
+        ensures { exit_of_run result ≡ exits.Unread }
+    {
+        match (source, cause) {
+            (
+                Source::Slice {
+                    offset,
+                    length,
+                    path,
+                },
+                None,
+            ) => RunFault::ShortSlice {
+                path,
+                offset,
+                length,
+            },
+            _ => RunFault::Unread {
+                path: source.path(),
+                cause,
+            },
         }
     }
 }

@@ -18,6 +18,8 @@ use std::fmt;
 pub struct Hint<'f, 'a> {
     pub fault: &'f RunFault<'a>,
     pub beginning: Option<Beginning>,
+    /// How many bytes the file of a short slice has.
+    pub size: Option<u64>,
 }
 
 impl fmt::Display for Hint<'_, '_> {
@@ -33,6 +35,17 @@ impl fmt::Display for Hint<'_, '_> {
             }
             RunFault::WrongOffset { word, shift } => write_shift(f, word, *shift),
             RunFault::Unread { path, cause } => write_unread(f, *path, *cause),
+            RunFault::ShortSlice {
+                path,
+                offset,
+                length,
+            } => match self.size {
+                Some(size) => write!(
+                    f,
+                    "{path} has {size} bytes, and {length} from byte {offset} on are asked for"
+                ),
+                None => write_cause(f, *path, None),
+            },
             RunFault::BadCatalogue { path, .. } => {
                 write_filled(f, advice_on_catalogue(self.beginning), *path)
             }
@@ -72,6 +85,7 @@ fn advice_on_fault(fault: &RunFault<'_>) -> &'static str {
         | RunFault::NothingToKeep { .. }
         | RunFault::WrongOffset { .. }
         | RunFault::Unread { .. }
+        | RunFault::ShortSlice { .. }
         | RunFault::BadCatalogue { .. }
         | RunFault::Unwritten { .. }
         | RunFault::Unsaved { .. } => "",

@@ -9,8 +9,8 @@ use mxf_asked::Hints;
 use mxf_saving::Beginning;
 use mxf_watching::{Screen, text_on_screen};
 use std::alloc::{AllocError, Global};
-use std::fmt;
 use std::rt::Files;
+use std::{fmt, fs};
 
 /// What standard error is, and whether hints go there.
 #[derive(Clone, Copy)]
@@ -61,8 +61,12 @@ fn tell_fault<R: Files + Eprint + AllocGlobal>(
     if !telling.has_hints {
         return Ok(());
     }
-    let beginning = beginning_of(rt, fault);
-    tell_on_screen(rt, &Hint { fault, beginning })
+    let hint = Hint {
+        fault,
+        beginning: beginning_of(rt, fault),
+        size: size_of(rt, fault),
+    };
+    tell_on_screen(rt, &hint)
 }
 
 /// Prints a line for people, without control characters.
@@ -79,6 +83,17 @@ pub fn tell_on_screen<R: Eprint + AllocGlobal, D: fmt::Display>(
 pub fn line_on_screen<D: fmt::Display>(alloc: Global, line: &D) -> Result<String, AllocError> {
     let line = format!(in alloc; "{line}")?;
     text_on_screen(alloc, line.as_str())
+}
+
+/// How many bytes the regular file has of which a slice is short.
+fn size_of<R: Files>(rt: &R, fault: &RunFault<'_>) -> Option<u64> {
+    let RunFault::ShortSlice { path, .. } = fault else {
+        return None;
+    };
+    match fs::metadata(rt, *path) {
+        Ok(found) if found.is_file() => Some(found.len()),
+        _ => None,
+    }
 }
 
 /// What the file begins with that was refused as a catalogue or a list, or that a word names which is no source.

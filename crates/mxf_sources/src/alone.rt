@@ -60,6 +60,6 @@ pub fn read_alone<'a>(
             let (views, _) = gathered.into_parts();
             Ok(views.into_catalogue())
         }
-        Err(fault) => Err(RunFault::of_part(source.path(), fault, last.get())),
+        Err(fault) => Err(RunFault::of_part(*source, fault, last.get())),
     }
 }

@@ -108,9 +108,9 @@ pub fn ungathered<'a>(
     sources: &[Source<'a>],
     last: &LastFault,
 ) -> RunFault<'a> {
-    let path = match sources.get(fault.part) {
-        Some(source) => source.path(),
-        None => "",
+    let source = match sources.get(fault.part) {
+        Some(source) => *source,
+        None => Source::Saved { path: "" },
     };
-    RunFault::of_part(path, fault.fault, last.get())
+    RunFault::of_part(source, fault.fault, last.get())
 }
