@@ -50,6 +50,24 @@ fn tell_disputes<R: Files + Eprint + AllocGlobal>(
     )
 }
 
+/// Tells that sources and those beside them are of two recordings, if the packages that the first of each describe say so.
+/// Whether they do.
+pub fn tell_two_recordings<R: Files + Eprint + AllocGlobal>(
+    rt: &R,
+    beside: &[Source<'_>],
+    sources: &[Source<'_>],
+) -> Result<bool, AllocError> {
+    let earlier = describing(rt, beside)?;
+    let later = describing(rt, sources)?;
+    match (earlier.first(), later.first()) {
+        (Some(one), Some(other)) if one.package.as_str() != other.package.as_str() => {
+            tell_two(rt, one, other)?;
+            Ok(true)
+        }
+        _ => Ok(false),
+    }
+}
+
 /// Tells that two sources describe other packages.
 fn tell_two<R: Eprint + AllocGlobal>(
     rt: &R,

@@ -7,7 +7,7 @@
 //! | what a refused argument may have been meant for | [`RefusalHint`] |
 //! | which sources end before their bytes do, or have no packet | [`tell_stops`], [`tell_foreign`] |
 //! | which begin elsewhere by their partition packs | [`tell_offsets`], if something [`is_contradicted`] |
-//! | what of the sources doesn't go together | [`tell_together`], [`tell_unsettled`] |
+//! | what of the sources doesn't go together | [`tell_together`], [`tell_unsettled`], [`tell_two_recordings`] |
 //! | which index is meant, and that it isn't held | [`found_units`] |
 //!
 //! What is proved: the exit status of each end of a run ([`Exit`]), the end for each fault, and whether hints are told
@@ -39,7 +39,7 @@ mod unit_range;
 
 pub use apart::tell_unsettled;
 pub use contents::{Contents, gather_each, gather_one};
-pub use disputing::tell_together;
+pub use disputing::{tell_together, tell_two_recordings};
 pub use exit::Exit;
 pub use fault::{IndexSids, RunFault, ToldClock};
 pub use found::{FoundUnits, found_units};

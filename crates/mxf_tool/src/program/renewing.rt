@@ -2,7 +2,9 @@
 use super::{Inputs, Printed, allow_output, print_answer, told, unsaved};
 use mxf_asked::{Renewing, Saving};
 use mxf_catalogue::Catalogue;
-use mxf_hints::{Exit, RunFault, Shift, is_contradicted, tell_offsets, tell_on_screen};
+use mxf_hints::{
+    Exit, RunFault, Shift, is_contradicted, tell_offsets, tell_on_screen, tell_two_recordings,
+};
 use mxf_klv::OutOfMemory;
 use mxf_read::PieceReport;
 use mxf_saving::{Reservation, Source};
@@ -151,12 +153,19 @@ fn print_unrenewed<'a>(
     renewed: &Renewed<'_>,
 ) -> Result<Exit, RunFault<'a>> {
     let exit = print_answer(rt, Printed::Renewed(renewed, false), inputs.form)?;
-    if inputs.telling.has_hints {
-        let hint =
-            "hint: more essence of --old is dropped than SRC.. have of it: are they of the same recording, and is OFFSET right? --drop saves them all the same";
-        if tell_on_screen(rt, &hint).is_err() {
-            return Err(RunFault::OutOfMemory);
-        }
+    if inputs.telling.has_hints && tell_unrenewed(rt, inputs).is_err() {
+        return Err(RunFault::OutOfMemory);
     }
     Ok(exit)
+}
+
+/// Tells why a renewal isn't saved: the sources are of another recording by what they describe, or may be.
+fn tell_unrenewed(rt: &HostRuntime, inputs: Inputs<'_, '_>) -> Result<(), AllocError> {
+    if tell_two_recordings(rt, inputs.beside, inputs.sources)? {
+        return Ok(());
+    }
+    tell_on_screen(
+        rt,
+        &"hint: more essence of --old is dropped than SRC.. have of it: are they of the same recording, and is OFFSET right? --drop saves them all the same",
+    )
 }

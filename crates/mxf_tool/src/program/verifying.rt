@@ -5,7 +5,7 @@ ghost use Rattle.mxf_tool.specs.Verifying.{AreToldOf, open_of};
 use super::edit_units::{UnitsInRange, units_in_range};
 use super::{Inputs, Printed, print_answer, told};
 use mxf_asked::{IndexedUnits, Verifying};
-use mxf_hints::{Exit, RunFault, tell_foreign, tell_offsets, tell_on_screen};
+use mxf_hints::{Exit, RunFault, tell_foreign, tell_offsets, tell_on_screen, tell_two_recordings};
 use mxf_klv::OutOfMemory;
 use mxf_lines::{Verified, timecodes_shown};
 use mxf_places::AtHand;
@@ -179,7 +179,8 @@ fn open_of(is_whole: bool, verification: &Verification<'_>) -> Option<Open>
 }
 
 /// Tells where packets lie that differ, and what a verification leaves open. If no packet is the same, it
-/// says which source has no packet or a run-in, or else asks whether OFFSET is right; and which is wrong by its source.
+/// says that the sources are of another recording than the reference; or which source has no packet or a run-in, or else asks
+/// whether OFFSET is right; and which is wrong by its source.
 fn tell_open(
     rt: &HostRuntime,
     inputs: Inputs<'_, '_>,
@@ -198,6 +199,9 @@ fn tell_open(
     };
     match open {
         Open::NoneSame => {
+            if tell_two_recordings(rt, inputs.beside, inputs.sources)? {
+                return Ok(());
+            }
             if !tell_foreign(rt, inputs.sources)? {
                 tell_on_screen(rt, &open)?;
             }
