@@ -4,19 +4,29 @@ use Rattle.mxf_views.proofs.Common.{sym, ap, refl, arith, length, map, nat_le, n
 use Rattle.mxf_views.proofs.Common.{and_from, and_parts, same_bool, le-leb, leb-true, lt-ltb, ltb-true, ltb-false, subst, cases_lt, inl, inr}
 use Rattle.mxf_views.proofs.Common.{false_from_ne_true, IsTrue, Option, Some, None, NoteParts, end_of, covered_end, greatest_end, kind_of, cond}
 use Rattle.mxf_views.proofs.Common.{option_map_or, find, max, range_with_len, IsCatalogue, IsNote, all-In, In-clear_notes, clear_notes}
-use Rattle.mxf_views.proofs.Common.{IsNonDecreasingBy, IsPermutation, nat_cmp, union_of_runs, covered_run, Run}
+use Rattle.mxf_views.proofs.Common.{IsNonDecreasingBy, IsPermutation, nat_cmp, union_of_runs, covered_run, Ordering, eqb-true, eq-eqb, ne_eqb, or_cases, ◌≢◌, PartitionParts}
+use Rattle.mxf_views.proofs.Common.{In-undisputed_notes, find-none, filter, option_and_then, undisputed_notes}
+use Rattle.mxf_places.proofs.StretchLaws.{over_none}
+use Rattle.mxf_places.specs.Claims.{behind_metadata, metadata_of, over_fills}
 use Rattle.std.proofs.lemmas.List.Sorted.{list_any-IsPermutation}
 use Rattle.std.specs.List.Sorted.{IsSorted}
 use Rattle.std.specs.Ordering.{ordering_index, ordering_then}
 use Rattle.mxf_klv.proofs.Counts.{In-range}
 use Rattle.mxf_klv.proofs.Lists.{In-at, In-list_all, list_all-In}
 use Rattle.mxf_klv.proofs.Sides.{side_by, sides_rise}
+use Rattle.std.proofs.lemmas.Cmp.{nat_cmp_total, on_total, then_total, tied_itself}
+use Rattle.std.specs.Cmp.{IsTotalOrder}
 use Rattle.mxf_catalogue.proofs.ApartLaws.{covers_all}
 use Rattle.mxf_catalogue.specs.Disputes.{AreApart}
 use Rattle.mxf_catalogue.specs.Runs.{LiesIn}
+use Rattle.mxf_catalogue.specs.declared.run.Run.{Run}
 use Rattle.mxf_views.specs.Places.{SegmentAtParts, is_segment, segments_of, without_entries}
 use Rattle.mxf_doubts.specs.IndexFit.{AreClear, are_filled, begins_in, begins_segment, has_byte, has_own, has_segment, is_clear_at}
-use Rattle.mxf_doubts.specs.IndexFit.{is_cut_at, own_pair}
+use Rattle.mxf_doubts.specs.Header.{is_within, span_of}
+use Rattle.mxf_doubts.specs.IndexFit.{first_behind, has_foreign, is_cut_at, is_foreign, is_index_misfit, own_pair}
+use Rattle.mxf_views.specs.Partitions.{in_numbers}
+use Rattle.mxf_doubts.specs.declared.spans.Span.{Span}
+use Rattle.mxf_doubts.proofs.SpanLaws.{any_span}
 
 -- ---- The bytes of clear packets
 
@@ -85,14 +95,141 @@ none_above : (low x : ℕ) (ns : List NoteParts) → AreApart low ns → x < low
 none_above low x [] a l = (refl, refl, refl, refl)
 none_above low x (n ∷ ns) a l =
     let rest = none_above (end_of n) x ns a.1 (omega (arith, a.0, l)) in
-    grind (arith, rest, a.0, l)
+    let above : x < n.offset = omega (arith, a.0, l) in
+    let less : nat_lt n.offset x ≡ false = false_from_ne_true (nat_lt n.offset x) (λ t.
+    let u = ltb-true n.offset x t in omega (arith, u, above)) in
+    let low : nat_le n.offset x ≡ false = false_from_ne_true (nat_le n.offset x) (λ t.
+    let u = leb-true n.offset x t in omega (arith, u, above)) in
+    let same : (n.offset == x) ≡ false = false_from_ne_true (n.offset == x) (λ t.
+    let u = eqb-true n.offset x t in omega (arith, u, above)) in (
+      ap (λ b. (b && nat_lt x (end_of n)) || list_any (cuts x) ns) less ∙ rest.0,
+      ap (λ b. (b && is_segment (kind_of n.key)) || list_any (begins_at x) ns) same ∙ rest.1,
+      ap (λ b. (b && nat_lt x (end_of n)) || list_any (has_byte x) ns) low ∙ rest.2,
+      ap (λ b. cond b (Some n) (find (λ n. n.offset == x) ns)) same ∙ rest.3,
+    )
+
+not_less : (a b : ℕ) → b ≤ a → nat_lt a b ≡ false
+not_less a b l = false_from_ne_true (nat_lt a b) (λ t. let u = ltb-true a b t in omega (arith, u, l))
+
+not_at_most : (a b : ℕ) → b < a → nat_le a b ≡ false
+not_at_most a b l = false_from_ne_true (nat_le a b) (λ t. let u = leb-true a b t in omega (arith, u, l))
+
+or_false : (b : Bool) → (b || false) ≡ b
+or_false true = refl
+or_false false = refl
+
+-- By the first packet alone, where none of the others begins at or before the offset.
+first_tells : (x : ℕ) (n : NoteParts) (c b h : Bool) (f : Option NoteParts) → x < end_of n → c ≡ false → b ≡ false
+    → h ≡ false → f ≡ None
+    → ((cuts x n || c) || (begins_at x n || b))
+    ≡ option_map_or (λ n. is_segment (kind_of n.key)) (cond (n.offset == x) (Some n) f) (has_byte x n || h)
+first_tells x n c b h f before ec eb eh ef =
+    let up = lt-ltb x (end_of n) before in
+    elim (cases_lt n.offset x) [
+      | inl l ↦ rw (up, lt-ltb n.offset x l, ne_eqb n.offset x (omega (arith, l)), le-leb n.offset x (omega (arith, l)), ef) refl
+      | inr g ↦ elim (cases_lt x n.offset) [
+        | inl m ↦ rw (
+          not_less n.offset x g,
+          ne_eqb n.offset x (λ e. omega (arith, m, e)),
+          not_at_most n.offset x m,
+          ec,
+          eb,
+          eh,
+          ef,
+        ) refl
+        | inr k ↦
+            let e : n.offset ≡ x = omega (arith, g, k) in
+            rw (not_less n.offset x g, eq-eqb n.offset x e, ec, eb) (or_false (is_segment (kind_of n.key)))
+      ]
+    ]
+
+-- By the others alone, where the first ends before the offset.
+passes : (x : ℕ) (n : NoteParts) (c b h : Bool) (f : Option NoteParts) → end_of n ≤ x
+    → (c || b) ≡ option_map_or (λ n. is_segment (kind_of n.key)) f h
+    → ((cuts x n || c) || (begins_at x n || b))
+    ≡ option_map_or (λ n. is_segment (kind_of n.key)) (cond (n.offset == x) (Some n) f) (has_byte x n || h)
+passes x n c b h f behind rest =
+    let l : n.offset < x = omega (arith, behind) in
+    rw (
+      lt-ltb n.offset x l,
+      not_less x (end_of n) behind,
+      ne_eqb n.offset x (omega (arith, l)),
+      le-leb n.offset x (omega (arith, l)),
+    ) rest
 
 -- Where a packet begins, that is a segment; where none begins, some packet has the byte.
 pub goes_on : (low x : ℕ) (ns : List NoteParts) → AreApart low ns
     → (list_any (cuts x) ns || list_any (begins_at x) ns)
     ≡ option_map_or (λ n. is_segment (kind_of n.key)) (find (λ n. n.offset == x) ns) (list_any (has_byte x) ns)
 goes_on low x [] a = refl
-goes_on low x (n ∷ ns) a = grind (arith, none_above, goes_on (end_of n) x ns a.1)
+goes_on low x (n ∷ ns) a = elim (cases_lt x (end_of n)) [
+  | inl before ↦
+      let none = none_above (end_of n) x ns a.1 before in
+      first_tells x n _ _ _ _ before none.0 none.1 none.2 none.3
+  | inr behind ↦ (
+      let rest = goes_on (end_of n) x ns a.1 in
+      passes x n _ _ _ _ behind rest)
+]
+
+pub goes_by : (notes : List NoteParts) (runs : List Run) (end : ℕ) (b : Bool) → AreApart 0 (clear_notes notes)
+    → find (λ n. n.offset == end) (clear_notes notes) ≡ None → AreClear notes runs → (IsTrue b ↔ LiesIn runs end)
+    → b ≡ (is_cut_at notes end || begins_segment notes end)
+goes_by notes runs end b apart none clear i =
+    same_bool b (is_clear_at notes end) (λ t. (clear end).0 (i.0 t)) (λ t. i.1 ((clear end).1 t))
+    ∙ sym (ap (λ (o : Option NoteParts). option_map_or (λ n. is_segment (kind_of n.key)) o (is_clear_at notes end)) none)
+    ∙ sym (goes_on 0 end (clear_notes notes) apart)
+
+pub goes_at : (notes : List NoteParts) (end : ℕ) (n : NoteParts) → AreApart 0 (clear_notes notes)
+    → find (λ n. n.offset == end) (clear_notes notes) ≡ Some n
+    → is_segment (kind_of n.key) ≡ (is_cut_at notes end || begins_segment notes end)
+goes_at notes end n apart found =
+    sym (ap (λ (o : Option NoteParts). option_map_or (λ n. is_segment (kind_of n.key)) o (is_clear_at notes end)) found)
+    ∙ sym (goes_on 0 end (clear_notes notes) apart)
+
+-- ---- Packets that index tables don't have
+
+pub foreign_within : (notes : List NoteParts) (foreign : List Span) (start bytes : ℕ)
+    → foreign ≡ map span_of (filter (is_foreign notes) (clear_notes notes))
+    → list_any (is_within bytes (Some start)) foreign ≡ has_foreign notes start bytes
+foreign_within notes foreign start bytes e =
+    ap (list_any (is_within bytes (Some start))) e
+    ∙ sym (any_span bytes (Some start) (filter (is_foreign notes) (clear_notes notes)))
+
+-- ---- Behind header metadata
+
+-- No packet begins above all offsets.
+pub far_first : (notes : List NoteParts) (p : PartitionParts) (begin : ℕ) → IsCatalogue notes
+    → behind_metadata notes p ≡ Some begin → greatest_end < begin → None ≡ first_behind notes p
+far_first notes p begin is e far =
+    let apart : (n : NoteParts) → In n notes → n.offset ≢ begin = λ n h s.
+    let note : IsNote n = all-In IsNote notes n is.members h in
+    let end : n.offset + 16 + n.width + n.length ≤ greatest_end = note.within in omega (arith, end, far, s) in
+    let over = over_none (undisputed_notes notes) begin (λ n h. apart n ((In-undisputed_notes n notes).0 h).0) in
+    sym (ap (λ (o : Option ℕ). option_and_then (λ x. find (λ n. n.offset == over_fills notes x) (clear_notes notes)) o) e
+    ∙ ap (λ x. find (λ n. n.offset == x) (clear_notes notes)) over
+    ∙ find-none (λ (n : NoteParts). n.offset == begin) (clear_notes notes) (λ n h t.
+    apart n ((In-clear_notes n notes).0 h).held (eqb-true n.offset begin t)))
+
+-- What a pack states in numbers tells whether a partition counts right.
+told_by_numbers : (notes : List NoteParts) (p : PartitionParts)
+    → is_index_misfit notes (in_numbers p) ≡ is_index_misfit notes p
+unfolding is_index_misfit metadata_of
+told_by_numbers notes p = refl
+
+pub by_numbers : (notes : List NoteParts) (ps : List PartitionParts)
+    → map (λ p. p.offset) (filter (is_index_misfit notes) (map in_numbers ps))
+    ≡ map (λ p. p.offset) (filter (is_index_misfit notes) ps)
+by_numbers notes [] = refl
+by_numbers notes (p ∷ ps) =
+    let rest = by_numbers notes ps in
+    let told = told_by_numbers notes p in
+    elim (is_index_misfit notes p) as (λ b. is_index_misfit notes p ≡ b
+    → map (λ p. p.offset) (cond (is_index_misfit notes (in_numbers p)) (in_numbers p ∷ filter (is_index_misfit notes) (map in_numbers ps))
+    (filter (is_index_misfit notes) (map in_numbers ps)))
+    ≡ map (λ p. p.offset) (cond b (p ∷ filter (is_index_misfit notes) ps) (filter (is_index_misfit notes) ps))) [
+      | true ↦ λ e. rw (told ∙ e) (ap (λ l. p.offset ∷ l) rest)
+      | false ↦ λ e. rw (told ∙ e) rest
+    ] refl
 
 -- ---- Searches
 
@@ -129,6 +266,13 @@ any_by_offset : (start end : ℕ) (ss : List SegmentAtParts)
 any_by_offset start end [] = refl
 any_by_offset start end (s ∷ ss) = ap (λ b. begins_in start end s || b) (any_by_offset start end ss)
 
+below_none : (start end : ℕ) (xs : List SegmentAtParts) (k : ℕ) → AllWithin (λ (x : SegmentAtParts). x.offset < start) xs 0 k
+    → AllWithin (λ (x : SegmentAtParts). begins_in start end x ≡ false) xs 0 k
+below_none start end xs k below i d a h =
+    let b = below i d a h in
+    ap (λ c. c && nat_lt (get_or xs i d).offset end) (false_from_ne_true (nat_le start (get_or xs i d).offset) (λ t.
+    let u = leb-true start (get_or xs i d).offset t in omega (arith, u, b)))
+
 pub segment_hit : (start end : ℕ) (ss xs : List SegmentAtParts) (k : ℕ) (s : SegmentAtParts) → xs ≡ map without_entries ss
     → IsNonDecreasingBy (λ (x : SegmentAtParts). x.offset) xs → AllWithin (λ (x : SegmentAtParts). x.offset < start) xs 0 k
     → AllWithin (λ (x : SegmentAtParts). start ≤ x.offset) xs k (length xs) → k < length xs
@@ -137,11 +281,12 @@ segment_hit start end ss xs k s e up below above l same =
     let from : start ≤ s.offset =
     let a = above k s (omega arith) l in let q = ap (λ (y : SegmentAtParts). y.offset) (same s) in omega (arith, a, q) in
     ap (λ b. b && nat_lt s.offset end) (sym (le-leb _ _ from))
-    ∙ first_hit (begins_in start end) xs k (λ i d a h. let b = below i d a h in grind (arith, b)) s l same
+    ∙ first_hit (begins_in start end) xs k (below_none start end xs k below) s l same
     (λ j a h t.
     let m = up k j s a h in
     let q = ap (λ (y : SegmentAtParts). y.offset) (same s) in
-    let before = ltb-true _ _ (and_parts _ _ t).1 in
+    let y = get_or xs j s in
+    let before = ltb-true y.offset end (and_parts (nat_le start y.offset) (nat_lt y.offset end) t).1 in
     and_from _ _ (le-leb _ _ from) (lt-ltb _ _ (omega (arith, m, q, before))))
     ∙ ap (list_any (begins_in start end)) e ∙ any_by_offset start end ss
 
@@ -149,7 +294,7 @@ pub no_segment_hit : (start end : ℕ) (ss xs : List SegmentAtParts) (k : ℕ) �
     → AllWithin (λ (x : SegmentAtParts). x.offset < start) xs 0 k → length xs ≤ k
     → false ≡ list_any (begins_in start end) ss
 no_segment_hit start end ss xs k e below l =
-    none_hit (begins_in start end) xs k (λ i d a h. let b = below i d a h in grind (arith, b)) l
+    none_hit (begins_in start end) xs k (below_none start end xs k below) l
     ∙ ap (list_any (begins_in start end)) e ∙ any_by_offset start end ss
 
 -- Pairs go by the first, then by the second.
@@ -177,3 +322,74 @@ pub own_permuted : (notes : List NoteParts) (index_sid start end : ℕ) (pairs :
 own_permuted notes index_sid start end pairs p =
     sym (list_any-IsPermutation (is_own index_sid start end) (map own_pair (segments_of notes)) pairs p)
     ∙ any_own index_sid start end (segments_of notes)
+
+pub pair_total : IsTotalOrder pair_cmp
+pair_total = then_total (on_total (λ (t : ℕ × ℕ). t.0) nat_cmp_total) (on_total (λ (t : ℕ × ℕ). t.1) nat_cmp_total)
+
+abbrev pub pair_side : ℕ × ℕ → ℕ × ℕ → ℕ
+pair_side wanted x = side_by pair_cmp (λ (p : ℕ × ℕ). p) wanted x
+
+-- Not below by the first, nor by the second where the first are one.
+not_below : (a b c d : ℕ) → (nat_lt a c || ((a == c) && nat_lt b d)) ≡ false → (c ≤ a) × (a ≡ c → d ≤ b)
+not_below a b c d e = (
+  elim (cases_lt a c) [ inl l ↦ absurd (let t = lt-ltb a c l in cc (t, e)) | inr m ↦ m ],
+  λ s. elim (cases_lt b d) [
+    | inl l ↦ absurd (
+        let t = lt-ltb b d l in
+        let q = eq-eqb a c s in
+        let n = not_less a c (omega (arith, s)) in
+        cc (t, q, n, e))
+    | inr m ↦ m
+  ],
+)
+
+from_side : (wanted x : ℕ × ℕ) → nat_lt (pair_side wanted x) 1 ≡ false → (wanted.0 ≤ x.0) × (x.0 ≡ wanted.0 → wanted.1 ≤ x.1)
+from_side wanted x e = not_below x.0 x.1 wanted.0 wanted.1 (sym (side_pair x.0 x.1 wanted.0 wanted.1) ∙ e)
+
+below_side : (wanted x : ℕ × ℕ) → nat_lt (pair_side wanted x) 1 ≡ true → (end : ℕ) → is_own wanted.0 wanted.1 end x ≡ false
+below_side wanted x e end = false_from_ne_true (is_own wanted.0 wanted.1 end x) (λ t.
+    let p = and_parts (x.0 == wanted.0) (nat_le wanted.1 x.1 && nat_lt x.1 end) t in
+    let q = and_parts (nat_le wanted.1 x.1) (nat_lt x.1 end) p.1 in
+    let same = eqb-true x.0 wanted.0 p.0 in
+    let from = leb-true wanted.1 x.1 q.0 in
+    let g = sym (side_pair x.0 x.1 wanted.0 wanted.1) ∙ e in
+    elim (or_cases (nat_lt x.0 wanted.0) ((x.0 == wanted.0) && nat_lt x.1 wanted.1) g) [
+      | inl l ↦ (let u = ltb-true x.0 wanted.0 l in omega (arith, u, same))
+      | inr r ↦ (
+          let u = ltb-true x.1 wanted.1 (and_parts (x.0 == wanted.0) (nat_lt x.1 wanted.1) r).1 in omega (arith, u, from))
+    ])
+
+module _ (index_sid start end : ℕ) (xs : List (ℕ × ℕ)) (k : ℕ) (sorted : IsSorted pair_cmp xs)
+    (below : AllWithin (λ x. nat_lt (pair_side (index_sid, start) x) 1 ≡ true) xs 0 k)
+    (above : AllWithin (λ x. nat_lt (pair_side (index_sid, start) x) 1 ≡ false) xs k (length xs)) where
+  none_before : AllWithin (λ x. is_own index_sid start end x ≡ false) xs 0 k
+  none_before i d a h = below_side (index_sid, start) (get_or xs i d) (below i d a h) end
+
+  pub no_own_hit : length xs ≤ k → false ≡ list_any (is_own index_sid start end) xs
+  no_own_hit l = none_hit (is_own index_sid start end) xs k none_before l
+
+  pub own_hit : (s : ℕ × ℕ) → k < length xs → ((d : ℕ × ℕ) → s ≡ get_or xs k d)
+      → ((s.0 == index_sid) && nat_lt s.1 end) ≡ list_any (is_own index_sid start end) xs
+  own_hit s l same =
+      let g = from_side (index_sid, start) s
+      (ap (λ x. nat_lt (pair_side (index_sid, start) x) 1) (same s) ∙ above k s (omega arith) l) in
+      same_bool ((s.0 == index_sid) && nat_lt s.1 end) (is_own index_sid start end s) (λ t.
+      let p = and_parts (s.0 == index_sid) (nat_lt s.1 end) t in
+      and_from _ _ p.0 (and_from _ _ (le-leb start s.1 (g.1 (eqb-true s.0 index_sid p.0))) p.1)) (λ t.
+      let p = and_parts (s.0 == index_sid) (nat_le start s.1 && nat_lt s.1 end) t in
+      and_from _ _ p.0 (and_parts (nat_le start s.1) (nat_lt s.1 end) p.1).1)
+      ∙ first_hit (is_own index_sid start end) xs k none_before s l same (λ j a h t.
+      let y = get_or xs j s in
+      let p = and_parts (y.0 == index_sid) (nat_le start y.1 && nat_lt y.1 end) t in
+      let q = and_parts (nat_le start y.1) (nat_lt y.1 end) p.1 in
+      let own = eqb-true y.0 index_sid p.0 in
+      let before = ltb-true y.1 end q.1 in
+      let up = sides_rise pair_total (λ (z : ℕ × ℕ). z) s xs sorted k j s a h in
+      let tied : pair_side s (get_or xs k s) ≡ 1 = ap (pair_side s) (sym (same s)) ∙ ap ordering_index (tied_itself pair_total s) in
+      let higher = from_side s y (false_from_ne_true (nat_lt (pair_side s y) 1) (λ u.
+      let v = ltb-true (pair_side s y) 1 u in omega (arith, up, tied, v))) in
+      let one : s.0 ≡ index_sid = omega (arith, g.0, higher.0, own) in
+      let from = g.1 one in
+      let to = higher.1 (own ∙ sym one) in
+      and_from _ _ (eq-eqb s.0 index_sid one)
+      (and_from _ _ (le-leb start s.1 from) (lt-ltb s.1 end (omega (arith, to, before)))))

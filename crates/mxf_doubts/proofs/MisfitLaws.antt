@@ -1,5 +1,5 @@
 -- Index table segments that partitions don't count right, in the words of packets and segments.
-use Rattle.mxf_views.proofs.Common.{◌≡◌, ◌≢◌, ◌↔◌, ◌∙◌, ◌+◌, ◌≤◌, ◌<◌, ℕ, Bool, true, false, List, [], ◌∷◌, ◌&&◌, ◌||◌, ◌==◌, not}
+use Rattle.mxf_views.proofs.Common.{◌≡◌, ◌≢◌, ◌↔◌, ◌∙◌, ◌+◌, ◌≤◌, ◌<◌, ℕ, Bool, true, false, List, [], ◌∷◌, ◌&&◌, ◌||◌, ◌==◌, ◌⊎◌, not}
 use Rattle.mxf_views.proofs.Common.{sym, ap, refl, subst, arith, inl, inr, map, filter, find, cond, In, list_any, list_any-In, list_all, IsTrue}
 use Rattle.mxf_views.proofs.Common.{and_from, and_parts, or_cases, le-leb, leb-true, lt-ltb, ltb-true, eqb-true, eq-eqb, nat_le, nat_lt}
 use Rattle.mxf_views.proofs.Common.{false_from_ne_true, Option, Some, None, option_map_or, option_and_then, range_with_len, NoteParts, end_of, kind_of}
@@ -145,9 +145,11 @@ module _ (notes : List NoteParts) (content : IsContent notes) where
             let p = and_parts (has_segment notes start end) (not (has_own notes sid start end)) h in
             let s = any.0 p.0 in
             let b = (begins start end s.0).0 s.2 in
-            let n = (not_holds (has_own notes sid start end) own).0 p.1 in
-            (
-              s.0, s.1, b.0, b.1,
+            let n = (not_holds (has_own notes sid start end) own).0 p.1 in (
+              s.0,
+              s.1,
+              b.0,
+              b.1,
               λ o i from before e. n (o, i, and_from _ _ (eq-eqb _ _ e) ((begins start end o).1 (from, before))),
             ),
         λ k. and_from _ _ (any.1 (k.0, k.1, (begins start end k.0).1 (k.2, k.3)))
@@ -176,7 +178,7 @@ module _ (notes : List NoteParts) (content : IsContent notes) where
             ],
         λ k.
             let of_wrong : AreFilled notes start end → (IsCut end ⊎ IsLeft end) ⊎ AreOthers sid start end
-                → is_miscounted notes sid start bytes ≡ true =
+            → is_miscounted notes sid start bytes ≡ true =
             λ f w. (or_parts (has_foreign notes start bytes) _ there (λ e. e, λ e. e)).1
             (inr (and_from _ _ (fill.1 f) (wrong.1 w))) in
             elim k [
@@ -201,28 +203,28 @@ module _ (notes : List NoteParts) (content : IsContent notes) where
       → (cond b ((bytes == 0) || is_miscounted notes sid n.offset bytes) (not (bytes == 0) && not (is_dark notes n)) ≡ true)
       ↔ IsUnfit notes p n) [
         | true ↦ λ e. (
-            λ h. elim (bytes == 0) as (λ z. bytes == 0 ≡ z → (z || is_miscounted notes sid n.offset bytes) ≡ true
-                → IsUnfit notes p n) [
-                  | true ↦ λ z t. uncounted (zero.0 z) (kind.0 e)
-                  | false ↦ λ z t. miscounted (some.0 (ap not z)) (kind.0 e) (count.0 t)
-                ] refl h,
-            λ k. elim k [
-              | uncounted z s ↦ ap (λ b. b || is_miscounted notes sid n.offset bytes) (zero.1 z)
-              | no_index z s d ↦ absurd (s (kind.0 e))
-              | miscounted z s m ↦
-                  (or_parts (bytes == 0) (is_miscounted notes sid n.offset bytes) zero count).1 (inr m)
-            ],
-          )
+          λ h. elim (bytes == 0) as (λ z. bytes == 0 ≡ z → (z || is_miscounted notes sid n.offset bytes) ≡ true
+              → IsUnfit notes p n) [
+                | true ↦ λ z t. uncounted (zero.0 z) (kind.0 e)
+                | false ↦ λ z t. miscounted (some.0 (ap not z)) (kind.0 e) (count.0 t)
+              ] refl h,
+          λ k. elim k [
+            | uncounted z s ↦ ap (λ b. b || is_miscounted notes sid n.offset bytes) (zero.1 z)
+            | no_index z s d ↦ absurd (s (kind.0 e))
+            | miscounted z s m ↦
+                (or_parts (bytes == 0) (is_miscounted notes sid n.offset bytes) zero count).1 (inr m)
+          ],
+        )
         | false ↦ λ e. (
-            λ h.
-                let p = and_parts (not (bytes == 0)) (not (is_dark notes n)) h in
-                no_index (some.0 p.0) (λ s. cc (kind.1 s, e)) (bright.0 p.1),
-            λ k. elim k [
-              | uncounted z s ↦ absurd (cc (kind.1 s, e))
-              | no_index z s d ↦ and_from _ _ (some.1 z) (bright.1 d)
-              | miscounted z s m ↦ absurd (cc (kind.1 s, e))
-            ],
-          )
+          λ h.
+              let p = and_parts (not (bytes == 0)) (not (is_dark notes n)) h in
+              no_index (some.0 p.0) (λ s. cc (kind.1 s, e)) (bright.0 p.1),
+          λ k. elim k [
+            | uncounted z s ↦ absurd (cc (kind.1 s, e))
+            | no_index z s d ↦ and_from _ _ (some.1 z) (bright.1 d)
+            | miscounted z s m ↦ absurd (cc (kind.1 s, e))
+          ],
+        )
       ] refl
 
   -- What stands at the offset to which one comes.

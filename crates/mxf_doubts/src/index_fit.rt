@@ -1,10 +1,11 @@
 //! Whether index table segments lie as their partitions count them (ST 377-1, IndexByteCount and IndexSID).
-ghost use Rattle.std.specs.Prelude.{◌≡◌, ◌&&◌, ◌==◌, ◌||◌, ◌+◌, List, IfOk, find, map, nat_le, nat_lt};
+ghost use Rattle.std.specs.Prelude.{◌≡◌, ◌<◌, ◌&&◌, ◌==◌, ◌||◌, ◌+◌, List, IfOk, find, map, nat_le, nat_lt, option_copied};
 ghost use Rattle.std.specs.List.{list_any};
 ghost use Rattle.std.specs.List.Sorted.{IsPermutation, IsSorted};
 ghost use Rattle.std.specs.Ordering.{nat_cmp, ordering_then};
 ghost use Rattle.mxf_klv.specs.Parts.{NoteParts};
-ghost use Rattle.mxf_views.specs.Places.{segments_of};
+ghost use Rattle.mxf_klv.specs.Kind.{kind_of};
+ghost use Rattle.mxf_views.specs.Places.{is_segment, segments_of};
 ghost use Rattle.mxf_doubts.specs.IndexFit.{AreClear, are_filled, begins_segment, first_behind, has_own, has_segment, is_counted_wrong};
 ghost use Rattle.mxf_doubts.specs.IndexFit.{is_cut_at, is_foreign, is_index_misfit, is_miscounted, is_unfit, own_pair};
 
@@ -18,26 +19,39 @@ use std::alloc::Global;
 use std::cmp::Ordering;
 use std::marker::Model;
 
+/// Whether it is an index table segment.
+fn is_segment(note: &Note) -> bool
+    ensures { result ≡ is_segment (kind_of note.now.key) }
+{
+    note.kind() == Kind::Segment
+}
+
 /// The offsets of the bytes of clear packets.
 fn clear_in(alloc: Global, catalogue: &Catalogue) -> Result<Cover, OutOfMemory>
     ensures { IfOk result (λ c. AreClear catalogue.now c) }
 {
     let mut cover = Cover::new(alloc);
     for note in catalogue.clear() {
-        cover.add(note.offset(), note.end())?;
+        cover.add(note.offset(), note.covered_end())?;
     }
     Ok(cover)
 }
 
-/// The IndexSIDs of readable segments, each with the offset of the segment, sorted.
+/// The IndexSIDs of readable segments, each with the offset of the segment, in the order of the segments.
+fn pairs_of(alloc: Global, views: &Views) -> Result<Vec<(u32, u64)>, OutOfMemory>
+    ensures { IfOk result (λ v. v.items ≡ map own_pair (segments_of views.now)) }
+{
+    let segments = views.segments_in_numbers().iter();
+    let pairs = segments.map(|segment| (segment.numbers.index_sid, segment.offset));
+    Ok(pairs.collect(alloc)?)
+}
+
+/// The same, sorted.
 fn own_pairs(alloc: Global, views: &Views) -> Result<Vec<(u32, u64)>, OutOfMemory>
     ensures permutation { IfOk result (λ v. IsPermutation (map own_pair (segments_of views.now)) v.items) }
     ensures sorted { IfOk result (λ v. IsSorted (λ a b. ordering_then (nat_cmp a.0 b.0) (nat_cmp a.1 b.1)) v.items) }
 {
-    let segments = views.segments_in_numbers().iter();
-    let mut pairs: Vec<(u32, u64)> = segments
-        .map(|segment| (segment.numbers.index_sid, segment.offset))
-        .collect(alloc)?;
+    let mut pairs = pairs_of(alloc, views)?;
     pairs.sort_unstable();
     Ok(pairs)
 }
@@ -50,9 +64,17 @@ fn has_own_in(pairs: &[(u32, u64)], index_sid: u32, start: u64, end: u64) -> boo
     let wanted = (index_sid, start);
     let first = pairs.partition_point(|pair| pair.cmp(&wanted) < Ordering::Equal);
     match pairs.get(first) {
-        Some((own, offset)) => *own == index_sid && *offset < end,
+        Some(pair) => is_own(*pair, index_sid, end),
         None => false,
     }
+}
+
+/// Whether a pair has the IndexSID and an offset below an end.
+fn is_own(pair: (u32, u64), index_sid: u32, end: u64) -> bool
+    ensures { result ≡ (pair.0 == index_sid && nat_lt pair.1 end) }
+{
+    let (own, offset) = pair;
+    own == index_sid && offset < end
 }
 
 /// What is asked for each partition.
@@ -151,16 +173,16 @@ impl<'a> IndexFit<'a> {
         ensures { result ≡ is_unfit self.now partition.now note.now }
     {
         let bytes = partition.numbers.index_byte_count;
-        match note.kind() {
-            Kind::Segment => {
-                bytes == 0 || self.is_miscounted(partition.numbers.index_sid, note.offset(), bytes)
-            }
-            _ => bytes != 0 && !self.keys.is_dark(note),
+        if is_segment(note) {
+            return bytes == 0
+                || self.is_miscounted(partition.numbers.index_sid, note.offset(), bytes);
         }
+        bytes != 0 && !self.keys.is_dark(note)
     }
 
     /// Whether so many bytes from a segment on aren't those of the segments of the IndexSID.
     fn is_miscounted(&self, index_sid: u32, start: u64, bytes: u64) -> bool
+        requires { 0 < bytes }
         ensures { result ≡ is_miscounted self.now index_sid start bytes }
     {
         self.foreign.has_one_from(start, bytes) || self.is_filled_wrong(index_sid, start, bytes)
@@ -168,11 +190,14 @@ impl<'a> IndexFit<'a> {
 
     /// Whether clear packets fill these bytes, and they are counted wrong.
     fn is_filled_wrong(&self, index_sid: u32, start: u64, bytes: u64) -> bool
+        requires { 0 < bytes }
         ensures { result ≡ (are_filled self.now start bytes
             && is_counted_wrong self.now index_sid start (start + bytes)) }
     {
         let end = u128::from(start) + u128::from(bytes);
         if end > u128::from(MAX) {
+            // No packet has the last of these bytes.
+            self.holdings.views().catalogue().laws();
             return false;
         }
         let end = end as u64;
@@ -191,8 +216,10 @@ impl<'a> IndexFit<'a> {
     fn goes_on_at(&self, end: u64) -> bool
         ensures { result ≡ (is_cut_at self.now end || begins_segment self.now end) }
     {
-        match self.holdings.views().catalogue().clear_at(end) {
-            Some(note) => note.kind() == Kind::Segment,
+        let catalogue = self.holdings.views().catalogue();
+        catalogue.laws();
+        match catalogue.clear_at(end) {
+            Some(note) => is_segment(note),
             None => self.clear.has(end),
         }
     }

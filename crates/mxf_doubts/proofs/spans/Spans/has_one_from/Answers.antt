@@ -19,7 +19,7 @@ returns-in-Some c =
     record { below = c.below.ensures.below; above = c.below.ensures.above } in
     let found = c.in-Some.ensures.lookup.3 in
     let there = subst (λ (l : List Span). c.below.result < length l) same found.0 in
-    let is = subst (λ (l : List Span). (d : Span) → c.in-Some.set.now ≡ get_or l c.below.result d) same found.1 in
+    let is = subst (λ (l : List Span). (d : Span) → c.in-Some.packet.now ≡ get_or l c.below.result d) same found.1 in
     (λ i. nat_le (c.from.ensures i) (c.from-in-Some.ensures i + c.from-in-Some-2.ensures i))
-    ∙ first_behind c.args.start c.args.bytes c.args.self.now c.below.result c.in-Some.set.now place
+    ∙ first_behind c.args.start c.args.bytes c.args.self.now c.below.result c.in-Some.packet.now place
     (subst (λ (l : List Span). IsNonDecreasingBy (λ (s : Span). s.end) l) c.self.view_is c.self.invariant.1) there is
