@@ -32,6 +32,7 @@
 
 mod disputed_place;
 mod disputes;
+mod end_pack;
 mod first;
 pub mod laws;
 mod named;
