@@ -91,7 +91,8 @@ pub struct DisputedPlace {
 /// What to restore next of a file that is held in parts, as far as what is held says (this project's profile).
 ///
 /// Whoever restores the bytes of all orders, hands each in as a piece at its start, and asks again, comes to a plan
-/// without orders, if the packs of the file tell the truth. That is tested, not proved.
+/// without orders, if the packs of the file tell the truth. That is tested, not proved. Of a file with neither a footer
+/// partition nor a random index pack one order is left, which has no end and no pack: where that file ends isn't known.
 #[derive(Drop)]
 pub struct Plan {
     orders: Vec<Order>,
