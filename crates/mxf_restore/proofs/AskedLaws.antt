@@ -229,7 +229,7 @@ module _ (at : AtHandParts) (notes : List NoteParts) (content : IsContent notes)
     most start e = max e (up_to_bound (needed_of notes start p.first) p.hole.end)
 
     -- No pack is held that stands at the end of a file alone, or the end is known.
-    abbrev is_known : Option ℕ → Bool
+    is_known : Option ℕ → Bool
     is_known end = is_some end || not (has_end_pack notes)
 
     known_says : (end : Option ℕ) → (is_known end ≡ true) ↔ (IsSome end ⊎ (HasEndPack notes → ⊥))

@@ -180,12 +180,7 @@ impl<'a> SectionOrders<'a> {
 
 /// What is asked for from a start on, in bytes, up to an end: for what the claim says, or for no reason. None if
 /// nothing is claimed, there is no end, and a pack is held that stands at the end of a file alone.
-fn asked(
-    views: &Views,
-    claim: Option<Claim>,
-    start: u64,
-    end: Option<u64>,
-) -> Option<AskedBytes>
+fn asked(views: &Views, claim: Option<Claim>, start: u64, end: Option<u64>) -> Option<AskedBytes>
     ensures { result ≡ asked (has_end_pack views.now) claim start end }
 {
     let (reason, source) = match claim {
