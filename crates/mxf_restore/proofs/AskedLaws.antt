@@ -1,9 +1,9 @@
 -- What is asked for of a section, by the function and by the relation.
 use Rattle.mxf_views.proofs.Common.{◌≡◌, ◌↔◌, ◌⊎◌, ◌∙◌, ◌&&◌, ◌||◌, ◌==◌, ◌<◌, ◌≤◌, ◌+◌, ℕ, Bool, true, false, not, max}
 use Rattle.mxf_views.proofs.Common.{List, [], ◌∷◌, Option, None, Some, is_some, option_map, filter, if◌then◌else◌}
-use Rattle.mxf_views.proofs.Common.{nat_le, nat_lt, IsSome, IsTrue, refl, sym, ap, subst, inl, inr, arith, lt-ltb, ltb-true}
-use Rattle.mxf_views.proofs.Common.{and_from, and_parts, cases_Bool, cases_lt, or_cases, or_left, or_right, same_Some}
-use Rattle.mxf_views.proofs.Common.{option_map_or, NoteParts, end_of, In, not-true-false, not_true, IsContent}
+use Rattle.mxf_views.proofs.Common.{nat_le, nat_lt, IsSome, IsTrue, refl, sym, ap, subst, inl, inr, arith, lt-ltb}
+use Rattle.mxf_views.proofs.Common.{ltb-true, and_from, and_parts, cases_Bool, cases_lt, or_cases, or_left, or_right}
+use Rattle.mxf_views.proofs.Common.{same_Some, option_map_or, NoteParts, end_of, In, not-true-false, not_true, IsContent}
 use Rattle.mxf_views.proofs.Common.{IsCover}
 use Rattle.std.proofs.Common.{leb-true, le-leb}
 use Rattle.mxf_places.specs.AtHand.{AtHandParts, edge_of, up_to_bound}

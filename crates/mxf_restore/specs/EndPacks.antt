@@ -1,5 +1,5 @@
--- The packs that stand at the end of a file alone (ST 377-1: the footer partition is the last partition of a file, and the
--- random index pack its last packet). Where one is held, nothing has to follow all that is held (this project's
+-- The packs that stand at the end of a file alone (ST 377-1: the footer partition is the last partition of a file, and
+-- the random index pack its last packet). Where one is held, nothing has to follow all that is held (this project's
 -- profile).
 use Rattle.std.specs.Prelude.{◌≡◌, ◌⊎◌, Bool, true, false, ◌||◌, not, List}
 use Rattle.std.specs.List.{list_any}

@@ -73,9 +73,9 @@ abbrev pub IsAskedEnd : AtHandParts → List NoteParts → Section → ℕ → O
 IsAskedEnd at notes p start (Some end) = IsAskedUpTo at notes p start end
 IsAskedEnd at notes p start None = IsSectionEnd at notes p start None
 
--- What is asked for of a section, be it at hand or not. A section without an end that no pack claims is asked for unless
--- a pack is held that stands at the end of a file alone: nothing says that a byte lies there, and nothing says that none
--- does.
+-- What is asked for of a section, be it at hand or not. A section without an end that no pack claims is asked for
+-- unless a pack is held that stands at the end of a file alone: nothing says that a byte lies there, and nothing says
+-- that none does.
 pub record IsAsked (at : AtHandParts) (notes : List NoteParts) (p : Section) (o : Order) : Type 0 where
   pub start : IsStartOf notes p.first o.start
   pub said : IsSaid notes o.start o.reason o.source
@@ -123,8 +123,8 @@ pub record IsOrder (at : AtHandParts) (notes : List NoteParts) (p : Section) (o 
   pub inside : IsTrue o.inside ↔ (o.start ≢ asked.start)
   pub again : IsTrue o.again ↔ WasHandedIn at o.start o.end
 
--- The last piece of a file: a section without an end. No pack speaks of the start of its packet, and of the file it isn't
--- known that it reaches so far.
+-- The last piece of a file: a section without an end. No pack speaks of the start of its packet, and of the file it
+-- isn't known that it reaches so far.
 pub record IsLastPiece (at : AtHandParts) (notes : List NoteParts) (p : Section) : Type 0 where
   pub held : In p (sections_of notes)
   pub endless : p.end ≡ None

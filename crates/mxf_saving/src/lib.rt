@@ -15,7 +15,7 @@
 //!
 //! ```
 //! let place = Reservation::take(rt, "clip.cat", false)?;
-//! place.save(rt, &catalogue)?;
+//! place.save(rt, &catalogue, false)?;
 //! ```
 #![tactic(auto)]
 
