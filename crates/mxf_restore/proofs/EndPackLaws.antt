@@ -1,7 +1,7 @@
 -- Whether a pack is held that stands at the end of a file alone, by the function and by the relation.
-use Rattle.mxf_views.proofs.Common.{◌≡◌, ◌↔◌, ◌||◌, Bool, true, false, not, IsTrue, List, NoteParts, In, IsContent}
-use Rattle.mxf_views.proofs.Common.{PartitionParts, is_footer, partitions_of, rip_view_of, list_any-In, refl, sym, ap}
-use Rattle.mxf_views.proofs.Common.{inl, inr, or_cases, or_left, or_right}
+use Rattle.mxf_views.proofs.Common.{◌≡◌, ◌↔◌, true, not, IsTrue, List, NoteParts, IsContent, refl, ap, inl, inr}
+use Rattle.mxf_views.proofs.Common.{PartitionParts, is_footer, partitions_of, rip_view_of, list_any-In, or_cases}
+use Rattle.mxf_views.proofs.Common.{or_left, or_right}
 use Rattle.mxf_sets.specs.declared.pack.part.PackPart.{PackPart}
 use Rattle.mxf_sets.specs.declared.pack.part.PackPart.TheVariants.{Body, Footer, Header}
 use Rattle.mxf_views.specs.Partitions.{IsPartition}

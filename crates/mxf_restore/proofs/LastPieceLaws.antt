@@ -1,5 +1,5 @@
 -- Where the last piece of a file is ordered.
-use Rattle.mxf_views.proofs.Common.{◌≡◌, ◌↔◌, ◌∙◌, ℕ, Bool, true, false, nat_lt, max, List, [], ◌∷◌, Option, None, Some}
+use Rattle.mxf_views.proofs.Common.{◌≡◌, ◌↔◌, ◌∙◌, ℕ, Bool, true, false, nat_lt, max, List, [], ◌∷◌, None, Some}
 use Rattle.mxf_views.proofs.Common.{if◌then◌else◌, option_map_or, refl, sym, ap, subst, inl, inr, NoteParts, In}
 use Rattle.mxf_views.proofs.Common.{In-append, In-filter, In-map, IsContent, IsCover}
 use Rattle.mxf_catalogue.specs.declared.run.Run.{Run}

@@ -7,7 +7,7 @@ use Rattle.mxf_views.proofs.Common.{IsCover, clear-laid, is_whole, In-clear_note
 use Rattle.mxf_views.proofs.Common.{RipAtParts, is_rip, one_by_one, partitions_read, rip_read, EndsWithRandomIndex}
 use Rattle.mxf_views.proofs.Common.{IsRandomIndexPack, IsReadable, IsWellFormed, BeginsWithHeader, is_readable_as}
 use Rattle.mxf_views.proofs.Common.{end_up, length, keeps, result_ok, pack_at, read_pack, partition_read, cons_option}
-use Rattle.mxf_views.proofs.Common.{option_map, some_is, all-In, In-append, IsFooterPack, PartitionPackParts, ◌++◌}
+use Rattle.mxf_views.proofs.Common.{option_map, some_is, all-In, In-append, IsFooterPack, PartitionPackParts}
 use Rattle.mxf_klv.specs.declared.kinds.Kind.TheVariants as kinds
 use Rattle.mxf_klv.specs.declared.kinds.Status.{Status}
 use Rattle.mxf_sets.proofs.PackKinds.{kind_is}

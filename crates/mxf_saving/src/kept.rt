@@ -17,6 +17,9 @@ use std::rt::Files;
 /// What the name ends with under which a file is kept.
 const ENDING: &str = ".before";
 
+/// The bytes of a name that has room for the ending and a number: 255 is the most that a name has.
+const LONGEST_FRONT: usize = 240;
+
 /// How many names are tried.
 const NAMES: u32 = 1_000_000;
 
@@ -37,10 +40,7 @@ pub fn is_other_catalogue<R: Files + AllocGlobal>(
 ) -> io::Result<bool> {
     match fs::metadata(rt, path) {
         Ok(found) if is_source(rt, &found, sources) => Ok(false),
-        Ok(_) => Ok(matches!(
-            Beginning::of(rt, path)?,
-            Some(Beginning::Catalogue)
-        )),
+        Ok(_) => Ok(matches!(Beginning::of(rt, path)?, Some(Beginning::Catalogue))),
         Err(fault) if fault.kind() == ErrorKind::NotFound => Ok(false),
         Err(fault) => Err(fault),
     }
@@ -99,7 +99,11 @@ fn is_kept_at<R: Files<File = File>>(
         Err(fault) if fault.kind() == ErrorKind::AlreadyExists => return Ok(false),
         Err(_) => {}
     }
-    match OpenOptions::new().write(true).create_new(true).open(rt, kept) {
+    match OpenOptions::new()
+        .write(true)
+        .create_new(true)
+        .open(rt, kept)
+    {
         Ok(file) => {
             copy_into(rt, path, kept, &file)?;
             Ok(true)
@@ -138,13 +142,14 @@ fn kept_path(alloc: Global, path: &PathBuf, number: u32) -> Result<PathBuf, Save
     Ok(path.with_file_name(alloc, name.as_str())?)
 }
 
-/// The name with this number under which a file of this name is kept.
+/// The name with this number under which a file of this name is kept: the ending alone after a longer name.
 fn kept_name(alloc: Global, name: &str, number: u32) -> Result<String, AllocError>
     ensures { IfOk result (λ kept. string_bytes kept ≡ kept_name name.now number) }
 {
+    let front = if name.len() > LONGEST_FRONT { "" } else { name };
     if number == 1 {
-        format!(in alloc; "{name}{ENDING}")
+        format!(in alloc; "{front}{ENDING}")
     } else {
-        format!(in alloc; "{name}{ENDING}.{number}")
+        format!(in alloc; "{front}{ENDING}.{number}")
     }
 }
