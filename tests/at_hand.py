@@ -19,6 +19,8 @@ PRIMER = re.compile("060e2b34020501..0d01020101050100")
 RIP = re.compile("060e2b34020501..0d01020101110100")
 SEGMENT = re.compile("060e2b34025301..0d01020101100100")
 FILL = re.compile("060e2b34010101..0301021001000000")
+# The 14th byte of a footer partition pack's key.
+FOOTER = 4
 
 
 def joined(ranges):
@@ -144,6 +146,20 @@ class Content:
             return None, None
         return pack, pack.end if self.held_end <= pack.end else None
 
+    def partitions(self):
+        """The readable partition packs that share no byte with another packet."""
+        for note in self.undisputed:
+            if not note.is_whole or not PARTITION.fullmatch(note.key.hex()) or not notes.is_kept(note.key, note.length):
+                continue
+            if note.length >= 88 and is_batch(note.held[80:], 16):
+                yield note
+
+    def has_end_pack(self):
+        """Whether a pack is held that stands at the end of a file alone: a footer partition's that can be read, or a random
+        index pack."""
+        packs = any(note.is_whole and RIP.fullmatch(note.key.hex()) for note in self.undisputed)
+        return packs or any(note.key[13] == FOOTER for note in self.partitions())
+
     def may_have(self, offset):
         """Whether the offset may lie in the file."""
         return offset < notes.GREATEST_END and (self.end is None or offset < self.end)
@@ -162,11 +178,7 @@ class Content:
     def all_claims(self):
         """What packs say of offsets: reason, source, first offset, end, and whether the end isn't known."""
         yield "header", None, 0, 1, False
-        for note in self.undisputed:
-            if not note.is_whole or not PARTITION.fullmatch(note.key.hex()) or not notes.is_kept(note.key, note.length):
-                continue
-            if note.length < 88 or not is_batch(note.held[80:], 16):
-                continue
+        for note in self.partitions():
             previous, footer, metadata, index = (number(note.held, at, 8) for at in (16, 24, 32, 40))
             if footer > note.offset:
                 yield "footer", note.offset, footer, footer + 1, False
@@ -273,7 +285,7 @@ def orders(content, hand):
         end = own_end
         if end is None and edge > first and not claim[4] and (places.top > first or edge - first >= LONGEST_KEY_AND_LENGTH):
             end = edge
-        if end is None and claim[0] == "gap":
+        if end is None and claim[0] == "gap" and places.has_end_pack():
             continue
         claimed = max((head.end for head in heads if head.offset == start), default=0)
         if end is not None:

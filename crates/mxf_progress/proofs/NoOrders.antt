@@ -2,7 +2,7 @@
 use Rattle.mxf_views.proofs.Common.{◌≡◌, ◌↔◌, ◌⊎◌, ◌∙◌, ◌<◌, ◌≤◌, ◌+◌, ◌&&◌, ◌||◌, ◌==◌, ℕ, Bool, true, false, IsTrue}
 use Rattle.mxf_views.proofs.Common.{List, [], ◌∷◌, Option, None, Some, max, not, is_some, nat_le, nat_lt, option_map}
 use Rattle.mxf_views.proofs.Common.{option_map_or, unwrap_or, if◌then◌else◌, refl, sym, ap, subst, inl, inr, arith}
-use Rattle.mxf_views.proofs.Common.{cases_lt, not_equal, lt-ltb, le-leb, same_Some, or_left, or_right}
+use Rattle.mxf_views.proofs.Common.{cases_Bool, cases_lt, not_equal, lt-ltb, le-leb, same_Some, or_left, or_right}
 use Rattle.mxf_views.proofs.Common.{NoteParts, end_of, In, IsContent}
 use Rattle.mxf_places.specs.AtHand.{AreAtHand, AtHandParts, LiesInRange, edge_of, lacking, runs_end, up_to_bound}
 use Rattle.mxf_places.specs.Claims.{claim_at}
@@ -18,11 +18,13 @@ use Rattle.mxf_places.proofs.FirstLaws.{none_speaks}
 use Rattle.mxf_places.proofs.HeldLaws.{top_of-bound}
 use Rattle.mxf_restore.specs.Orders.{IsAsked, IsAskedEnd, IsFirstLacking, IsLackingIn, IsPart, IsStartOf}
 use Rattle.mxf_restore.specs.Orders.{IsWholeNeeded, ReachesUpTo, WasHandedIn}
-use Rattle.mxf_restore.specs.Plan.{asked, asked_by, asked_of, end_by, is_again, plan_of}
+use Rattle.mxf_restore.specs.EndPacks.{HasEndPack, has_end_pack}
+use Rattle.mxf_restore.specs.Plan.{asked, asked_by, asked_of, end_by, gap_from, is_again, plan_of}
 use Rattle.mxf_restore.specs.Sections.{IsEndOfHole, IsHole, LiesInSection, sections_of}
 use Rattle.mxf_restore.specs.declared.section.Section.{Section}
 use Rattle.mxf_restore.specs.declared.plan.Order.{Order}
 use Rattle.mxf_restore.proofs.AskedLaws.{asked_law}
+use Rattle.mxf_restore.proofs.EndPackLaws.{end_pack_says}
 use Rattle.mxf_restore.proofs.PartLaws.{plan_orders_say}
 use Rattle.mxf_restore.proofs.PlanMembers.{gap_ordered}
 use Rattle.mxf_restore.proofs.SectionCover.{are_sections}
@@ -222,7 +224,7 @@ module _ (at : AtHandParts) (notes : List NoteParts) (content : IsContent notes)
       → (a : Order) × (asked_by at notes p start claim ≡ Some a)
   some_asked p start None end e =
       let most = λ (d : ℕ). max d (up_to_bound (needed_of notes start p.first) p.hole.end) in
-      (_, ap (λ d. asked None start (option_map most d)) e)
+      (_, ap (λ d. asked (has_end_pack notes) None start (option_map most d)) e)
   some_asked p start (Some c) end e = (_, refl)
 
   asks_with_end : (p : Section) → ((o : Order) → IsAsked at notes p o → ⊥) → (end : ℕ)
@@ -263,6 +265,19 @@ module _ (at : AtHandParts) (notes : List NoteParts) (content : IsContent notes)
       let end : Option ℕ → Option Claim → Bool → Option ℕ = λ d c b. if is_some d then d
       else (if b && not (option_map_or (λ c. c.is_open) c false) then Some (edge_of at notes) else None) in
       asks_with_end p none (edge_of at notes) (λ i. end (no_end p none i) (no_claim p none i) (reaches i))
+
+  -- Where nothing is asked for, a pack is held that stands at the end of a file alone.
+  end_pack : (p : Section) → ((o : Order) → IsAsked at notes p o → ⊥) → HasEndPack notes
+  end_pack p none = elim (cases_Bool (has_end_pack notes)) [
+    | inl t ↦ (end_pack_says notes content).0 t
+    | inr f ↦ absurd (
+        let start = start_of notes p.first in
+        let end = option_map (λ (d : ℕ). max d (up_to_bound (needed_of notes start p.first) p.hole.end))
+        (end_by at notes p None) in
+        let known = or_right (is_some end) (not (has_end_pack notes)) (ap not f) in
+        asked_for p none (gap_from start end) (ap (asked_by at notes p start) (no_claim p none)
+        ∙ ap (λ b. if b then Some (gap_from start end) else None) known))
+  ]
 
   module _ (h : OffsetRange) (is : IsHole notes h) where
     -- The first section of the hole.
@@ -315,6 +330,7 @@ module _ (at : AtHandParts) (notes : List NoteParts) (content : IsContent notes)
               (subst (λ f. claim_at notes (start_of notes f) ≡ None) first (no_claim p nothing));
           unreached = λ edge r. no_edge p nothing edge
               (subst (λ f. ReachesUpTo at notes f (start_of notes f) edge) (sym first) r);
+          ended = end_pack p nothing;
         }
 
     -- Nothing is asked for of the sections of a hole where nothing says that a byte lies in it.
@@ -328,7 +344,10 @@ module _ (at : AtHandParts) (notes : List NoteParts) (content : IsContent notes)
         elim a.said [
           | inl c ↦ b.unclaimed c.0 c.1.claim (subst (SpeaksOf c.0) start c.1.speaks)
           | inr gap ↦ elim o.end as (λ d. o.end ≡ d → ⊥) [
-            | None ↦ λ f. (let some = a.some gap.1 in absurd (cc (f, some)))
+            | None ↦ λ f. elim (a.known gap.1) [
+              | inl some ↦ absurd (cc (f, some))
+              | inr unended ↦ unended b.ended
+            ]
             | Some d ↦ λ f.
                 let up = subst (λ (d : Option ℕ). IsAskedEnd at notes p o.start d) f a.end in
                 elim up.is_section_end [

@@ -10,6 +10,7 @@ use Rattle.mxf_places.specs.Held.{IsHeld}
 use Rattle.mxf_places.specs.Named.{IsClaim}
 use Rattle.mxf_places.specs.declared.at_hand.OffsetRange.{OffsetRange}
 use Rattle.mxf_places.specs.declared.claim.Claim.{Claim}
+use Rattle.mxf_restore.specs.EndPacks.{HasEndPack}
 use Rattle.mxf_restore.specs.Orders.{IsStartOf, ReachesUpTo}
 use Rattle.mxf_restore.specs.Plan.{LiesInOrder}
 use Rattle.mxf_restore.specs.Sections.{IsCut}
@@ -36,7 +37,8 @@ pub record LacksOfHead (at : AtHandParts) (notes : List NoteParts) (o : Order) :
   pub rest : (x : ℕ) → LiesInOrder o x → covered_end head ≤ x → LiesIn at.hand x
 
 -- Nothing says that a byte lies in the hole. It has no end, and is cut nowhere. No pack speaks of where the packet
--- begins whose rest it would be, and it isn't known of the file that it reaches into the hole.
+-- begins whose rest it would be, and it isn't known of the file that it reaches into the hole. And a pack is held that
+-- stands at the end of a file alone: else the file may go on there.
 pub record IsBeyondAll (at : AtHandParts) (notes : List NoteParts) (h : OffsetRange) : Type 0 where
   pub endless : h.end ≡ None
   pub uncut : (x : ℕ) → h.start < x → ¬ IsCut notes x
@@ -44,3 +46,4 @@ pub record IsBeyondAll (at : AtHandParts) (notes : List NoteParts) (h : OffsetRa
   pub is_start : IsStartOf notes h.start start
   pub unclaimed : (c : Claim) → IsClaim notes c → ¬ SpeaksOf c start
   pub unreached : (edge : ℕ) → ¬ ReachesUpTo at notes h.start start edge
+  pub ended : HasEndPack notes

@@ -50,8 +50,9 @@ pub fn orders_inside_lack_all()
 {}
 
 /// A law of [`Plan::orders`](mxf_restore::Plan::orders): a plan has no order exactly if nothing is asked for of a
-/// section, and exactly if nothing says that a byte lies in a hole. So where a hole ends at something that is held, or
-/// is cut at a place that a pack names, something is ordered.
+/// section, and exactly if nothing says that a byte lies in a hole, and a pack is held that stands at the end of a file
+/// alone. So where a hole ends at something that is held, or is cut at a place that a pack names, something is ordered.
+/// What follows all that is held is ordered too, as long as neither a footer partition nor a random index pack is held.
 pub fn nothing_is_ordered_where_nothing_lacks()
     ensures sections { (at : AtHandParts) (notes : List NoteParts) → IsContent notes → AreAtHand at
         → ((plan_of at notes).orders ≡ [])

@@ -7,8 +7,8 @@
 //!   edit units and for header metadata [`laws::each_order_for_units_asks_for_a_byte`]). Each that is `again` was handed
 //!   in.
 //! - Of an order that lies inside a packet no byte is held or at hand ([`laws::orders_inside_lack_all`]).
-//! - A plan has no order exactly if nothing says that a byte is lacking
-//!   ([`laws::nothing_is_ordered_where_nothing_lacks`]).
+//! - A plan has no order exactly if nothing says that a byte is lacking, and a pack is held that stands at the end of a
+//!   file alone ([`laws::nothing_is_ordered_where_nothing_lacks`]).
 //! - Each round of restoring gives a byte of the file that no source gave. So there are no more rounds than such bytes
 //!   ([`laws::restores_end`]).
 //! - What is restored first for edit units is what helps to find them: which orders these are is said sentence by

@@ -5,7 +5,19 @@ use mxf_places::{AtHand, Reason};
 use mxf_restore::{DisputedPlace, Order, Plan};
 use std::alloc::Global;
 
-/// Whether the bytes up to a packet at 200 are ordered, and nothing else.
+/// All from an offset on, in bytes: no pack says what lies there.
+fn all_from(start: u128) -> Order {
+    Order {
+        reason: Reason::Gap,
+        start,
+        end: None,
+        source: None,
+        inside: false,
+        again: false,
+    }
+}
+
+/// Whether the bytes up to a packet at 200 are ordered, what follows it at 300, and nothing else.
 fn the_front_is_ordered(alloc: Global) -> Result<bool, OutOfMemory> {
     let front = Order {
         reason: Reason::Header,
@@ -17,10 +29,10 @@ fn the_front_is_ordered(alloc: Global) -> Result<bool, OutOfMemory> {
     };
     let views = views_of_packets(alloc, &[(200, 83)])?;
     let plan = Plan::of(alloc, &views, &AtHand::nothing(alloc))?;
-    Ok(plan.orders() == [front].as_slice() && plan.disputed_places().is_empty())
+    Ok(plan.orders() == [front, all_from(300)].as_slice() && plan.disputed_places().is_empty())
 }
 
-/// Whether what begins at 0 is disputed, and nothing is ordered: a packet from 90 on overlaps it.
+/// Whether what begins at 0 is disputed, and nothing is ordered but what follows at 190: a packet from 90 on overlaps it.
 fn the_front_is_disputed(alloc: Global) -> Result<bool, OutOfMemory> {
     let front = DisputedPlace {
         reason: Reason::Header,
@@ -29,7 +41,7 @@ fn the_front_is_disputed(alloc: Global) -> Result<bool, OutOfMemory> {
     };
     let views = views_of_packets(alloc, &[(0, 83), (90, 83)])?;
     let plan = Plan::of(alloc, &views, &AtHand::nothing(alloc))?;
-    Ok(plan.orders().is_empty() && plan.disputed_places() == [front].as_slice())
+    Ok(plan.orders() == [all_from(190)].as_slice() && plan.disputed_places() == [front].as_slice())
 }
 
 #[test]

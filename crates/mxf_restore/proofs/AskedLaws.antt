@@ -1,9 +1,9 @@
 -- What is asked for of a section, by the function and by the relation.
 use Rattle.mxf_views.proofs.Common.{◌≡◌, ◌↔◌, ◌⊎◌, ◌∙◌, ◌&&◌, ◌||◌, ◌==◌, ◌<◌, ◌≤◌, ◌+◌, ℕ, Bool, true, false, not, max}
 use Rattle.mxf_views.proofs.Common.{List, [], ◌∷◌, Option, None, Some, is_some, option_map, filter, if◌then◌else◌}
-use Rattle.mxf_views.proofs.Common.{nat_le, nat_lt, IsTrue, refl, sym, ap, subst, inl, inr, arith, lt-ltb, ltb-true}
-use Rattle.mxf_views.proofs.Common.{and_from, and_parts, cases_Bool, cases_lt, or_cases, or_left, or_right, same_Some}
-use Rattle.mxf_views.proofs.Common.{option_map_or, NoteParts, end_of, In, not-true-false, not_true, some_is, IsContent}
+use Rattle.mxf_views.proofs.Common.{nat_le, nat_lt, IsSome, IsTrue, refl, sym, ap, subst, inl, inr, arith, lt-ltb}
+use Rattle.mxf_views.proofs.Common.{ltb-true, and_from, and_parts, cases_Bool, cases_lt, or_cases, or_left, or_right}
+use Rattle.mxf_views.proofs.Common.{same_Some, option_map_or, NoteParts, end_of, In, not-true-false, not_true, IsContent}
 use Rattle.mxf_views.proofs.Common.{IsCover}
 use Rattle.std.proofs.Common.{leb-true, le-leb}
 use Rattle.mxf_places.specs.AtHand.{AtHandParts, edge_of, up_to_bound}
@@ -15,14 +15,16 @@ use Rattle.mxf_places.specs.declared.reason.Reason.{Reason}
 use Rattle.mxf_places.specs.declared.reason.Reason.TheVariants.{Gap}
 use Rattle.mxf_places.proofs.HeldLaws.{top_of-bound}
 use Rattle.mxf_restore.specs.Orders.{IsAsked, IsAskedEnd, IsHeadTo, IsOpenAt, IsSectionEnd, ReachesUpTo}
-use Rattle.mxf_restore.specs.Plan.{asked_by, asked_of, end_by}
+use Rattle.mxf_restore.specs.EndPacks.{HasEndPack, has_end_pack}
+use Rattle.mxf_restore.specs.Plan.{asked, asked_by, asked_of, end_by, gap_from}
 use Rattle.mxf_places.specs.Heads.{is_head_to, needed_of, start_of}
 use Rattle.mxf_restore.specs.declared.section.Section.{Section}
 use Rattle.mxf_restore.specs.declared.plan.Order.{Order}
 use Rattle.mxf_places.proofs.EdgeLaws.{edge_says}
 use Rattle.mxf_places.proofs.FirstLaws.{first_says, none_speaks}
 use Rattle.mxf_restore.proofs.StartLaws.{heads_say, start_is, start_says}
-use Rattle.mxf_restore.proofs.Options.{none_from, some_from}
+use Rattle.mxf_restore.proofs.Options.{none_from, some_from, some_if}
+use Rattle.mxf_restore.proofs.EndPackLaws.{end_pack_says}
 use Rattle.mxf_places.proofs.AtHandLaws.{bound_le}
 
 -- ---- the greatest end of notes
@@ -74,7 +76,7 @@ module _ (at : AtHandParts) (notes : List NoteParts) (content : IsContent notes)
   )
 
   -- Nothing is claimed to be a gap.
-  never_gap : (c : Claim) → IsClaim notes c → c.reason ≡ Gap → ⊥
+  pub never_gap : (c : Claim) → IsClaim notes c → c.reason ≡ Gap → ⊥
   never_gap c k e = subst (λ (r : Reason). IsClaimFor r notes c) e k
 
   -- ---- ends
@@ -226,20 +228,35 @@ module _ (at : AtHandParts) (notes : List NoteParts) (content : IsContent notes)
     most : ℕ → ℕ → ℕ
     most start e = max e (up_to_bound (needed_of notes start p.first) p.hole.end)
 
-    -- A gap up to an end.
-    gap : ℕ → ℕ → Order
-    gap start e = record { reason = Gap; start = start; end = Some e; source = None; inside = false; again = false }
+    -- No pack is held that stands at the end of a file alone, or the end is known.
+    is_known : Option ℕ → Bool
+    is_known end = is_some end || not (has_end_pack notes)
+
+    known_says : (end : Option ℕ) → (is_known end ≡ true) ↔ (IsSome end ⊎ (HasEndPack notes → ⊥))
+    known_says end =
+        let ended = has_end_pack notes in
+        let says = end_pack_says notes content in (
+          λ t. elim (or_cases (is_some end) (not ended) t) [
+            | inl u ↦ inl u
+            | inr u ↦ inr (λ h. not-true-false ended u (says.1 h))
+          ],
+          λ h. elim h [
+            | inl u ↦ or_left (is_some end) (not ended) u
+            | inr n ↦ or_right (is_some end) (not ended) (not_true ended (λ t. n (says.0 t)))
+          ],
+        )
 
     by : (claim : Option Claim) → claim_at notes (start_of notes p.first) ≡ claim
         → asked_by at notes p (start_of notes p.first) claim ≡ Some o → IsAsked at notes p o
     by None f e =
         let start = start_of notes p.first in
-        let s = some_from (gap start) (option_map (most start) (end_by at notes p None)) o e in
-        subst (IsAsked at notes p) s.2 (record {
+        let end = option_map (most start) (end_by at notes p None) in
+        let s = some_if (is_known end) (gap_from start end) o e in
+        subst (IsAsked at notes p) s.1 (record {
           start = start_is notes content p.first;
           said = inr ((none_speaks notes start content).0 f, refl, refl);
-          end = (asked_end_says cover p start None f (Some s.0)).0 s.1;
-          some = λ g. refl;
+          end = (asked_end_says cover p start None f end).0 refl;
+          known = λ g. (known_says end).0 s.0;
           from_start = refl;
           new = refl;
         })
@@ -250,7 +267,7 @@ module _ (at : AtHandParts) (notes : List NoteParts) (content : IsContent notes)
           start = start_is notes content p.first;
           said = inl (c, first, refl, refl);
           end = (asked_end_says cover p start (Some c) f (option_map (most start) (end_by at notes p (Some c)))).0 refl;
-          some = λ g. absurd (never_gap c first.claim g);
+          known = λ g. absurd (never_gap c first.claim g);
           from_start = refl;
           new = refl;
         })
@@ -273,12 +290,13 @@ module _ (at : AtHandParts) (notes : List NoteParts) (content : IsContent notes)
       | inr k ↦ (
           let f = (none_speaks notes o.start content).1 k.0 in
           let end = (asked_end_says cover p o.start None f o.end).1 a.end in
-          let s = some_is o.end (a.some k.1) in
-          ap (asked_by at notes p o.start) f ∙ ap (option_map (gap o.start)) (end ∙ s.1)
+          let known = (known_says o.end).1 (a.known k.1) in
+          ap (asked_by at notes p o.start) f ∙ ap (asked (has_end_pack notes) None o.start) end
+          ∙ ap (λ b. if b then Some (gap_from o.start o.end) else None) known
           ∙ (λ i. Some (record {
             reason = sym k.1 i;
             start = o.start;
-            end = sym s.1 i;
+            end = o.end;
             source = sym k.2 i;
             inside = sym a.from_start i;
             again = sym a.new i;

@@ -1,4 +1,5 @@
 pub mod Options
+pub mod EndPackLaws
 pub mod StepLaws
 pub mod SectionLaws
 pub mod DisputedPlaceLaws
@@ -19,4 +20,5 @@ pub mod StartLaws
 pub mod AskedLaws
 pub mod PartLaws
 pub mod MissingLaws
+pub mod LastPieceLaws
 pub mod DisputesLaws

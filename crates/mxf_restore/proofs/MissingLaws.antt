@@ -1,6 +1,6 @@
 -- Of an order no byte is held, but for the key and length of the head at its start.
-use Rattle.mxf_views.proofs.Common.{◌≡◌, ◌⊎◌, ◌∙◌, ◌<◌, ◌≤◌, ◌-◌, ℕ, Bool, true, false, nat_lt, max, min, List, [], ◌∷◌}
-use Rattle.mxf_views.proofs.Common.{Option, None, Some, filter, if◌then◌else◌, is_some, option_map, refl, sym, ap}
+use Rattle.mxf_views.proofs.Common.{◌≡◌, ◌⊎◌, ◌∙◌, ◌<◌, ◌≤◌, ◌-◌, ◌||◌, ℕ, Bool, true, false, not, nat_lt, max, min}
+use Rattle.mxf_views.proofs.Common.{List, [], ◌∷◌, Option, None, Some, filter, if◌then◌else◌, is_some, option_map, refl, sym, ap}
 use Rattle.mxf_views.proofs.Common.{subst, inl, inr, arith, ltb-true, cases_lt, same_Some, option_map_or, NoteParts}
 use Rattle.mxf_views.proofs.Common.{covered_end, In, In-append, In-filter, IsContent}
 use Rattle.mxf_catalogue.specs.declared.run.Run.{Run}
@@ -9,13 +9,15 @@ use Rattle.mxf_places.specs.Claims.{claim_at}
 use Rattle.mxf_places.specs.Held.{IsHeld}
 use Rattle.mxf_places.specs.declared.at_hand.OffsetRange.{OffsetRange}
 use Rattle.mxf_places.specs.declared.claim.Claim.{Claim}
-use Rattle.mxf_restore.specs.Plan.{LiesInOrder, asked, asked_of, begun_at, end_by, is_whole_needed, parts_among}
-use Rattle.mxf_restore.specs.Plan.{parts_of, plan_of}
+use Rattle.mxf_restore.specs.EndPacks.{has_end_pack}
+use Rattle.mxf_restore.specs.Plan.{LiesInOrder, asked, asked_of, begun_at, end_by, gap_from, is_whole_needed}
+use Rattle.mxf_restore.specs.Plan.{parts_among, parts_of, plan_of}
 use Rattle.mxf_places.specs.Heads.{needed_of, start_of}
 use Rattle.mxf_restore.specs.Sections.{sections_of}
 use Rattle.mxf_restore.specs.declared.section.Section.{Section}
 use Rattle.mxf_restore.specs.declared.plan.Order.{Order}
 use Rattle.mxf_restore.proofs.OrderStarts.{is_part, whole_start}
+use Rattle.mxf_restore.proofs.Options.{some_if}
 use Rattle.mxf_restore.proofs.PlanMembers.{order_members}
 use Rattle.mxf_restore.proofs.SectionCover.{Below, are_sections, below_some, lower}
 use Rattle.mxf_restore.proofs.StartLaws.{start_is}
@@ -102,11 +104,11 @@ module _ (at : AtHandParts) (p : Section) (o : Order) where
 
 -- ---- what is asked for ends in the hole
 
-asked_end : (claim : Option Claim) (start : ℕ) (end : Option ℕ) (o : Order) → asked claim start end ≡ Some o
-    → o.end ≡ end
-asked_end None start None o e = absurd cc
-asked_end None start (Some x) o e = sym (ap (λ (r : Order). r.end) (same_Some _ o e))
-asked_end (Some c) start end o e = sym (ap (λ (r : Order). r.end) (same_Some _ o e))
+asked_end : (ended : Bool) (claim : Option Claim) (start : ℕ) (end : Option ℕ) (o : Order)
+    → asked ended claim start end ≡ Some o → o.end ≡ end
+asked_end ended None start end o e =
+    sym (ap (λ (r : Order). r.end) (some_if (is_some end || not ended) (gap_from start end) o e).1)
+asked_end ended (Some c) start end o e = sym (ap (λ (r : Order). r.end) (same_Some _ o e))
 
 module _ (at : AtHandParts) (notes : List NoteParts) (content : IsContent notes) where
   in_hole : (p : Section) → In p (sections_of notes) → (a : Order) → asked_of at notes p ≡ Some a → (x : ℕ)
@@ -117,7 +119,8 @@ module _ (at : AtHandParts) (notes : List NoteParts) (content : IsContent notes)
       let start = start_of notes p.first in
       let claim = claim_at notes start in
       let most : ℕ → ℕ = λ d. max d (up_to_bound (needed_of notes start p.first) p.hole.end) in
-      let ends : a.end ≡ option_map most (end_by at notes p claim) = asked_end claim start _ a e in (
+      let ends : a.end ≡ option_map most (end_by at notes p claim) =
+      asked_end (has_end_pack notes) claim start _ a e in (
         omega (arith, first, from),
         elim p.hole.end as (λ h. p.hole.end ≡ h → Below h x) [
           | None ↦ λ f. inl refl

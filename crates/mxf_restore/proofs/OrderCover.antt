@@ -13,14 +13,14 @@ use Rattle.mxf_places.specs.AtHand.{AtHandParts, LiesInRange, edge_of, lacking, 
 use Rattle.mxf_places.specs.Held.{IsHeld, end_of_file, held_end, reaches_past, rip_end_by, top_of}
 use Rattle.mxf_places.specs.Claims.{claim_at}
 use Rattle.mxf_restore.specs.Sections.{IsHole, LiesInSection, sections_of}
-use Rattle.mxf_restore.specs.Plan.{LiesInOrder, asked, asked_by, begun_at, end_by, found_orders, is_whole_needed}
-use Rattle.mxf_restore.specs.Plan.{orders_by, orders_of, part_order, parts_among, parts_of}
+use Rattle.mxf_restore.specs.EndPacks.{has_end_pack}
+use Rattle.mxf_restore.specs.Plan.{LiesInOrder, asked, asked_by, begun_at, end_by, found_orders, gap_from}
+use Rattle.mxf_restore.specs.Plan.{is_whole_needed, orders_by, orders_of, part_order, parts_among, parts_of}
 use Rattle.mxf_places.specs.Heads.{is_head_to, needed_of, start_of}
 use Rattle.mxf_places.specs.declared.claim.Claim.{Claim}
 use Rattle.mxf_places.specs.declared.at_hand.OffsetRange.{OffsetRange}
 use Rattle.mxf_restore.specs.declared.section.Section.{Section}
 use Rattle.mxf_restore.specs.declared.plan.Order.{Order}
-use Rattle.mxf_places.specs.declared.reason.Reason.TheVariants.{Gap}
 use Rattle.mxf_places.proofs.AtHandLaws.{lacked_there}
 use Rattle.mxf_places.proofs.HeldLaws.{held_end-bound, is_held-says, top_of-bound}
 use Rattle.mxf_restore.proofs.HoleLaws.{apart, closed_is, gap_there, held_or_not, last_held, maximal, open_is}
@@ -171,9 +171,9 @@ module _ (notes : List NoteParts) where
         let s = some_end top in
         let m = ends None s.0 s.1 in
         let reach = max s.0 (up_to_bound (needed_of notes start p.first) p.hole.end) in (
-          record { reason = Gap; start = start; end = Some reach; source = None; inside = false; again = false },
-          ap (λ end. asked None start (option_map (λ e. max e (up_to_bound (needed_of notes start p.first) p.hole.end))
-              end)) s.1,
+          gap_from start (Some reach),
+          ap (λ end. asked (has_end_pack notes) None start
+              (option_map (λ e. max e (up_to_bound (needed_of notes start p.first) p.hole.end)) end)) s.1,
           record { starts = refl; reaches_past = inr (reach, refl, omega (arith, m)) },
         )
     asked_there top start (Some c) =

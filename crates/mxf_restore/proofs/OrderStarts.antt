@@ -14,30 +14,23 @@ use Rattle.mxf_places.specs.Held.{IsHeld, end_of_file, top_of}
 use Rattle.mxf_places.proofs.AtHandLaws.{Rise, lacking_rise, one_start, rise_above, rise_from}
 use Rattle.mxf_places.specs.Claims.{claim_at}
 use Rattle.mxf_restore.specs.Sections.{IsEndOfHole, LiesInSection, sections_of}
-use Rattle.mxf_restore.specs.Plan.{asked, asked_by, asked_of, begun_at, end_by, is_again, is_whole_needed, orders_by}
-use Rattle.mxf_restore.specs.Plan.{orders_of, part_order, parts_among, parts_of, plan_of}
+use Rattle.mxf_restore.specs.EndPacks.{has_end_pack}
+use Rattle.mxf_restore.specs.Plan.{asked, asked_by, asked_of, begun_at, end_by, gap_from, is_again, is_whole_needed}
+use Rattle.mxf_restore.specs.Plan.{orders_by, orders_of, part_order, parts_among, parts_of, plan_of}
 use Rattle.mxf_places.specs.Heads.{is_head_to, needed_of, start_of}
-use Rattle.mxf_places.specs.declared.reason.Reason.TheVariants.{Gap}
 use Rattle.mxf_places.specs.declared.claim.Claim.{Claim}
 use Rattle.mxf_restore.specs.declared.section.Section.{Section}
 use Rattle.mxf_restore.specs.declared.plan.Order.{Order}
 use Rattle.mxf_restore.proofs.OrderCover.{start_below}
 use Rattle.mxf_restore.proofs.SectionCover.{are_sections}
 use Rattle.mxf_restore.proofs.PlanMembers.{order_members}
-use Rattle.mxf_restore.proofs.Options.{some_from}
+use Rattle.mxf_restore.proofs.Options.{some_from, some_if}
 
-asked_start : (claim : Option Claim) (start : ℕ) (end : Option ℕ) (o : Order) → asked claim start end ≡ Some o
-    → o.start ≡ start
-asked_start None start end o e =
-    sym (ap (λ (r : Order). r.start) (some_from (λ (x : ℕ). record {
-      reason = Gap;
-      start = start;
-      end = Some x;
-      source = None;
-      inside = false;
-      again = false;
-    }) end o e).2)
-asked_start (Some c) start end o e = sym (ap (λ (r : Order). r.start) (same_Some _ o e))
+asked_start : (ended : Bool) (claim : Option Claim) (start : ℕ) (end : Option ℕ) (o : Order)
+    → asked ended claim start end ≡ Some o → o.start ≡ start
+asked_start ended None start end o e =
+    sym (ap (λ (r : Order). r.start) (some_if (is_some end || not ended) (gap_from start end) o e).1)
+asked_start ended (Some c) start end o e = sym (ap (λ (r : Order). r.start) (same_Some _ o e))
 
 -- ---- the parts of one section
 
@@ -135,7 +128,7 @@ module _ (at : AtHandParts) (notes : List NoteParts) where
   ] refl k
 
   pub whole_start : (p : Section) (o : Order) → (s : IsPart p o) → s.whole.start ≡ start_of notes p.first
-  whole_start p o s = asked_start (claim_at notes (start_of notes p.first))
+  whole_start p o s = asked_start (has_end_pack notes) (claim_at notes (start_of notes p.first))
       (start_of notes p.first) _ s.whole s.asked_is
 
   -- Where a section begins: at a head whose key and length end at its first byte, or there.
@@ -329,20 +322,14 @@ module _ (at : AtHandParts) (notes : List NoteParts) (content : IsContent notes)
 
     by : (claim : Option Claim) → asked_by at notes p start claim ≡ Some o → IsAsked o
     by None e =
-        let s = some_from (λ (x : ℕ). record {
-          reason = Gap;
-          start = start;
-          end = Some x;
-          source = None;
-          inside = false;
-          again = false;
-        }) (option_map most (end_by at notes p None)) o e in
-        let t = some_from most (end_by at notes p None) s.0 s.1 in
-        let below = end_above None t.0 t.1 in
-        let reach = t.2 in
-        subst IsAsked s.2 (record {
+        let end = option_map most (end_by at notes p None) in
+        let s = some_if (is_some end || not (has_end_pack notes)) (gap_from start end) o e in
+        subst IsAsked s.1 (record {
           starts = refl;
-          above = λ x f. let same = same_Some s.0 x f in omega (arith, same, below, reach);
+          above = λ x f.
+              let t = some_from most (end_by at notes p None) x f in
+              let below = end_above None t.0 t.1 in
+              let reach = t.2 in omega (arith, below, reach);
           inside = refl;
           again = refl;
         })

@@ -6,7 +6,17 @@ use Rattle.mxf_views.proofs.Common.{size_of, NoteParts, PacketParts, end_after, 
 use Rattle.mxf_views.proofs.Common.{IsCover, clear-laid, is_whole, In-clear_notes, IsContent-laid, PartitionParts}
 use Rattle.mxf_views.proofs.Common.{RipAtParts, is_rip, one_by_one, partitions_read, rip_read, EndsWithRandomIndex}
 use Rattle.mxf_views.proofs.Common.{IsRandomIndexPack, IsReadable, IsWellFormed, BeginsWithHeader, is_readable_as}
-use Rattle.mxf_views.proofs.Common.{end_up}
+use Rattle.mxf_views.proofs.Common.{end_up, length, keeps, result_ok, pack_at, read_pack, partition_read, cons_option}
+use Rattle.mxf_views.proofs.Common.{option_map, some_is, all-In, In-append, IsFooterPack, PartitionPackParts}
+use Rattle.mxf_klv.specs.declared.kinds.Kind.TheVariants as kinds
+use Rattle.mxf_klv.specs.declared.kinds.Status.{Status}
+use Rattle.mxf_sets.proofs.PackKinds.{kind_is}
+use Rattle.mxf_sets.specs.PartitionPack.{pack_kind}
+use Rattle.mxf_sets.specs.declared.pack.part.PackPart.{PackPart}
+use Rattle.mxf_sets.specs.declared.pack.part.PackPart.TheVariants.{Body, Footer, Header}
+use Rattle.mxf_views.proofs.Laid.{partitions_of-laid}
+use Rattle.mxf_views.proofs.PartitionLaws.{partitions_are}
+use Rattle.mxf_restore.specs.EndPacks.{HasEndPack}
 use Rattle.mxf_views.specs.declared.random_index.RipView.TheVariants.{Absent, One}
 use Rattle.mxf_views.specs.Records.{read_rip}
 use Rattle.mxf_views.proofs.KindLaws.{rip_kind}
@@ -76,6 +86,64 @@ read_last parts at (p ∷ q ∷ packets) r e last =
       begins = ih.begins;
       ends = ih.ends;
     }
+
+-- ---- the footer partition pack
+
+footer_part : (part : PackPart) (status s : Status) → kinds.Footer s ≡ pack_kind part status → part ≡ Footer
+footer_part Header status s e = absurd (cc (e))
+footer_part Body status s e = absurd (cc (e))
+footer_part Footer status s e = refl
+
+-- A readable footer partition pack is read as one.
+footer_read : (p : PacketParts) → IsFooterPack p → IsReadable p
+    → (pack : PartitionPackParts) × (read_pack p ≡ Some pack) × (pack.part ≡ Footer)
+unfolding read_pack
+footer_read p f r =
+    let some : is_some (read_pack p) ≡ true = subst (λ kind. is_readable_as kind p ≡ true) f.1 r in
+    let pack = some_is (read_pack p) some in
+    let is = elim (keeps p.key (length p.value))
+    as (λ b. cond b (result_ok (pack_at (kind_of p.key) p.value)) None ≡ Some pack.0
+    → kind_of p.key ≡ pack_kind pack.0.part pack.0.status) [
+      | true ↦ kind_is (kind_of p.key) p.value pack.0
+      | false ↦ λ e. absurd (cc (e))
+    ] pack.1 in (pack.0, pack.1, footer_part pack.0.part pack.0.status f.0 (sym f.1 ∙ is))
+
+-- A packet that is read as a partition pack is among the partitions.
+among_read : (at : ℕ) (l : List PacketParts) (p : PacketParts) (pack : PartitionPackParts) → In p l
+    → read_pack p ≡ Some pack → (q : PartitionParts) × In q (partitions_read at l) × (q.pack ≡ pack)
+among_read at [] p pack k e = absurd k
+among_read at (x ∷ xs) p pack (inl same) e =
+    let end = at + size_of x in
+    let placed : PartitionPackParts → PartitionParts = λ pack. record { offset = at; end = end; pack = pack } in
+    let read : read_pack x ≡ Some pack = subst (λ y. read_pack y ≡ Some pack) same e in (
+      placed pack,
+      subst (λ o. In (placed pack) (cons_option (option_map placed o) (partitions_read end xs))) (sym read) (inl refl),
+      refl,
+    )
+among_read at (x ∷ xs) p pack (inr k) e =
+    let end = at + size_of x in
+    let s = among_read end xs p pack k e in (
+      s.0,
+      elim (partition_read at x) as (λ o. In s.0 (cons_option o (partitions_read end xs))) [
+        | None ↦ s.1
+        | Some q ↦ inr s.1
+      ],
+      s.2,
+    )
+
+-- A well-formed file has a footer partition.
+end_pack_held : (l : List PacketParts) → IsWellFormed l → HasEndPack (notes_from 0 l)
+end_pack_held l well =
+    let f = well.footer in
+    let k : In f.footer l = subst (In f.footer) (sym f.order)
+    ((In-append f.footer f.before (f.footer ∷ f.after)).1 (inr (inl refl))) in
+    let s = footer_read f.footer f.is_footer (all-In IsReadable l f.footer well.readable k) in
+    let q = among_read 0 l f.footer s.0 k s.1 in
+    inl (
+      q.0,
+      (partitions_are (notes_from 0 l) q.0).0 (subst (In q.0) (sym (partitions_of-laid 0 l)) q.1),
+      ap (λ (pack : PartitionPackParts). pack.part) q.2 ∙ s.2,
+    )
 
 some_end : (l : List PacketParts) → BeginsWithHeader l → 0 < end_after 0 l
 some_end [] h = absurd h
@@ -245,7 +313,10 @@ module _ (l : List PacketParts) (well : IsWellFormed l) where
           | inl said ↦
               let bound = none.claimed said.0 said.1.claim in
               let speaks = said.1.speaks.1 in omega (arith, start, first, bound, speaks)
-          | inr gap ↦ asks_nothing p is.asked.start is.asked.end k (a.some gap.1) a.end
+          | inr gap ↦ elim (a.known gap.1) [
+            | inl some ↦ asks_nothing p is.asked.start is.asked.end k some a.end
+            | inr unended ↦ unended (end_pack_held l well)
+          ]
         ]
 
 -- No order is left of a whole file.

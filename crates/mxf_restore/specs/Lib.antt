@@ -1,5 +1,6 @@
 pub mod Parts
 pub mod Sections
+pub mod EndPacks
 pub mod Plan
 pub mod Orders
 pub mod WholeFiles

@@ -12,6 +12,8 @@ use Rattle.mxf_places.specs.Named.{IsClaim}
 use Rattle.mxf_places.specs.declared.claim.Claim.{Claim}
 use Rattle.mxf_places.specs.declared.reason.Reason.{Reason}
 use Rattle.mxf_places.specs.declared.reason.Reason.TheVariants.{Gap}
+use Rattle.mxf_restore.specs.EndPacks.{HasEndPack}
+use Rattle.mxf_restore.specs.Sections.{sections_of}
 use Rattle.mxf_restore.specs.declared.section.Section.{Section}
 use Rattle.mxf_restore.specs.declared.plan.Order.{Order}
 
@@ -71,13 +73,14 @@ abbrev pub IsAskedEnd : AtHandParts → List NoteParts → Section → ℕ → O
 IsAskedEnd at notes p start (Some end) = IsAskedUpTo at notes p start end
 IsAskedEnd at notes p start None = IsSectionEnd at notes p start None
 
--- What is asked for of a section, be it at hand or not. Nothing says that a byte lies in a section without an end that
--- no pack claims.
+-- What is asked for of a section, be it at hand or not. A section without an end that no pack claims is asked for
+-- unless a pack is held that stands at the end of a file alone: nothing says that a byte lies there, and nothing says
+-- that none does.
 pub record IsAsked (at : AtHandParts) (notes : List NoteParts) (p : Section) (o : Order) : Type 0 where
   pub start : IsStartOf notes p.first o.start
   pub said : IsSaid notes o.start o.reason o.source
   pub end : IsAskedEnd at notes p o.start o.end
-  pub some : o.reason ≡ Gap → IsSome o.end
+  pub known : o.reason ≡ Gap → IsSome o.end ⊎ ¬ HasEndPack notes
   pub from_start : o.inside ≡ false
   pub new : o.again ≡ false
 
@@ -119,3 +122,13 @@ pub record IsOrder (at : AtHandParts) (notes : List NoteParts) (p : Section) (o 
   pub source : o.source ≡ asked.source
   pub inside : IsTrue o.inside ↔ (o.start ≢ asked.start)
   pub again : IsTrue o.again ↔ WasHandedIn at o.start o.end
+
+-- The last piece of a file: a section without an end. No pack speaks of the start of its packet, and of the file it
+-- isn't known that it reaches so far.
+pub record IsLastPiece (at : AtHandParts) (notes : List NoteParts) (p : Section) : Type 0 where
+  pub held : In p (sections_of notes)
+  pub endless : p.end ≡ None
+  pub start : ℕ
+  pub is_start : IsStartOf notes p.first start
+  pub unclaimed : (c : Claim) → IsClaim notes c → ¬ SpeaksOf c start
+  pub unreached : (edge : ℕ) → ¬ ReachesUpTo at notes p.first start edge

@@ -12,6 +12,7 @@ use Rattle.mxf_places.specs.declared.at_hand.OffsetRange.{OffsetRange}
 use Rattle.mxf_places.specs.Held.{end_of_file, is_disputed_at, is_in_file, top_of}
 use Rattle.mxf_places.specs.Claims.{claim_at, claims_of, is_of_stretch}
 use Rattle.mxf_places.specs.Heads.{needed_of, start_of}
+use Rattle.mxf_restore.specs.EndPacks.{has_end_pack}
 use Rattle.mxf_restore.specs.Sections.{sections_of}
 use Rattle.mxf_places.specs.declared.reason.Reason.TheVariants.{Gap}
 use Rattle.mxf_places.specs.FirstClaims.{reason_rank}
@@ -28,18 +29,16 @@ end_by at notes p claim =
     else (if (nat_lt p.first (top_of notes) || nat_le (p.first + 25) (edge_of at notes))
     && not (option_map_or (λ c. c.is_open) claim false) then Some (edge_of at notes) else None)
 
--- What is asked for from a start up to an end, for what a claim says, be it at hand or not. Nothing says that a byte
--- lies in a section without an end that no pack claims.
-abbrev pub asked : Option Claim → ℕ → Option ℕ → Option Order
-asked None start end = option_map (λ e. record {
-  reason = Gap;
-  start = start;
-  end = Some e;
-  source = None;
-  inside = false;
-  again = false;
-}) end
-asked (Some c) start end = Some (record {
+-- What no pack claims, from a start up to an end, or all from there on.
+abbrev pub gap_from : ℕ → Option ℕ → Order
+gap_from start end =
+    record { reason = Gap; start = start; end = end; source = None; inside = false; again = false }
+
+-- What is asked for from a start up to an end, for what a claim says, be it at hand or not. Nothing has to lie in a
+-- section without an end that no pack claims, if a pack is held that stands at the end of a file alone.
+abbrev pub asked : Bool → Option Claim → ℕ → Option ℕ → Option Order
+asked ended None start end = if is_some end || not ended then Some (gap_from start end) else None
+asked ended (Some c) start end = Some (record {
   reason = c.reason;
   start = start;
   end = end;
@@ -51,7 +50,7 @@ asked (Some c) start end = Some (record {
 -- What is asked for of a section: a head's packet is needed whole, as far as the hole goes.
 abbrev pub asked_by : AtHandParts → List NoteParts → Section → ℕ → Option Claim → Option Order
 asked_by at notes p start claim =
-    asked claim start
+    asked (has_end_pack notes) claim start
     (option_map (λ e. max e (up_to_bound (needed_of notes start p.first) p.hole.end)) (end_by at notes p claim))
 
 abbrev pub asked_of : AtHandParts → List NoteParts → Section → Option Order

@@ -14,8 +14,9 @@
 //! an order ([`laws::gaps_are_ordered`]). No byte of an order is held but for the key and length of a head at its start
 //! ([`laws::orders_are_missing`]). No two orders begin at one offset ([`laws::starts_are_apart`]). If nothing is at
 //! hand, all that is asked for is ordered ([`laws::orders_where_nothing_is_at_hand`]). Nothing of a whole file is
-//! ordered ([`laws::whole_files_have_no_order`]). How many packets are disputed, and where, is by the disputed notes
-//! ([`Disputes::of`], [`laws::disputes_by_definition`]).
+//! ordered ([`laws::whole_files_have_no_order`]). What follows all that is held, where the end of the file isn't known,
+//! is ordered unless a footer partition or a random index pack is held ([`laws::last_pieces_by_definition`]). How many
+//! packets are disputed, and where, is by the disputed notes ([`Disputes::of`], [`laws::disputes_by_definition`]).
 //!
 //! That no order is left in the end, if what was ordered is handed in again and again, is tested.
 //!
@@ -32,6 +33,7 @@
 
 mod disputed_place;
 mod disputes;
+mod end_pack;
 mod first;
 pub mod laws;
 mod named;

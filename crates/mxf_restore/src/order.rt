@@ -8,6 +8,7 @@ ghost use Rattle.mxf_places.specs.Heads.{start_of};
 ghost use Rattle.mxf_catalogue.specs.Content.{IsContent};
 ghost use Rattle.mxf_catalogue.specs.Covers.{IsCover};
 ghost use Rattle.mxf_klv.specs.Parts.{NoteParts};
+ghost use Rattle.mxf_restore.specs.EndPacks.{has_end_pack};
 ghost use Rattle.mxf_restore.specs.Fronts.{IsFront, front_by, front_of, front_range, looked_for};
 ghost use Rattle.mxf_restore.specs.Orders.{IsAsked};
 ghost use Rattle.mxf_restore.specs.Plan.{asked, asked_of, begun_at, end_by, found_orders, is_again, is_whole_needed};
@@ -15,11 +16,13 @@ ghost use Rattle.mxf_restore.specs.Plan.{orders_by, orders_of, part_order, parts
 ghost use Rattle.mxf_restore.specs.declared.section.Section.{Section};
 ghost use Rattle.mxf_restore.specs.declared.plan.Order.{Order};
 
+use crate::end_pack::has_end_pack;
 use crate::first::FirstClaims;
 use crate::plan::Order;
 use crate::section::{Section, sections};
 use mxf_klv::{KEY_AND_LENGTH, MAX, OutOfMemory};
 use mxf_places::{AtHand, Claim, Heads, Holdings, OffsetRange, Reason, up_to_bound};
+use mxf_views::Views;
 use std::alloc::Global;
 use std::marker::Model;
 
@@ -151,6 +154,7 @@ impl<'a> SectionOrders<'a> {
         let claim = self.claims.claim_at(head.offset);
         let end = end_by(self.holdings, self.at_hand, section, claim);
         asked(
+            self.holdings.views(),
             claim,
             head.offset,
             needed_end(end, head.needed, section.hole.end),
@@ -175,13 +179,13 @@ impl<'a> SectionOrders<'a> {
 }
 
 /// What is asked for from a start on, in bytes, up to an end: for what the claim says, or for no reason. None if
-/// nothing is claimed and there is no end.
-fn asked(claim: Option<Claim>, start: u64, end: Option<u64>) -> Option<AskedBytes>
-    ensures { result ≡ asked claim start end }
+/// nothing is claimed, there is no end, and a pack is held that stands at the end of a file alone.
+fn asked(views: &Views, claim: Option<Claim>, start: u64, end: Option<u64>) -> Option<AskedBytes>
+    ensures { result ≡ asked (has_end_pack views.now) claim start end }
 {
     let (reason, source) = match claim {
         Some(claim) => (claim.reason, claim.source),
-        None if end.is_some() => (Reason::Gap, None),
+        None if end.is_some() || !has_end_pack(views) => (Reason::Gap, None),
         None => return None,
     };
     Some(AskedBytes {
@@ -405,7 +409,8 @@ pub fn fronts_by_definition()
 
 /// A law of [`SectionOrders`]: what is asked for of a section begins where its packet does, for the reason and source
 /// of the first claim there. It ends where the section does, or above that where the packets of its heads do, but no
-/// higher than the hole.
+/// higher than the hole. Of a section without an end that no pack claims nothing is asked for, if a pack is held that
+/// stands at the end of a file alone.
 pub fn asked_by_definition()
     ensures { (at : AtHandParts) (notes : List NoteParts) (p : Section) (o : Order) → IsContent notes
         → IsCover at.given → (asked_of at notes p ≡ Some o) ↔ IsAsked at notes p o }

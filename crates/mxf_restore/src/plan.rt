@@ -1,5 +1,5 @@
 //! What to restore next.
-ghost use Rattle.std.specs.Prelude.{◌≡◌, ◌↔◌, ◌⊎◌, ◌<◌, ◌==◌, ℕ, [], List, Some, false, find, IfOk};
+ghost use Rattle.std.specs.Prelude.{◌≡◌, ◌↔◌, ◌⊎◌, ◌<◌, ◌==◌, ℕ, [], List, None, Some, false, find, IfOk};
 ghost use Rattle.std.specs.List.{filter_map};
 ghost use Rattle.mxf_klv.specs.Parts.{NoteParts, PacketParts};
 ghost use Rattle.mxf_klv.specs.Note.{covered_end};
@@ -17,7 +17,9 @@ ghost use Rattle.mxf_places.specs.Held.{IsHeld};
 ghost use Rattle.mxf_restore.specs.Sections.{sections_of};
 ghost use Rattle.std.specs.Option.{option_to_list};
 ghost use Rattle.mxf_restore.specs.DisputedPlaces.{IsDisputedPlace};
-ghost use Rattle.mxf_restore.specs.Orders.{IsOrder};
+ghost use Rattle.mxf_restore.specs.EndPacks.{HasEndPack};
+ghost use Rattle.mxf_places.specs.declared.reason.Reason.TheVariants.{Gap};
+ghost use Rattle.mxf_restore.specs.Orders.{IsLastPiece, IsOrder};
 ghost use Rattle.mxf_restore.specs.Plan.{LiesInOrder, asked_of, disputed_place_cmp, disputed_place_of, order_cmp};
 ghost use Rattle.mxf_restore.specs.Plan.{orders_of, plan_of};
 ghost use Rattle.mxf_restore.specs.declared.section.Section.{Section};
@@ -89,7 +91,8 @@ pub struct DisputedPlace {
 /// What to restore next of a file that is held in parts, as far as what is held says (this project's profile).
 ///
 /// Whoever restores the bytes of all orders, hands each in as a piece at its start, and asks again, comes to a plan
-/// without orders, if the packs of the file tell the truth. That is tested, not proved.
+/// without orders, if the packs of the file tell the truth. That is tested, not proved. Of a file with neither a footer
+/// partition nor a random index pack one order is left, which has no end and no pack: where that file ends isn't known.
 #[derive(Drop)]
 pub struct Plan {
     orders: Vec<Order>,
@@ -238,4 +241,14 @@ pub fn whole_files_have_no_order()
     ensures { (l : List PacketParts) (at : AtHandParts) → IsWellFormed l → IsCover at.given → IsCover at.hand
         → EndsInRandomIndex l ⊎ NothingIsBeyond at (notes_from 0 l) (end_after 0 l)
         → (plan_of at (notes_from 0 l)).orders ≡ [] }
+{}
+
+/// A law of [`Plan::orders`]: an order without an end that no pack speaks of is there exactly where the file has a last
+/// piece, and no pack is held that stands at the end of a file alone: no footer partition pack that is clear and can be
+/// read, and no clear random index pack. So a plan of a file that is still written isn't empty while nobody knows its
+/// end.
+pub fn last_pieces_by_definition()
+    ensures { (at : AtHandParts) (notes : List NoteParts) → IsContent notes → IsCover at.given → IsCover at.hand
+        → ((o : Order) × In o (plan_of at notes).orders × (o.reason ≡ Gap) × (o.end ≡ None))
+        ↔ ((p : Section) × IsLastPiece at notes p × ¬ HasEndPack notes) }
 {}

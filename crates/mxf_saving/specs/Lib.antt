@@ -1,3 +1,4 @@
 pub mod Beginnings
 pub mod Saving
+pub mod Kept
 pub mod Sources

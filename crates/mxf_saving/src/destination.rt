@@ -50,7 +50,7 @@ fn file_to_write<R: Files>(rt: &R, path: &PathBuf) -> io::Result<Metadata> {
 }
 
 /// The path, which is no link, that links lead to from `path`. Nothing need stand there.
-fn behind_links<R: Files + AllocGlobal>(rt: &R, path: &str) -> io::Result<PathBuf> {
+pub(crate) fn behind_links<R: Files + AllocGlobal>(rt: &R, path: &str) -> io::Result<PathBuf> {
     let mut path = PathBuf::from_str(rt.alloc(), path)?;
     for _ in 0..=GREATEST_LINKS {
         if !is_link(rt, &path)? {

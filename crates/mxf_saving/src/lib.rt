@@ -15,7 +15,7 @@
 //!
 //! ```
 //! let place = Reservation::take(rt, "clip.cat", false)?;
-//! place.save(rt, &catalogue)?;
+//! place.save(rt, &catalogue, false)?;
 //! ```
 #![tactic(auto)]
 
@@ -23,6 +23,7 @@ mod attributes;
 mod beginning;
 mod destination;
 mod fault;
+mod kept;
 pub mod laws;
 mod part_file;
 mod refusal;
@@ -35,6 +36,7 @@ mod watched_writer;
 
 pub use beginning::Beginning;
 pub use fault::SaveFault;
+pub use kept::{holds_more, is_other_catalogue};
 pub use refusal::{OutputRefusal, refusal_of};
 pub use reservation::{Reservation, ReservedFile};
 pub use source::{Source, SourceWordFault, begins_with_scheme, parse_source};

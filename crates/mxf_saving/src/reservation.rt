@@ -5,8 +5,9 @@ ghost use Rattle.mxf_catalogue.specs.CatalogueFile.{file_bytes};
 ghost use Rattle.mxf_saving.specs.Saving.{keeps_nothing};
 
 use crate::attributes::permissions_of;
-use crate::destination::Destination;
+use crate::destination::{Destination, behind_links};
 use crate::fault::SaveFault;
+use crate::kept::{free_path, keep};
 use crate::part_file::PartFile;
 use crate::refusal::refusal_at;
 use crate::system_fault::LastFault;
@@ -78,18 +79,23 @@ impl<'a, R: Files<File = File> + AllocGlobal> Reservation<'a, R> {
     /// What stands there is looked at once more, since it may have come meanwhile: if it is no catalogue and not empty,
     /// or if there is no note to be saved and it isn't empty, it stays.
     ///
+    /// If what stands there is to be kept, it gets a path beside its own, which is answered; of a dry place that at which
+    /// it would be kept.
+    ///
     /// No file is open any more when it answers, so that a line told afterwards can't go into one.
-    pub fn save(self, rt: &R, catalogue: &Catalogue) -> Result<(), SaveFault> {
+    pub fn save(
+        self,
+        rt: &R,
+        catalogue: &Catalogue,
+        keeps: bool,
+    ) -> Result<Option<PathBuf>, SaveFault> {
         match self {
-            Reservation::File(held) => held.save(rt, catalogue),
-            Reservation::Looked(path) => {
-                let _found = replaceable(rt, path, catalogue)?;
-                Ok(())
-            }
+            Reservation::File(held) => held.save(rt, catalogue, keeps),
+            Reservation::Looked(path) => look(rt, path, catalogue, keeps),
             Reservation::Stream(path) => {
                 let file = OpenOptions::new().write(true).open(rt, path)?;
                 write_whole(rt.alloc(), file, catalogue)?;
-                Ok(())
+                Ok(None)
             }
         }
     }
@@ -97,13 +103,23 @@ impl<'a, R: Files<File = File> + AllocGlobal> Reservation<'a, R> {
 
 impl<R: Files<File = File> + AllocGlobal> ReservedFile<'_, R> {
     /// Writes the file beside and puts it in its place. All of it has reached the disk then.
-    fn save(self, rt: &R, catalogue: &Catalogue) -> Result<(), SaveFault> {
+    fn save(
+        self,
+        rt: &R,
+        catalogue: &Catalogue,
+        keeps: bool,
+    ) -> Result<Option<PathBuf>, SaveFault> {
         let mut held = self;
-        held.write(rt, catalogue)
+        held.write(rt, catalogue, keeps)
     }
 
     /// The same, with the place still held.
-    fn write(&mut self, rt: &R, catalogue: &Catalogue) -> Result<(), SaveFault> {
+    fn write(
+        &mut self,
+        rt: &R,
+        catalogue: &Catalogue,
+        keeps: bool,
+    ) -> Result<Option<PathBuf>, SaveFault> {
         let found = replaceable(rt, self.path.as_str(), catalogue)?;
         let file = self.part.file();
         if let Some(before) = found.as_ref().or(self.before.as_ref()) {
@@ -111,9 +127,38 @@ impl<R: Files<File = File> + AllocGlobal> ReservedFile<'_, R> {
         }
         write_whole(rt.alloc(), file, catalogue)?;
         file.sync_all()?;
-        self.part.rename(&self.path)?;
-        Ok(sync_folder(&self.folder)?)
+        let kept = self.replace(rt, keeps && found.is_some())?;
+        sync_folder(&self.folder)?;
+        Ok(kept)
     }
+
+    /// Puts the file beside in its place. If what stands there is to be kept, it is before that.
+    fn replace(&mut self, rt: &R, keeps: bool) -> Result<Option<PathBuf>, SaveFault> {
+        if !keeps {
+            self.part.rename(&self.path)?;
+            return Ok(None);
+        }
+        let kept = keep(rt, &self.path)?;
+        if let Err(fault) = self.part.rename(&self.path) {
+            let _ = fs::remove_file(rt, &kept);
+            return Err(SaveFault::from(fault));
+        }
+        Ok(Some(kept))
+    }
+}
+
+/// The path at which what stands at this one would be kept, if the catalogue may take its place.
+fn look<R: Files + AllocGlobal>(
+    rt: &R,
+    path: &str,
+    catalogue: &Catalogue,
+    keeps: bool,
+) -> Result<Option<PathBuf>, SaveFault> {
+    let found = replaceable(rt, path, catalogue)?;
+    if !keeps || found.is_none() {
+        return Ok(None);
+    }
+    Ok(Some(free_path(rt, &behind_links(rt, path)?)?))
 }
 
 /// What stands at the path, if the catalogue may take its place.

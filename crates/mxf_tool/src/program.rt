@@ -3,6 +3,7 @@ mod beside;
 mod edit_units;
 mod finding;
 mod renewing;
+mod saving;
 mod verifying;
 
 use crate::answered::exit_of_answer;
@@ -12,7 +13,6 @@ use clap::error::ErrorKind;
 use edit_units::{print_unit_plan, print_units};
 use finding::print_found_in;
 use mxf_asked::{Ask, Grid, Hints, Request, Saving, Task, Told};
-use mxf_catalogue::Catalogue;
 use mxf_clocks::Clocks;
 use mxf_commands::{
     UnitRefusal, command, hints_of, request_of, signed_number, units_of, unreadable_argument,
@@ -22,7 +22,6 @@ use mxf_hints::{
     Exit, RefusalHint, RunFault, SKIM_HINT, Telling, tell, tell_on_screen, tell_stops,
     tell_together,
 };
-use mxf_klv::OutOfMemory;
 use mxf_lines::{
     AnswerFault, Searched, Verified, answer, print_edit_units, print_found, print_many_plan,
     print_map, print_metadata_plan, print_renewed, print_sources, print_verification,
@@ -33,12 +32,13 @@ use mxf_readings::Readings;
 use mxf_saving::{
     BUFFER_BYTES, LastFault, Reservation, SaveFault, Source, SystemFault, WatchedWriter, refusal_of,
 };
-use mxf_skim::{Scan, with_heads};
+use mxf_skim::Scan;
 use mxf_sources::{HeldBySources, Lists, hold_sources, read_lists, settled, sources_of};
 use mxf_units::{UnitRange, Units};
 use mxf_verify::Renewed;
 use mxf_watching::Screen;
 use renewing::print_renewal;
+use saving::{save, tell_kept};
 use std::alloc::Global;
 use std::io::{BufWriter, Write};
 use std::{env, io};
@@ -271,10 +271,12 @@ fn print_joined<'a>(
     let held = hold_sources(rt, inputs.telling.screen, inputs.scan, inputs.sources)?;
     let held = settled(rt.alloc(), held, inputs.sources)?;
     let catalogue = held.gathered.views.catalogue();
-    if let Err(fault) = save(rt, inputs.scan, catalogue, place) {
-        return Err(unsaved(saving.out, fault));
-    }
+    let kept = match save(rt, inputs, saving.out, catalogue, place) {
+        Ok(kept) => kept,
+        Err(fault) => return Err(unsaved(saving.out, fault)),
+    };
     let exit = print_answer(rt, Printed::Answer(Ask::Join, &held), inputs.form)?;
+    tell_kept(rt, inputs.telling.has_hints, saving, &kept)?;
     let exit = exit.of_join(saving.is_strict, held.gathered.reports.as_slice());
     let exit = exit.of_disputes(saving.is_strict, catalogue.disputed().count());
     told_held(rt, inputs, &held, true, exit)
@@ -308,22 +310,6 @@ fn allow_output<'a>(
         Ok(None) => Ok(()),
         Ok(Some(why)) => Err(RunFault::BadOutput { path: out, why }),
         Err(fault) => Err(unsaved(out, SaveFault::from(fault))),
-    }
-}
-
-/// Saves a catalogue to a place that is held: of a skim the heads of packets that were passed over.
-fn save<'r>(
-    rt: &'r HostRuntime,
-    scan: Scan,
-    catalogue: &Catalogue,
-    place: Reservation<'r, HostRuntime>,
-) -> Result<(), SaveFault> {
-    match scan {
-        Scan::Full => place.save(rt, catalogue),
-        Scan::Skim => match with_heads(rt.alloc(), catalogue) {
-            Ok(saved) => place.save(rt, &saved),
-            Err(OutOfMemory) => Err(SaveFault::OutOfMemory),
-        },
     }
 }
 

@@ -1,4 +1,5 @@
 //! Saving what earlier sources hold, renewed by later ones.
+use super::saving::{save_content, tell_kept};
 use super::{Inputs, Printed, allow_output, print_answer, told, unsaved};
 use mxf_asked::{Renewing, Saving};
 use mxf_catalogue::Catalogue;
@@ -136,13 +137,15 @@ fn save_renewed<'a, 'r>(
     if renewed.is_of_another && !renewing.drops {
         return print_unrenewed(rt, inputs, &renewed);
     }
-    match place.save(rt, &renewed.catalogue) {
-        Ok(()) => {
+    let saving = renewing.saving;
+    match save_content(rt, inputs, saving.out, &renewed.catalogue, place) {
+        Ok(kept) => {
             let exit = print_answer(rt, Printed::Renewed(&renewed, true), inputs.form)?;
+            tell_kept(rt, inputs.telling.has_hints, saving, &kept)?;
             let disputed = renewed.catalogue.disputed().count();
-            Ok(exit.of_disputes(renewing.saving.is_strict, disputed))
+            Ok(exit.of_disputes(saving.is_strict, disputed))
         }
-        Err(fault) => Err(unsaved(renewing.saving.out, fault)),
+        Err(fault) => Err(unsaved(saving.out, fault)),
     }
 }
 
