@@ -42,6 +42,7 @@ UNSEEN = {"style", "script", "title", "head", "defs"}
 INLINE = {"bdi", "code", "strong", "span", "tspan", "a"}
 CUT = 200
 NAMED = 8  # sources of a reading that are named
+FEW = 4  # places of a finding that stand one by one
 
 
 class Table:
@@ -125,7 +126,8 @@ class Page(html.parser.HTMLParser):
         if "svg" in self.open and self.open[-1] == "title":
             self.titles[section].append(data)
         elif not UNSEEN.intersection(self.open):
-            self.seen += data
+            is_folded = "details" in self.open and "summary" not in self.open
+            self.seen += "" if is_folded else data
             self.text[section] += data
         if {"td", "th"}.intersection(self.open) and "title" not in self.open:
             self.cell += data
@@ -302,7 +304,9 @@ def differences_of_findings(page, told):
         found[line["code"], line["text"]].append(str(line["offset"]))
     want = []
     for (code, text), offsets in sorted(found.items()):
-        want.append([code, text, str(len(offsets)), numbers_text(offsets, 24, "check"), advice[code]])
+        places = numbers_text(offsets, CUT, "check")
+        ends = f"{offsets[0]} to {offsets[-1]}" if len(offsets) > FEW else ""
+        want.append([code, text, str(len(offsets)), ends + places, advice[code]])
     yield from differences_of_rows(page, "By code", want, "findings")
 
 

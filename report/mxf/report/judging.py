@@ -76,9 +76,8 @@ def parts_of(grounds: Grounds) -> Iterator[str]:
     damaged, found = grounds.checked.damaged.count, grounds.checked.numbers["findings"]
     if damaged:
         yield f"{count_text(damaged, 'piece')} can't be read to the end"
-    findings = count_text(found, "thing is found wrong or missing", "things are found wrong or missing")
     nothing = "nothing else" if damaged or differs or doubts else "nothing"
-    yield findings if found else f"{nothing} is found wrong"
+    yield grounds.checked.found_text() if found else f"{nothing} is found wrong"
     orders = f"{are_text(planned['ranges'], 'other range' if differs else 'range')} to be restored"
     yield orders if planned["ranges"] else "nothing else is ordered" if differs else "nothing is to be restored"
     if planned["end"] is None:
