@@ -9,7 +9,7 @@ import contextlib
 import os
 import re
 import tempfile
-from collections.abc import Iterable
+from collections.abc import Iterable, Iterator
 from typing import NamedTuple
 
 from mxf import moments
@@ -17,9 +17,9 @@ from mxf.archive.origins import IDENTIFIED, origin_of
 from mxf.calling import Call, Keeps, Tool
 from mxf.faults import ToolFault
 from mxf.files import sha256_of
-from mxf.lines import Line, take_lines
+from mxf.lines import Line, PieceLine, checked, take_lines
 from mxf.packages import Packages
-from mxf.sources import Source, Sources, source_of
+from mxf.sources import Source, Sources, are_put_together, source_of
 
 FORMAT = 1  # of these lines
 INDEXES = 16  # of which edit units are counted
@@ -36,6 +36,9 @@ KEPT = re.compile(
     re.MULTILINE,
 )
 
+# Those that say how sources end.
+ENDS = re.compile(rb'^\{"line":"piece".*$', re.MULTILINE)
+
 # Why mxf_tool doesn't count edit units.
 TOO_MANY, NO_LAST = "too many units", "no last unit"
 
@@ -50,14 +53,16 @@ class Named(NamedTuple):
     is_skim: bool = False
 
     def asked(self) -> Sources | None:
-        """The sources that are asked as they are named: a catalogue, ranges, which tell themselves which bytes are at hand,
-        or those of a skim, which reads little. All others are joined first."""
+        """The sources that are asked as they are named: a catalogue, ranges beside one, which tell themselves which bytes
+        are at hand, or those of a skim, which reads little. All others are joined first."""
         forms = [source_of(word).form for word in self.sources.each()]
-        if "range" in forms:
-            return self.sources
-        if self.catalogue is not None:
+        if self.catalogue is not None and not self.has_ranges():
             return Sources([source_of(f"cat:{self.catalogue}").word()])
-        return self.sources if self.is_skim or forms == ["cat"] else None
+        return self.sources if self.catalogue is not None or self.is_skim or forms == ["cat"] else None
+
+    def has_ranges(self) -> bool:
+        """Whether a source is a range."""
+        return any(source_of(word).form == "range" for word in self.sources.each())
 
     def origins(self) -> list[Line]:
         """A line for each source, and for the catalogue."""
@@ -132,7 +137,10 @@ class Gathering:
 
     def joined(self) -> Sources:
         """The catalogue that the sources are joined to, so that they are read once. Which of them is damaged it doesn't
-        tell, so that is asked for if the join says that there may be one."""
+        tell, so that is asked for if the join says that there may be one. Ranges of which bytes are at hand alone are asked
+        themselves."""
+        if self.named.has_ranges() and not are_put_together(self.pieces(), self.named.sources):
+            return self.named.sources
         folder = self.opened.enter_context(tempfile.TemporaryDirectory(prefix="mxf_archive."))
         joined = os.path.join(folder, "joined")
         join = self.tool.call(["join", "--strict", "--out", joined], self.named.sources)
@@ -141,6 +149,11 @@ class Gathering:
             self.lines.append({"line": "asked", "command": "check"})
             self.lines += [line for line in self.tool.ask(["check"], self.named.sources) if line["line"] == "stop"]
         return Sources([Source("cat", "", joined).word()])
+
+    def pieces(self) -> Iterator[PieceLine]:
+        """How the sources end."""
+        lines = self.tool.ask(["show", "--skim"], self.named.sources, ENDS.findall)
+        return (checked(line, PieceLine) for line in lines)
 
     def skimming(self) -> list[str]:
         """The option that passes over essence, if it is meant."""

@@ -8,9 +8,9 @@ import shlex
 from collections.abc import Iterator
 
 from mxf.calling import Tool
-from mxf.lines import Line
+from mxf.lines import Line, PieceLine, checked
 from mxf.report.asked import Words
-from mxf.sources import Sources
+from mxf.sources import Sources, are_put_together
 
 HINT = "hint: "  # before each hint
 HINTS = 20  # that are kept
@@ -38,10 +38,14 @@ class Asking:
         self.hints: list[str] = []
 
     def join(self, folder: str) -> None:
-        """Reads the sources once into a catalogue, which is asked from now on where it knows as much as they do. Ranges
-        alone tell which bytes are at hand, and a skim reads little, as a catalogue does."""
+        """Reads the sources once into a catalogue, which is asked from now on where it knows as much as they do. Ranges of
+        which bytes are at hand alone tell that themselves, and a skim reads little, as a catalogue does."""
         forms = {source.partition(":")[0] for source in self.sources.each()}
-        if self.is_skimming or "range" in forms or forms == {"cat"}:
+        if self.is_skimming or forms == {"cat"}:
+            return
+        if "range" in forms and not are_put_together(
+            (checked(line, PieceLine) for line in self.pieces()), self.sources
+        ):
             return
         joined = os.path.join(folder, "joined")
         collections.deque(self.lines_by(["join", "--out", joined], self.sources), maxlen=0)
