@@ -19,6 +19,9 @@ CLOSING = {
     "units": "units", "verify": "verified", "describe": "packages", "find": "fragments",
 }  # fmt: skip
 
+# The same of a command with an option.
+CLOSING_WITH = {("check", "--doubts"): "doubts"}
+
 BLOCK = 1 << 16  # bytes of lines that are looked at together, at least
 
 # What of whole lines is kept, each by itself. That of many lines takes less time together than of each.
@@ -126,8 +129,10 @@ class Closing:
     """The line that a call prints whatever it finds."""
 
     def __init__(self, call: Call) -> None:
-        self.program, self.command = call.words[:2]
-        self.begin = b'{"line":"%s"' % CLOSING[self.command].encode()
+        self.program, self.command, *options = call.words
+        named = [CLOSING_WITH[self.command, option] for option in options if (self.command, option) in CLOSING_WITH]
+        self.line = named[0] if named else CLOSING[self.command]
+        self.begin = b'{"line":"%s"' % self.line.encode()
 
     def begins_in(self, block: bytes) -> bool:
         """Whether the line is among these."""
@@ -135,7 +140,7 @@ class Closing:
 
     def fault(self) -> OwnFault:
         """The fault of a call that doesn't print the line."""
-        return OwnFault(NO_PROGRAM, f"{self.program} {self.command} prints no line {CLOSING[self.command]}")
+        return OwnFault(NO_PROGRAM, f"{self.program} {self.command} prints no line {self.line}")
 
 
 class Tool:

@@ -24,24 +24,28 @@ ROW = """r.name, r.title, r.length, r.timecode, s."end", s.missing, s.orders, s.
 STATED = "recordings r JOIN states s ON s.recording = r.id AND s.number = r.state"
 LISTED = f"SELECT {ROW} FROM {STATED} "
 
+# The recordings of which something is in doubt. Doubts stand among the findings, by codes of their own.
+DOUBTED = "SELECT recording FROM findings WHERE code >= 'G' AND code < 'H'"
+
 # What is listed, by the option.
 LISTS = {
     "all": "ORDER BY r.name",
     "missing": "WHERE r.is_missing = 1 ORDER BY r.name",
-    "damaged": "WHERE r.is_damaged = 1 ORDER BY r.name",
+    "damaged": f"WHERE r.id IN (SELECT id FROM recordings WHERE is_damaged = 1 UNION {DOUBTED}) ORDER BY r.name",
     "disputed": "WHERE r.is_disputed = 1 ORDER BY r.name",
     "changed": "WHERE r.is_changed = 1 ORDER BY r.name",
     "unverified": "WHERE r.verified < :since ORDER BY r.verified, r.name",
 }
 
 # What a page of all recordings shows: the row of a list, whether each is damaged, how many packets differed when it was
-# last verified, and whether bytes of its reference weren't verified then; whether it is gone, or couldn't be read, by the
-# last scan.
+# last verified, and whether bytes of its reference weren't verified then; whether something is in doubt; whether it is gone,
+# or couldn't be read, by the last scan.
 OVERVIEW = f"""
 SELECT {ROW}, r.is_damaged,
   coalesce((SELECT v.differs FROM verifications v WHERE v.recording = r.id ORDER BY v.number DESC LIMIT 1), 0) AS differs,
   coalesce((SELECT v.bytes <> v.all_bytes FROM verifications v WHERE v.recording = r.id ORDER BY v.number DESC LIMIT 1), 0)
     AS is_partly_verified,
+  r.id IN ({DOUBTED}) AS is_in_doubt,
   coalesce((SELECT c.is_gone FROM scanned c WHERE c.name = r.name), 0) AS is_gone,
   coalesce((SELECT c.status > 1 FROM scanned c WHERE c.name = r.name), 0) AS is_unread
 FROM {STATED} ORDER BY r.name

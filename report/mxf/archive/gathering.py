@@ -26,8 +26,8 @@ INDEXES = 16  # of which edit units are counted
 UNITS = 1_000_000  # that mxf_tool reports in one call
 SMALL = 1 << 24  # bytes of a catalogue that several calls may hold at once
 
-# What is asked of a recording first, in this order.
-COMMANDS = ("show", "describe", "check", "plan", "map")
+# What is asked of a recording first, in this order, and by which options.
+COMMANDS = {"show": (), "describe": (), "check": ("--doubts",), "plan": (), "map": ()}
 
 # Lines of `show` that are kept: of packets those in dispute, of items identifiers, and all others but how sources end.
 NOTE = b'{"line":"note"'
@@ -92,7 +92,10 @@ class Gathering:
     def ask(self, sources: Sources) -> None:
         """Begins the calls of the commands, as many as may go on at once."""
         are_beside = self.is_beside and is_small_catalogue(sources)
-        self.calls = [self.tool.call([command, *self.skimming()], sources, not are_beside) for command in COMMANDS]
+        self.calls = [
+            self.tool.call([command, *options, *self.skimming()], sources, not are_beside)
+            for command, options in COMMANDS.items()
+        ]
         self.waiting += self.calls
         self.begin(len(COMMANDS) if are_beside else 1)
 
@@ -118,7 +121,7 @@ class Gathering:
         are_all_begun = not self.waiting
         self.waiting += units.values()
         self.begin(int(are_all_begun))
-        for command, call in zip(COMMANDS[1:], self.calls[1:]):
+        for command, call in zip([*COMMANDS][1:], self.calls[1:]):
             self.lines.append({"line": "asked", "command": command})
             self.lines += self.lines_of(call, without(b'{"line":"row"'))
         for index_sid, call in units.items():

@@ -36,7 +36,10 @@ class Facts(Grounds):
         mapped = Mapped(tool.ask("map", "--extents", "--columns", str(CELLS), "--rows", "1"))
         shown = Shown(tool.ask("show"), mapped.numbers["cell"])
         super().__init__(
-            mapped, shown, Checked(tool.ask("check", "--hints", "always"), tool.hints), Planned(tool.ask("plan"))
+            mapped,
+            shown,
+            Checked(tool.ask("check", "--doubts", "--hints", "always"), tool.hints),
+            Planned(tool.ask("plan")),
         )
         self.tool, self.is_skimmed, self.span = tool, tool.is_skimming, words.span()
         self.told = told_of(tool, self.shown)

@@ -66,6 +66,14 @@ class Judged:
         """What is found wrong or missing, by the codes."""
         return [one for _, one in self.grounds.checked.by_code().kept]
 
+    def doubts(self) -> int:
+        """How many doubts there are."""
+        return self.grounds.checked.doubts["doubts"]
+
+    def doubted(self) -> Sequence[Alike]:
+        """What is in doubt, by the codes."""
+        return [one for _, one in self.grounds.checked.doubted_by_code().kept]
+
     def shifted(self) -> list[str]:
         """The hints that say which OFFSET is wrong."""
         return ["".join(parts) for parts in self.grounds.checked.shifted()]

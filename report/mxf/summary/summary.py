@@ -97,10 +97,10 @@ class Summary:
         return f"{first} to {last}" if last else f"from {first} on"
 
     def found(self) -> Iterator[Row]:
-        """What is found wrong or missing, in one row: what is found at several offsets stands once."""
-        told = [one.text() for one in self.judged.found()]
+        """What is found wrong or missing, and what is in doubt, in one row: what stands at several offsets is told once."""
+        told = [one.text() for one in (*self.judged.found(), *self.judged.doubted())]
         rest = len(told) - FOUND
-        more = [f"{count_text(rest, 'other')}, which mxf_tool check tells"] if rest > 0 else []
+        more = [f"{count_text(rest, 'other')}, which {self.check()} tells"] if rest > 0 else []
         if told:
             yield "Found", "; ".join(told[:FOUND] + more)
 
@@ -132,7 +132,11 @@ class Summary:
             return " ".join(["mxf_tool sources", *named])
         if self.judged.order_count():
             return " ".join(["mxf_report", *named, *map(word_of, self.judged.orders()[:ORDERS])])
-        return " ".join(["mxf_tool check", *named]) if self.judged.findings() else None
+        return " ".join([self.check(), *named]) if self.judged.findings() or self.judged.doubts() else None
+
+    def check(self) -> str:
+        """The command that tells what is found, and what is in doubt if anything is."""
+        return "mxf_tool check --doubts" if self.judged.doubts() else "mxf_tool check"
 
     def members(self) -> Mapping[str, object]:
         """The same as members of an object, with all pictures and sounds."""
@@ -165,6 +169,8 @@ class Summary:
             "end": self.judged.end(),
             "findings": self.judged.findings(),
             "found": [one.members() for one in self.judged.found()],
+            "doubts": self.judged.doubts(),
+            "doubted": [one.members() for one in self.judged.doubted()],
             "disputed": self.judged.disputed(),
             "hints": self.judged.shifted(),
             "ordered": self.judged.order_count(),
