@@ -5,6 +5,7 @@ import contextlib
 import io
 import os
 import pathlib
+import re
 import subprocess
 from collections.abc import Callable, Iterator, Sequence
 from types import TracebackType
@@ -21,6 +22,9 @@ CLOSING = {
 
 # The same of a command with an option.
 CLOSING_WITH = {("check", "--doubts"): "doubts"}
+
+# A line that says how a source ends.
+PIECE = re.compile(rb'^\{"line":"piece".*$', re.MULTILINE)
 
 BLOCK = 1 << 16  # bytes of lines that are looked at together, at least
 
@@ -217,6 +221,10 @@ class Tool:
     def other(self, fault: LineFault) -> OwnFault:
         """The fault of a program that isn't mxf_tool."""
         return OwnFault(NO_PROGRAM, f"{self.program} prints {fault}")
+
+    def pieces(self, sources: Sources) -> list[Line]:
+        """How sources end. A skim says it as a reading does."""
+        return self.ask(["show", "--skim"], sources, PIECE.findall)
 
     def ask(self, words: Sequence[str], sources: Sources, keeps: Keeps = bytes.splitlines) -> list[Line]:
         """The lines that a command prints of the sources, as far as they are kept."""

@@ -9,7 +9,7 @@ import contextlib
 import os
 import re
 import tempfile
-from collections.abc import Iterable, Iterator
+from collections.abc import Iterable
 from typing import NamedTuple
 
 from mxf import moments
@@ -17,7 +17,7 @@ from mxf.archive.origins import IDENTIFIED, origin_of
 from mxf.calling import Call, Keeps, Tool
 from mxf.faults import ToolFault
 from mxf.files import sha256_of
-from mxf.lines import Line, PieceLine, checked, take_lines
+from mxf.lines import Line, take_lines
 from mxf.packages import Packages
 from mxf.sources import Source, Sources, are_put_together, source_of
 
@@ -35,9 +35,6 @@ KEPT = re.compile(
     rb'^(?:\{"line":"(?!note"|item"|piece").*|%s.*|\{"line":"note".*"disputed":true.*)$' % IDENTIFIED.pattern,
     re.MULTILINE,
 )
-
-# Those that say how sources end.
-ENDS = re.compile(rb'^\{"line":"piece".*$', re.MULTILINE)
 
 # Why mxf_tool doesn't count edit units.
 TOO_MANY, NO_LAST = "too many units", "no last unit"
@@ -142,7 +139,7 @@ class Gathering:
         """The catalogue that the sources are joined to, so that they are read once. Which of them is damaged it doesn't
         tell, so that is asked for if the join says that there may be one. Ranges of which bytes are at hand alone are asked
         themselves."""
-        if self.named.has_ranges() and not are_put_together(self.pieces(), self.named.sources):
+        if self.named.has_ranges() and not are_put_together(self.tool.pieces(self.named.sources), self.named.sources):
             return self.named.sources
         folder = self.opened.enter_context(tempfile.TemporaryDirectory(prefix="mxf_archive."))
         joined = os.path.join(folder, "joined")
@@ -152,11 +149,6 @@ class Gathering:
             self.lines.append({"line": "asked", "command": "check"})
             self.lines += [line for line in self.tool.ask(["check"], self.named.sources) if line["line"] == "stop"]
         return Sources([Source("cat", "", joined).word()])
-
-    def pieces(self) -> Iterator[PieceLine]:
-        """How the sources end."""
-        lines = self.tool.ask(["show", "--skim"], self.named.sources, ENDS.findall)
-        return (checked(line, PieceLine) for line in lines)
 
     def skimming(self) -> list[str]:
         """The option that passes over essence, if it is meant."""
