@@ -27,7 +27,8 @@ WITH_FIRST = (
     verifying.try_unmounted,
 )  # fmt: skip
 ALONE = (
-    gathering.try_first_day_killed, gathering.try_kills, gathering.try_signals, gathering.try_terminal, names.try_run_ins, names.try_others,
+    gathering.try_first_day_killed, gathering.try_kills, gathering.try_signals, gathering.try_terminal,
+    gathering.try_damaged_whole, names.try_run_ins, names.try_others,
     names.try_places, names.try_odd_names, names.try_many, names.try_join, restores.try_restores, restores.try_units,
 )  # fmt: skip
 

@@ -21,7 +21,7 @@ STEPS = (
     "join --strict",
     "show --json",
     "describe --json",
-    "check --json cat:",
+    "check --doubts --json cat:",
     "check --json --sources",
     "plan --json",
     "map --json",
@@ -147,6 +147,21 @@ def try_damage(t: Trial, here: Folder) -> None:
     here.put("fault/known.cat", here.cat("whole"))
     here.scan()
     t.equal("it is tried again by the next scan", here.sql(ROW)[1], ("fault", 0, 0, 0, 0))
+
+
+def try_damaged_whole(t: Trial) -> None:
+    """Where the key of a packet of a whole file is lost, the file is read on behind it: what is ordered goes up to the footer
+    partition at 29184, which the header names."""
+    here = Folder(t, "hit")
+    here.put("hit.mxf", t.long[:18944] + bytes(36) + t.long[18980:])
+    here.scan()
+    t.equal("a whole file that is damaged is read on behind", here.sql(ROW), [("hit", 1, 1, 1, 0)])
+    t.equal("its end is known", here.sql('SELECT "end" FROM states'), [(30265,)])
+    t.equal("what is ordered of it", here.orders(), [("hit", 18944, 29184, "gap", "18944.piece", "again")])
+    here.put("hit/18944.piece", t.long[18944:29184])
+    here.scan()
+    t.equal("beside what was restored nothing is ordered", here.sql(ROW), [("hit", 0, 1, 0, 0)])
+    t.equal("its files are known again", here.scan().out, "1 recording: 0 gathered, 1 as they were, 0 failed, 0 gone\n")
 
 
 def try_pages(t: Trial, here: Folder) -> None:

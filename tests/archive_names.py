@@ -259,7 +259,7 @@ def try_join(t: Trial) -> None:
     joins.write_text("")
     ended = here.scan("--joined", into, tool=counting)
     t.equal("a scan takes them", (ended.status, ended.out.count("added ")), (0, 6))
-    t.equal("but for what changed, and what is damaged", joins.read_text(), "\n\n")
+    t.equal("but for what changed, and twice what is damaged: as a piece and as a range", joins.read_text(), "\n" * 3)
     t.equal("the catalogues are those that were taken", here.cat("0"), (into / "0.cat").read_bytes())
     t.equal("with their first days", here.verify()[:2], (0, []))
     t.equal("a folder of catalogues that isn't there is refused", here.scan("--joined", here.root / "none").status, 3)

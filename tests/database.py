@@ -53,10 +53,13 @@ FIELDS = {
                                          "header_bytes": "header-bytes", "index_bytes": "index-bytes",
                                          "index_sid": "index-sid", "body_offset": "body-offset", "body_sid": "body-sid",
                                          "link": "link"}),
-    "findings": ("check", "finding", {"code": "code", "offset": "offset", "text": "text"}),
+    "findings": ("check", ("finding", "doubt"), {"code": "code", "offset": "offset", "text": "text"}),
     "orders": ("plan", "restore", {"start": "start", "end": "end", "length": "length", "reason": "reason",
                                    "pack": "source", "is_inside": "inside", "is_again": "again"}),
 }  # fmt: skip
+
+# By which options a command is asked.
+OPTIONS = {"check": ["--doubts"]}
 
 # What the table of recordings has of the essence.
 ESSENCE = ("container", "coding", "picture", "sound")
@@ -94,7 +97,7 @@ def wanted_counts(said):
     notes = [line for line in said["show"] if line["line"] == "note"]
     numbers = {
         "packets": len(notes), "disputes": sum(line["disputed"] for line in notes), "end": planned["end"],
-        "findings": said["check"][-1]["findings"], "orders": planned["ranges"], "ordered": planned["bytes"],
+        "findings": next(line["findings"] for line in said["check"] if line["line"] == "findings"), "orders": planned["ranges"], "ordered": planned["bytes"],
         "open": planned["open"], **{name: mapped[name] for name in ("held", "hand", "missing")},
     }  # fmt: skip
     return {name: value_of(number) for name, number in numbers.items()}
@@ -113,10 +116,12 @@ def wanted_essence(said):
 def compare(tool, database, name, words):
     """Prints where the rows of a recording differ from the lines of the program."""
     connection = opened(database)
-    said = {command: lines_of(tool, command, words) for command in ("show", "describe", "check", "plan", "map")}
+    said = {command: lines_of(tool, command, [*OPTIONS.get(command, []), *words])
+            for command in ("show", "describe", "check", "plan", "map")}  # fmt: skip
     (recording,) = connection.execute("SELECT * FROM recordings WHERE name = ?", (name,))
     for table, (command, line_name, fields) in FIELDS.items():
-        lines = [line for line in said[command] if line["line"] == line_name and all(field in line for field in fields.values())]
+        names = line_name if isinstance(line_name, tuple) else (line_name,)
+        lines = [line for line in said[command] if line["line"] in names and all(field in line for field in fields.values())]
         want = [tuple(value_of(line[field]) for field in fields.values()) for line in lines]
         columns = ", ".join(f'"{column}"' for column in fields)
         order = '"offset"' if table == "partitions" else "number"
@@ -229,6 +234,7 @@ def compare_views(connection, name, said):
     found = lines_in(said, "check", "finding")
     damaged = [(f"{line['code']} {line['text']}", line["offset"]) for line in found if line["code"] in ("F04", "F10", "F11")]
     damaged += [(line["stop"], line.get("at")) for line in lines_in(said, "check", "stop") if line["stop"] in DAMAGED]
+    damaged += [(f"doubt {line['code']} {line['text']}", line["offset"]) for line in lines_in(said, "check", "doubt")]
     notes = [line for line in lines_in(said, "show", "note") if line["disputed"]]
     packages, clips = lines_in(said, "describe", "package"), lines_in(said, "describe", "clip")
     uids = [(line["uid"], f"{line['kind']} package") for line in packages if "uid" in line]

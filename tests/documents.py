@@ -587,6 +587,11 @@ def formats_findings():
     return {re.sub(r"\W.*", "", row[0].lstrip("[")): row[-1] for row in rows_below("CODE")}
 
 
+def formats_doubts():
+    """The text of each doubt, by docs/FORMATS.md."""
+    return {row[0]: row[-1] for row in rows_below("Doubt")}
+
+
 def all_of(pattern, text):
     """What a pattern finds in a text."""
     return dict.fromkeys(re.findall(pattern, text, re.MULTILINE), True)
@@ -620,6 +625,7 @@ def retold():
         ("form of a source", formats_forms(), GUIDE, forms_in(guide)),
         ("form of a source", formats_forms(), MAN, forms_in(man)),
         ("text of", formats_findings(), GUIDE, pairs_of(r"^\| (F\d+) \| ([^|]+?) \|", guide)),
+        ("text of", formats_doubts(), GUIDE, pairs_of(r"^\| (G\d+) \| ([^|]+?) \|", guide)),
         ("text of", formats_findings(), MAN, pairs_of(r"^(F\d+)\n(.+)$", man)),
         ("text of", formats_findings(), codes, pairs_of(r'Code::(F\d+) => "(.*)"', text_of(TOP / codes))),
     )

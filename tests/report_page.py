@@ -42,6 +42,7 @@ UNSEEN = {"style", "script", "title", "head", "defs"}
 INLINE = {"bdi", "code", "strong", "span", "tspan", "a"}
 CUT = 200
 NAMED = 8  # sources of a reading that are named
+FEW = 4  # places of a finding that stand one by one
 
 
 class Table:
@@ -125,7 +126,8 @@ class Page(html.parser.HTMLParser):
         if "svg" in self.open and self.open[-1] == "title":
             self.titles[section].append(data)
         elif not UNSEEN.intersection(self.open):
-            self.seen += data
+            is_folded = "details" in self.open and "summary" not in self.open
+            self.seen += "" if is_folded else data
             self.text[section] += data
         if {"td", "th"}.intersection(self.open) and "title" not in self.open:
             self.cell += data
@@ -302,8 +304,31 @@ def differences_of_findings(page, told):
         found[line["code"], line["text"]].append(str(line["offset"]))
     want = []
     for (code, text), offsets in sorted(found.items()):
-        want.append([code, text, str(len(offsets)), numbers_text(offsets, 24, "check"), advice[code]])
+        places = numbers_text(offsets, CUT, "check")
+        ends = f"{offsets[0]} to {offsets[-1]}" if len(offsets) > FEW else ""
+        want.append([code, text, str(len(offsets)), ends + places, advice[code]])
     yield from differences_of_rows(page, "By code", want, "findings")
+    yield from differences_of_doubts(page, told)
+
+
+def differences_of_doubts(page, told):
+    """How the doubts differ: of each code how often it is in doubt, where, and what it may be. Above a doubt nothing is said to
+    be whole."""
+    lines = told.lines("check", "--doubts", name="doubt")
+    found = collections.defaultdict(list)
+    for line in lines:
+        found[line["code"], line["text"]].append(str(line["offset"]))
+    meanings = {code: meaning.replace("`", "") for code, (_, meaning) in guide_doubts().items()}
+    want = []
+    for (code, text), offsets in sorted(found.items()):
+        places = numbers_text(offsets, CUT, "check --doubts")
+        ends = f"{offsets[0]} to {offsets[-1]}" if len(offsets) > FEW else ""
+        want.append([code, text, str(len(offsets)), ends + places, meanings[code]])
+    yield from differences_of_rows(page, "Doubts by code", want, "findings")
+    if found and (f"{len(found)} thing" not in page.text["top"] or "in doubt" not in page.text["top"]):
+        yield f"the sentence doesn't say that {len(found)} things are in doubt"
+    if found and re.search(r"Whole:|othing (else )?is found", page.text["top"] + page.text["findings"]):
+        yield "it is said to be whole above a doubt"
 
 
 def numbers_text(numbers, most, command):
@@ -536,6 +561,13 @@ def guide():
     return {code: (name, advice) for code, name, advice in rows}
 
 
+def guide_doubts():
+    """The doubts of docs/GUIDE.md: the text of each, and what it may be."""
+    text = (TOP / "docs" / "GUIDE.md").read_text(encoding="utf-8")
+    rows = re.findall(r"^\| (G\d\d) \| (.*?) \| (.*) \|$", text, re.MULTILINE)
+    return {code: (name, meaning) for code, name, meaning in rows}
+
+
 def guide_verdicts():
     """The words of a verdict that docs/GUIDE.md has, in their order."""
     text = (TOP / "docs" / "GUIDE.md").read_text(encoding="utf-8")
@@ -559,6 +591,7 @@ def differences_of_words():
     standings = {*first_words("STANDING, the first that fits", text), *first_words("WORD, the first that fits", text)}
     pairs = (
         ("findings", pages.FINDINGS, guide()),
+        ("doubts", pages.DOUBTS, guide_doubts()),
         ("words of a verdict", [verdict.words for verdict in verdicts.OF_RECORDING], guide_verdicts()),
         ("characters of a map", set(pages.MARKS), set(first_words("Character", text))),
         ("reasons", set(pages.REASONS), set(first_words("REASON", text))),

@@ -5,6 +5,7 @@ import contextlib
 import io
 import os
 import pathlib
+import re
 import subprocess
 from collections.abc import Callable, Iterator, Sequence
 from types import TracebackType
@@ -18,6 +19,12 @@ CLOSING = {
     "join": "joined", "map": "map", "show": "chain", "check": "findings", "plan": "planned", "sources": "sources",
     "units": "units", "verify": "verified", "describe": "packages", "find": "fragments",
 }  # fmt: skip
+
+# The same of a command with an option.
+CLOSING_WITH = {("check", "--doubts"): "doubts"}
+
+# A line that says how a source ends.
+PIECE = re.compile(rb'^\{"line":"piece".*$', re.MULTILINE)
 
 BLOCK = 1 << 16  # bytes of lines that are looked at together, at least
 
@@ -126,8 +133,10 @@ class Closing:
     """The line that a call prints whatever it finds."""
 
     def __init__(self, call: Call) -> None:
-        self.program, self.command = call.words[:2]
-        self.begin = b'{"line":"%s"' % CLOSING[self.command].encode()
+        self.program, self.command, *options = call.words
+        named = [CLOSING_WITH[self.command, option] for option in options if (self.command, option) in CLOSING_WITH]
+        self.line = named[0] if named else CLOSING[self.command]
+        self.begin = b'{"line":"%s"' % self.line.encode()
 
     def begins_in(self, block: bytes) -> bool:
         """Whether the line is among these."""
@@ -135,7 +144,7 @@ class Closing:
 
     def fault(self) -> OwnFault:
         """The fault of a call that doesn't print the line."""
-        return OwnFault(NO_PROGRAM, f"{self.program} {self.command} prints no line {CLOSING[self.command]}")
+        return OwnFault(NO_PROGRAM, f"{self.program} {self.command} prints no line {self.line}")
 
 
 class Tool:
@@ -212,6 +221,10 @@ class Tool:
     def other(self, fault: LineFault) -> OwnFault:
         """The fault of a program that isn't mxf_tool."""
         return OwnFault(NO_PROGRAM, f"{self.program} prints {fault}")
+
+    def pieces(self, sources: Sources) -> list[Line]:
+        """How sources end. A skim says it as a reading does."""
+        return self.ask(["show", "--skim"], sources, PIECE.findall)
 
     def ask(self, words: Sequence[str], sources: Sources, keeps: Keeps = bytes.splitlines) -> list[Line]:
         """The lines that a command prints of the sources, as far as they are kept."""

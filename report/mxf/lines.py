@@ -164,6 +164,10 @@ FindingLine = TypedDict("FindingLine", {"code": str, "offset": int, "text": str}
 # How many findings there are.
 FindingsLine = TypedDict("FindingsLine", {"findings": int})
 
+# A doubt, which has the members of a finding, and how many there are.
+DoubtLine = FindingLine
+DoubtsLine = TypedDict("DoubtsLine", {"doubts": int})
+
 
 # Lines of `plan`.
 

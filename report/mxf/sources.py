@@ -4,10 +4,11 @@ from __future__ import annotations
 import os
 import re
 import stat
-from collections.abc import Sequence
+from collections.abc import Iterable, Sequence
 from typing import NamedTuple
 
 from mxf.faults import READ, USAGE, OwnFault
+from mxf.lines import Line, PieceLine, checked
 
 # The forms of a source, and how many numbers stand between each and its path.
 FORMS = {"at": 1, "range": 1, "slice": 2, "cat": 0}
@@ -62,6 +63,15 @@ class Sources(NamedTuple):
     def given(self) -> bytes:
         """The list that is handed in."""
         return b"".join(os.fsencode(word) + b"\n" for word in self.listed or [])
+
+
+def are_put_together(lines: Iterable[Line], sources: Sources) -> bool:
+    """Whether all bytes of the sources are in packets, by the lines `piece` of them: each begins and ends with one. Then a
+    catalogue of them says what they say, for none of their bytes are at hand alone."""
+    words = sources.each()
+    pieces = (checked(line, PieceLine) for line in lines)
+    offsets = ((piece, int(words[piece["source"] - 1].split(":", 2)[1])) for piece in pieces)
+    return all(piece["stop"] == "end" and piece["offset"] == offset for piece, offset in offsets)
 
 
 def is_read_once(word: str) -> bool:

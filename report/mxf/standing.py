@@ -10,6 +10,10 @@ DAMAGED = ("not-ul", "bad-length", "too-far")
 UNREADABLE = ("F04", "F10", "F11")
 
 
+# How the codes of doubts begin (docs/GUIDE.md): of what ordinary programs don't write and damage does. None is certain.
+DOUBT = "G"
+
+
 def is_damaged_at(stop: str) -> bool:
     """Whether a source that ends by this word is damaged."""
     return stop in DAMAGED
@@ -18,6 +22,11 @@ def is_damaged_at(stop: str) -> bool:
 def is_unreadable(codes: Iterable[str]) -> bool:
     """Whether bytes can't be read, by the codes of findings."""
     return any(code in UNREADABLE for code in codes)
+
+
+def is_doubt(code: str) -> bool:
+    """Whether a code is that of a doubt, and not of a finding."""
+    return code.startswith(DOUBT)
 
 
 def is_lacking(missing: int, orders: int) -> bool:

@@ -7,7 +7,7 @@ from typing import Any
 
 from mxf import moments
 from mxf.archive import scanned
-from mxf.archive.printing import number_or_none
+from mxf.archive.printing import number_or_none, width_of
 from mxf.faults import USAGE, OwnFault
 
 # The columns of a list.
@@ -24,24 +24,28 @@ ROW = """r.name, r.title, r.length, r.timecode, s."end", s.missing, s.orders, s.
 STATED = "recordings r JOIN states s ON s.recording = r.id AND s.number = r.state"
 LISTED = f"SELECT {ROW} FROM {STATED} "
 
+# The recordings of which something is in doubt. Doubts stand among the findings, by codes of their own.
+DOUBTED = "SELECT recording FROM findings WHERE code >= 'G' AND code < 'H'"
+
 # What is listed, by the option.
 LISTS = {
     "all": "ORDER BY r.name",
     "missing": "WHERE r.is_missing = 1 ORDER BY r.name",
-    "damaged": "WHERE r.is_damaged = 1 ORDER BY r.name",
+    "damaged": f"WHERE r.id IN (SELECT id FROM recordings WHERE is_damaged = 1 UNION {DOUBTED}) ORDER BY r.name",
     "disputed": "WHERE r.is_disputed = 1 ORDER BY r.name",
     "changed": "WHERE r.is_changed = 1 ORDER BY r.name",
     "unverified": "WHERE r.verified < :since ORDER BY r.verified, r.name",
 }
 
 # What a page of all recordings shows: the row of a list, whether each is damaged, how many packets differed when it was
-# last verified, and whether bytes of its reference weren't verified then; whether it is gone, or couldn't be read, by the
-# last scan.
+# last verified, and whether bytes of its reference weren't verified then; whether something is in doubt; whether it is gone,
+# or couldn't be read, by the last scan.
 OVERVIEW = f"""
 SELECT {ROW}, r.is_damaged,
   coalesce((SELECT v.differs FROM verifications v WHERE v.recording = r.id ORDER BY v.number DESC LIMIT 1), 0) AS differs,
   coalesce((SELECT v.bytes <> v.all_bytes FROM verifications v WHERE v.recording = r.id ORDER BY v.number DESC LIMIT 1), 0)
     AS is_partly_verified,
+  r.id IN ({DOUBTED}) AS is_in_doubt,
   coalesce((SELECT c.is_gone FROM scanned c WHERE c.name = r.name), 0) AS is_gone,
   coalesce((SELECT c.status > 1 FROM scanned c WHERE c.name = r.name), 0) AS is_unread
 FROM {STATED} ORDER BY r.name
@@ -82,6 +86,14 @@ SHOWN = {
         ORDER BY verification, number""",
 }
 
+# What of it a table says otherwise: a finding that stands at several offsets is one row.
+TABLED = {
+    "findings": """SELECT DISTINCT code, count(*) OVER alike AS times, first_value("offset") OVER alike AS first,
+        last_value("offset") OVER alike AS last, text FROM findings WHERE recording = ?
+        WINDOW alike AS (PARTITION BY code, text ORDER BY number ROWS BETWEEN UNBOUNDED PRECEDING AND UNBOUNDED FOLLOWING)
+        ORDER BY code, text""",
+}
+
 ORDERS = """
 SELECT r.name AS recording, o.start, o."end", o.reason, o.is_inside, o.is_again, c.files
 FROM recordings r JOIN orders o ON o.recording = r.id LEFT JOIN scanned c ON c.name = r.name
@@ -106,9 +118,9 @@ def listed(connection: Connection, what: str, days: int | None) -> Rows:
 
 
 def layout_of(rows: Rows) -> str:
-    """How a list is laid out: the two names and the time of a verification are as wide as the widest."""
+    """How a list is laid out: the two names and the time of a verification are as wide as the widest that has room."""
     name, title, verified = (
-        max(map(len, [HEADS[place], *(row[place] or "-" for row in rows)])) for place in (0, 1, HEADS.index("verified"))
+        width_of(HEADS[place], (row[place] for row in rows)) for place in (0, 1, HEADS.index("verified"))
     )
     return f"%-{name}s  %-{title}s  {LAYOUT}  %-{verified}s  %s"
 
@@ -118,9 +130,10 @@ def before(days: int) -> str:
     return moments.text_of(moments.now() - days * moments.DAY) or "0"
 
 
-def shown(connection: Connection, identity: int) -> list[tuple[str, list[str], Rows]]:
-    """All of a recording: each table that has something of it."""
-    parts = [(table, *answer_of(connection, question, (identity,))) for table, question in SHOWN.items()]
+def shown(connection: Connection, identity: int, form: str) -> list[tuple[str, list[str], Rows]]:
+    """All of a recording: each table that has something of it, for this form of an answer."""
+    questions = {**SHOWN, **TABLED} if form == "table" else SHOWN
+    parts = [(table, *answer_of(connection, question, (identity,))) for table, question in questions.items()]
     return [part for part in parts if part[2]]
 
 

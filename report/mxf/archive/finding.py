@@ -51,7 +51,7 @@ def find(words: Words) -> int:
     """Prints what has all of the words; status 1 if nothing has."""
     with database.reading(words.database) as connection:
         rows = found(connection, words.word)
-    width = max(map(len, [HEADS[0], *(row[0] for row in rows)]))
+    width = printing.width_of(HEADS[0], (row[0] for row in rows))
     printing.print_answer(words.form, HEADS, rows, f"%-{width}s  %-17s  %s")
     return 0 if rows else 1
 

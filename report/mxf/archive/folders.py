@@ -60,6 +60,11 @@ class Found:
         """Whether the bytes of all its pieces and ranges are put together."""
         return any(file.form == "range" for file in self.files)
 
+    def with_range(self) -> Found:
+        """The same with the file that is all of it as a range, if there is one: it lies in no folder of its own."""
+        files = [file if "/" in file.path else file._replace(form="range") for file in self.files]
+        return dataclasses.replace(self, files=files)
+
     def path_of(self, file: File) -> str:
         """The path of a file of it, from the root on."""
         return os.path.join(self.folder, file.path)

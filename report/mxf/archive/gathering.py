@@ -19,15 +19,15 @@ from mxf.faults import ToolFault
 from mxf.files import sha256_of
 from mxf.lines import Line, take_lines
 from mxf.packages import Packages
-from mxf.sources import Source, Sources, source_of
+from mxf.sources import Source, Sources, are_put_together, source_of
 
 FORMAT = 1  # of these lines
 INDEXES = 16  # of which edit units are counted
 UNITS = 1_000_000  # that mxf_tool reports in one call
 SMALL = 1 << 24  # bytes of a catalogue that several calls may hold at once
 
-# What is asked of a recording first, in this order.
-COMMANDS = ("show", "describe", "check", "plan", "map")
+# What is asked of a recording first, in this order, and by which options.
+COMMANDS = {"show": (), "describe": (), "check": ("--doubts",), "plan": (), "map": ()}
 
 # Lines of `show` that are kept: of packets those in dispute, of items identifiers, and all others but how sources end.
 NOTE = b'{"line":"note"'
@@ -50,14 +50,16 @@ class Named(NamedTuple):
     is_skim: bool = False
 
     def asked(self) -> Sources | None:
-        """The sources that are asked as they are named: a catalogue, ranges, which tell themselves which bytes are at hand,
-        or those of a skim, which reads little. All others are joined first."""
+        """The sources that are asked as they are named: a catalogue, ranges beside one, which tell themselves which bytes
+        are at hand, or those of a skim, which reads little. All others are joined first."""
         forms = [source_of(word).form for word in self.sources.each()]
-        if "range" in forms:
-            return self.sources
-        if self.catalogue is not None:
+        if self.catalogue is not None and not self.has_ranges():
             return Sources([source_of(f"cat:{self.catalogue}").word()])
-        return self.sources if self.is_skim or forms == ["cat"] else None
+        return self.sources if self.catalogue is not None or self.is_skim or forms == ["cat"] else None
+
+    def has_ranges(self) -> bool:
+        """Whether a source is a range."""
+        return any(source_of(word).form == "range" for word in self.sources.each())
 
     def origins(self) -> list[Line]:
         """A line for each source, and for the catalogue."""
@@ -87,7 +89,10 @@ class Gathering:
     def ask(self, sources: Sources) -> None:
         """Begins the calls of the commands, as many as may go on at once."""
         are_beside = self.is_beside and is_small_catalogue(sources)
-        self.calls = [self.tool.call([command, *self.skimming()], sources, not are_beside) for command in COMMANDS]
+        self.calls = [
+            self.tool.call([command, *options, *self.skimming()], sources, not are_beside)
+            for command, options in COMMANDS.items()
+        ]
         self.waiting += self.calls
         self.begin(len(COMMANDS) if are_beside else 1)
 
@@ -113,7 +118,7 @@ class Gathering:
         are_all_begun = not self.waiting
         self.waiting += units.values()
         self.begin(int(are_all_begun))
-        for command, call in zip(COMMANDS[1:], self.calls[1:]):
+        for command, call in zip([*COMMANDS][1:], self.calls[1:]):
             self.lines.append({"line": "asked", "command": command})
             self.lines += self.lines_of(call, without(b'{"line":"row"'))
         for index_sid, call in units.items():
@@ -132,7 +137,10 @@ class Gathering:
 
     def joined(self) -> Sources:
         """The catalogue that the sources are joined to, so that they are read once. Which of them is damaged it doesn't
-        tell, so that is asked for if the join says that there may be one."""
+        tell, so that is asked for if the join says that there may be one. Ranges of which bytes are at hand alone are asked
+        themselves."""
+        if self.named.has_ranges() and not are_put_together(self.tool.pieces(self.named.sources), self.named.sources):
+            return self.named.sources
         folder = self.opened.enter_context(tempfile.TemporaryDirectory(prefix="mxf_archive."))
         joined = os.path.join(folder, "joined")
         join = self.tool.call(["join", "--strict", "--out", joined], self.named.sources)

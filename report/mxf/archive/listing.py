@@ -18,7 +18,7 @@ def show(words: Words) -> int:
     """Prints all of a recording."""
     with database.reading(words.database) as connection:
         identity = answering.identity_of(connection, words.name)
-        printing.print_parts(words.form, answering.shown(connection, identity))
+        printing.print_parts(words.form, answering.shown(connection, identity, words.form))
     return 0
 
 

@@ -12,8 +12,31 @@ CONTROL = dict.fromkeys((*range(0x20), *range(0x7F, 0xA0), *range(0x2028, 0x202F
 
 ENCODER = json.JSONEncoder(ensure_ascii=False, separators=(",", ":"))
 
+# The columns of names, which may be long, and how many letters of one a table has. The other forms have it whole.
+NAMES = ("recording", "name", "title", "company", "product", "version")
+WIDEST = 60
+
 Cells = Sequence[Any]  # the values of a row or a column
 Part = tuple[str, Sequence[str], Sequence[Cells]]  # a table with its name: its heads and its rows
+
+
+def width_of(head: str, names: Iterable[str | None]) -> int:
+    """How wide a column of names is."""
+    return min(WIDEST, max(map(len, [head, *(name or "-" for name in names)])))
+
+
+def fitted(value: object) -> object:
+    """A value in a column of names: a long one loses its end."""
+    return f"{value[: WIDEST - 1]}…" if isinstance(value, str) and len(value) > WIDEST else value
+
+
+def rows_fitted(heads: Sequence[str], rows: Sequence[Cells]) -> Sequence[Cells]:
+    """The rows of a table, whose names are no wider than a table has room for."""
+    places = [place for place, head in enumerate(heads) if head in NAMES]
+    places = [place for place in places if any(row[place] and len(row[place]) > WIDEST for row in rows)]
+    if not places:
+        return rows
+    return [[fitted(value) if place in places else value for place, value in enumerate(row)] for row in rows]
 
 
 def cell(value: object) -> str:
@@ -31,10 +54,10 @@ def print_lines(lines: Iterable[str]) -> None:
     sys.stdout.writelines(f"{shown(line)}\n" for line in lines)
 
 
-def print_laid_out(layout: str, heads: Cells, rows: Iterable[Cells]) -> None:
+def print_laid_out(layout: str, heads: Sequence[str], rows: Sequence[Cells]) -> None:
     """Prints the lines of a table by a layout for %."""
     print_lines([layout % tuple(heads)])
-    print_lines(layout % tuple("-" if value is None else value for value in row) for row in rows)
+    print_lines(layout % tuple("-" if value is None else value for value in row) for row in rows_fitted(heads, rows))
 
 
 def laid_out(head: str, column: Cells, is_last: bool) -> list[str]:
@@ -48,23 +71,23 @@ def laid_out(head: str, column: Cells, is_last: bool) -> list[str]:
     return [text.rjust(width) if is_number else text.ljust(width) for text in cells]
 
 
-def print_table(heads: Sequence[str], rows: Iterable[Cells]) -> None:
+def print_table(heads: Sequence[str], rows: Sequence[Cells]) -> None:
     """Prints columns side by side."""
-    columns = list(zip(*rows)) or [()] * len(heads)
+    columns = list(zip(*rows_fitted(heads, rows))) or [()] * len(heads)
     last = len(heads) - 1
     print_lines(
         map("  ".join, zip(*(laid_out(head, columns[place], place == last) for place, head in enumerate(heads))))
     )
 
 
-def print_csv(heads: Sequence[str], rows: Iterable[Cells]) -> None:
+def print_csv(heads: Sequence[str], rows: Sequence[Cells]) -> None:
     """Prints CSV by RFC 4180, with a line of heads. A value that there isn't is empty."""
     writer = csv.writer(sys.stdout)
     writer.writerow(heads)
     writer.writerows(rows)
 
 
-def print_json(heads: Sequence[str], rows: Iterable[Cells]) -> None:
+def print_json(heads: Sequence[str], rows: Sequence[Cells]) -> None:
     """Prints a JSON object a line, with a member for each column."""
     print_objects(dict(zip(heads, row)) for row in rows)
 
@@ -77,7 +100,7 @@ def print_objects(lines: Iterable[object]) -> None:
 FORMS = {"table": print_table, "csv": print_csv, "json": print_json}
 
 
-def print_answer(form: str, heads: Sequence[str], rows: Iterable[Cells], layout: str | None = None) -> None:
+def print_answer(form: str, heads: Sequence[str], rows: Sequence[Cells], layout: str | None = None) -> None:
     """Prints rows in a form of FORMS: a table by a layout for %, if there is one."""
     if form == "table" and layout is not None:
         print_laid_out(layout, heads, rows)

@@ -15,12 +15,12 @@ from mxf.described import Described
 from mxf.faults import DATA, OwnFault
 
 from mxf.lines import (
-    AnyLine, ChainLine, ClipLine, ClockLine, ContainerLine, DescribedLine, DisputeLine, EssenceLine, FindingLine, ItemLine,
-    LabelLine, Line, LineFault, MapCounts, NameLine, OrderLine, PackageLine, PackLine, PlannedLine, ReferenceLine,
+    AnyLine, ChainLine, ClipLine, ClockLine, ContainerLine, DescribedLine, DisputeLine, DoubtLine, EssenceLine, FindingLine,
+    ItemLine, LabelLine, Line, LineFault, MapCounts, NameLine, OrderLine, PackageLine, PackLine, PlannedLine, ReferenceLine,
     SampledPictureLine, SoundLine, StampLine, StopLine, Takers, TextLine, TimecodeLine, TrackLine, UidLine, UnitsLine, checked,
     take_line,
 )  # fmt: skip
-from mxf.standing import is_damaged_at, is_lacking, is_unreadable
+from mxf.standing import is_damaged_at, is_doubt, is_lacking, is_unreadable
 from mxf.written import Written
 
 Row = dict[str, Any]  # the values of a row, by the names of its columns
@@ -70,7 +70,8 @@ class Making:
         self.index_sid: int | None = None
         self.takers: dict[str, Takers] = {
             "show": self.takers_of_show(), "describe": self.takers_of_describe(),
-            "check": {"stop": (StopLine, self.take_stop), "finding": (FindingLine, self.take_finding)},
+            "check": {"stop": (StopLine, self.take_stop), "finding": (FindingLine, self.take_finding),
+                      "doubt": (DoubtLine, self.take_finding)},
             "plan": {"restore": (OrderLine, self.take_order), "planned": (PlannedLine, self.take_planned)},
             "map": {"map": (MapCounts, self.take_map)},
             "units": {"units": (UnitsLine, self.take_units), "uncounted": (AnyLine, self.take_uncounted)},
@@ -278,7 +279,7 @@ class Making:
             self.add_numbered("stops", at=line.get("at"), **columns_of(line, "source", "offset", "stop"))
 
     def take_finding(self, line: FindingLine) -> None:
-        """A finding."""
+        """A finding or a doubt, which the code tells apart."""
         self.add_numbered("findings", **columns_of(line, "code", "offset", "text"))
 
     def take_order(self, line: OrderLine) -> None:
@@ -309,12 +310,13 @@ class Making:
 
     def finish(self) -> Recording:
         """The recording with what all of its lines say of it together."""
-        self.state["findings"], self.state["disputes"] = len(self.rows["findings"]), len(self.rows["disputes"])
+        codes = [row["code"] for row in self.rows["findings"]]
+        self.state["findings"] = sum(not is_doubt(code) for code in codes)
+        self.state["disputes"] = len(self.rows["disputes"])
         described = self.described
         self.facts.update(title=described.title(), length=described.length(), timecode=described.timecode())
         self.facts["is_disputed"] = int(bool(self.rows["disputes"]))
         self.facts["is_missing"] = int(is_lacking(self.facts["is_missing"], self.state["orders"]))
-        codes = (row["code"] for row in self.rows["findings"])
         self.facts["is_damaged"] = int(bool(self.rows["stops"]) or is_unreadable(codes))
         self.rows["identifiers"] = [{"what": what, "uid": uid} for what, uid in self.identifiers]
         said = (self.state, self.facts, self.rows, [*self.texts])

@@ -125,16 +125,21 @@ class Scan:
         out = os.path.join(folder, "cat")
         is_taken = self.elsewhere is not None and self.elsewhere.take(found, out)
         ended = Ended(0, b"", b"") if is_taken else reader.join(found, out, self.large)
+        run_ins = [one.run_in for one in reader.behind_in(found)]
+        # Where a packet of a whole file is damaged, a range goes on behind.
+        read = found.with_range() if ended.status == 1 and not run_ins else found
+        if read.has_ranges() and not found.has_ranges():
+            ended = reader.join(read, out, self.large)
         if ended.status not in range(5):
             return failed("join", ended)
-        answer = Gathered(ended.status, run_ins=[one.run_in for one in reader.behind_in(found)])
+        answer = Gathered(ended.status, run_ins=run_ins)
         if ended.status <= 1:
             self.catalogues.place(out, self.catalogues.of(found.name))
         else:
             answer.fault = f"join ended with status {ended.status}: {ended.cause()}"
         self.add_first_day(reader, found, folder, answer)
         if ended.status <= 1:
-            answer.recording = self.recording_of(reader, found, ended.status == 1)
+            answer.recording = self.recording_of(reader, read, ended.status == 1)
         return answer
 
     def add_first_day(self, reader: Reader, found: Found, folder: str, answer: Gathered) -> None:

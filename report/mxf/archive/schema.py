@@ -29,6 +29,7 @@ CREATE INDEX recordings_verified ON recordings (verified, name);
 
 # What both have otherwise, before the parts of FILES that they lack are made; and what comes after them.
 OTHERWISE = """
+DROP VIEW damaged;
 DROP VIEW named;
 DROP TABLE words;
 ALTER TABLE states ADD COLUMN digest TEXT;
@@ -39,7 +40,7 @@ ALTER TABLE recordings ADD COLUMN sound TEXT;
 """
 REBUILT = "INSERT INTO words (words) VALUES ('rebuild');"
 
-FILES = ("schema.sql", "words.sql", "scanned.sql")
+FILES = ("schema.sql", "damaged.sql", "words.sql", "scanned.sql")
 
 
 def part(name: str) -> str:

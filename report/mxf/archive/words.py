@@ -172,7 +172,7 @@ COMMANDS: dict[str, tuple[str, tuple[Adds, ...]]] = {
     "list": ("print recordings", (
         DATABASE,
         one_of("what", "all", {
-            "missing": "those that lack bytes", "damaged": "those that can't be read, or aren't as they were",
+            "missing": "those that lack bytes", "damaged": "those that can't be read, aren't as they were, or are in doubt",
             "disputed": "those that are held in two readings", "changed": "those that aren't as on the first day",
         }, argument("--unverified-since", metavar="DAYS", dest="days", type=number,
                     help="those not verified for so many days")),

@@ -10,7 +10,7 @@ from collections.abc import Iterator
 from mxf.calling import Tool
 from mxf.lines import Line
 from mxf.report.asked import Words
-from mxf.sources import Sources
+from mxf.sources import Sources, are_put_together
 
 HINT = "hint: "  # before each hint
 HINTS = 20  # that are kept
@@ -38,10 +38,12 @@ class Asking:
         self.hints: list[str] = []
 
     def join(self, folder: str) -> None:
-        """Reads the sources once into a catalogue, which is asked from now on where it knows as much as they do. Ranges
-        alone tell which bytes are at hand, and a skim reads little, as a catalogue does."""
+        """Reads the sources once into a catalogue, which is asked from now on where it knows as much as they do. Ranges of
+        which bytes are at hand alone tell that themselves, and a skim reads little, as a catalogue does."""
         forms = {source.partition(":")[0] for source in self.sources.each()}
-        if self.is_skimming or "range" in forms or forms == {"cat"}:
+        if self.is_skimming or forms == {"cat"}:
+            return
+        if "range" in forms and not are_put_together(self.tool.pieces(self.sources), self.sources):
             return
         joined = os.path.join(folder, "joined")
         collections.deque(self.lines_by(["join", "--out", joined], self.sources), maxlen=0)
@@ -55,11 +57,8 @@ class Asking:
         if self.catalogue is None or command not in JOINED:
             return self.lines_by([command, *options], self.sources)
         lines = self.lines_by([command, *options], Sources([f"cat:{self.catalogue}"]))
-        return itertools.chain(self.pieces(), lines) if command == "show" else lines
-
-    def pieces(self) -> Iterator[Line]:
-        """How the sources end, which a catalogue of them doesn't say, and a skim says as a reading does."""
-        return (line for line in self.lines_by(["show", "--skim"], self.sources) if line["line"] == "piece")
+        # How the sources end a catalogue of them doesn't say.
+        return itertools.chain(self.tool.pieces(self.sources), lines) if command == "show" else lines
 
     def lines_by(self, words: list[str], sources: Sources) -> Iterator[Line]:
         """The lines of a call, whose hints are kept."""

@@ -38,7 +38,7 @@ DESCRIPTION = (
 
 EPILOG = (
     "A source SRC is at:OFFSET:PATH, range:OFFSET:PATH, slice:OFFSET:LENGTH:PATH or cat:PATH, as of mxf_tool, or the path "
-    "of a file: at:0:PATH of one that begins with a packet, cat:PATH of a catalogue, range:0:PATH of any other. "
+    "of a file: cat:PATH of a catalogue, range:0:PATH of any other. "
     "MXF_TOOL names another program."
 )
 

@@ -25,7 +25,8 @@ from mxf.standing import is_lacking
 class Kept(NamedTuple):
     """What a database has of a recording: its name; the name, length and first timecode of its main package; numbers of its
     last state; when it was last verified whole; whether it is damaged; how many packets differed when it was last verified,
-    and whether bytes weren't verified then; and whether the last scan didn't find it, or couldn't read it."""
+    and whether bytes weren't verified then; whether something is in doubt; and whether the last scan didn't find it, or
+    couldn't read it."""
 
     name: str
     title: str | None
@@ -40,6 +41,7 @@ class Kept(NamedTuple):
     is_damaged: int
     differs: int
     is_partly_verified: int
+    is_in_doubt: int
     is_gone: int
     is_unread: int
 
@@ -47,7 +49,8 @@ class Kept(NamedTuple):
         """The recording in few words, one of OF_DATABASE."""
         is_short = is_lacking(self.missing, self.orders)
         holds = self.is_gone, self.is_unread, self.differs, self.is_damaged, self.disputes, is_short
-        return first_of(OF_DATABASE, (*holds, self.is_partly_verified, self.findings, self.end is None))
+        doubts = self.findings, self.is_in_doubt, self.end is None
+        return first_of(OF_DATABASE, (*holds, self.is_partly_verified, *doubts))
 
     def there(self) -> int:
         """How many bytes are held or at hand, if the end of the recording is known."""

@@ -68,7 +68,7 @@ def bar_title(facts: Facts, begin: int, end: int) -> str:
     mapped = facts.mapped
     words = f"Bytes {mapped.end_of(begin)} to {mapped.end_of(end) - 1}: {MARKS[mapped.cells[begin]][1]}"
     named = [facts.shown.begins[cell] for cell in range(begin, end) if cell in facts.shown.begins]
-    names = [name for rows in named for name in rows.kept][:NAMES]
+    names = [name for rows in named for _, name in rows.kept][:NAMES]
     left = sum(rows.count for rows in named) - len(names)
     return words + (f" ({', '.join(names)}{f', and {left} more' if left else ''})" if names else "")
 

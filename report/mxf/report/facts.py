@@ -36,7 +36,10 @@ class Facts(Grounds):
         mapped = Mapped(tool.ask("map", "--extents", "--columns", str(CELLS), "--rows", "1"))
         shown = Shown(tool.ask("show"), mapped.numbers["cell"])
         super().__init__(
-            mapped, shown, Checked(tool.ask("check", "--hints", "always"), tool.hints), Planned(tool.ask("plan"))
+            mapped,
+            shown,
+            Checked(tool.ask("check", "--doubts", "--hints", "always"), tool.hints),
+            Planned(tool.ask("plan")),
         )
         self.tool, self.is_skimmed, self.span = tool, tool.is_skimming, words.span()
         self.told = told_of(tool, self.shown)
@@ -120,18 +123,19 @@ class Facts(Grounds):
         return [Verified(self.tool.ask("verify", *against, *strip.options), strip) for strip in strips]
 
     def begun_in(self, extent: ExtentLine) -> str:
-        """What begins in bytes that are held: the random index pack, the first packets in dispute, the first partitions, by
-        name if they are known, and how many more there are."""
+        """What begins in bytes that are held, by offset: the random index pack, the first packets in dispute, the first
+        partitions, by name if they are known; and how many more there are."""
         if extent["standing"] not in ("held", "disputed"):
             return ""
         rip, first, after = self.shown.rip, extent["start"], extent["end"]
         is_in = rip["standing"] == "one" and first <= rip["offset"] < after
-        names = [f"random index pack {rip['offset']}"] if is_in else []
-        places = between(self.told.readings.offsets, first, after)
-        names += [f"in dispute {place}" for place in places[:NAMES]]
-        names += [f"{len(places) - NAMES} more in dispute"] if len(places) > NAMES else []
+        begun = [(rip["offset"], "random index pack")] if is_in else []
+        disputed = between(self.told.readings.offsets, first, after)
+        begun += [(place, "in dispute") for place in disputed[:NAMES]]
         places = between(self.shown.rising, first, after)
         parts = {pack["offset"]: pack["part"] for pack in self.shown.partitions.kept}
-        named = [f"{parts[place]} partition {place}" for place in places[: 2 * NAMES] if place in parts]
+        named = [(place, f"{parts[place]} partition") for place in places[: 2 * NAMES] if place in parts]
+        names = [f"{name} {place}" for place, name in sorted(begun + named)]
+        names += [f"{len(disputed) - NAMES} more in dispute"] if len(disputed) > NAMES else []
         left = len(places) - len(named)
-        return ", ".join(names + named + ([count_text(left, "more partition")] if left else []))
+        return ", ".join(names + ([count_text(left, "more partition")] if left else []))

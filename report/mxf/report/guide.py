@@ -19,6 +19,18 @@ FINDINGS = {
     "F14": ("partition chain not whole", "Its causes mostly have findings of their own, F01 to F08, and it goes with them. Alone: no header partition stands at 0, no footer partition is held, or there is one too many of either."),
 }  # fmt: skip
 
+# The doubts of docs/GUIDE.md: the text of each, and what it may be. A test compares them.
+DOUBTS = {
+    "G01": ("header metadata without one Preface", "The key of the Preface is damaged, or a set became one. `describe` says nothing of such a copy."),
+    "G02": ("strange packet in header metadata", "The key of a set, of a fill or of the primer pack is damaged."),
+    "G03": ("index doesn't fit its partition", "The key of an index table segment or of a fill beside it is damaged, or IndexByteCount is. Edit units of that segment aren't known."),
+    "G06": ("strange packet", "Its key is damaged, and it was another packet: a partition pack, a random index pack, essence. Or it is data that only one program knows."),
+    "G07": ("essence that no track names", "The number of the track in its key is damaged. Or it is essence that the header metadata don't tell of."),
+    "G08": ("set's key doesn't fit its items", "The key of the set is damaged: its items are of another one."),
+    "G09": ("reference to no set", "An identifier is damaged, in the set that refers or in the one that it means."),
+    "G10": ("item that the primer lacks", "The tag of the item is damaged, or the primer pack."),
+}  # fmt: skip
+
 # The characters of a map (docs/FORMATS.md): the fill of a cell, and what it says.
 MARKS = {
     "!": ("disputed", "a packet in dispute has bytes here"),

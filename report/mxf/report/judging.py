@@ -76,9 +76,12 @@ def parts_of(grounds: Grounds) -> Iterator[str]:
     damaged, found = grounds.checked.damaged.count, grounds.checked.numbers["findings"]
     if damaged:
         yield f"{count_text(damaged, 'piece')} can't be read to the end"
-    findings = count_text(found, "thing is found wrong or missing", "things are found wrong or missing")
+    in_doubt = grounds.checked.doubts["doubts"]
     nothing = "nothing else" if damaged or differs or doubts else "nothing"
-    yield findings if found else f"{nothing} is found wrong"
+    if found or not in_doubt:
+        yield grounds.checked.found_text() if found else f"{nothing} is found wrong"
+    if in_doubt:
+        yield grounds.checked.doubted_text()
     orders = f"{are_text(planned['ranges'], 'other range' if differs else 'range')} to be restored"
     yield orders if planned["ranges"] else "nothing else is ordered" if differs else "nothing is to be restored"
     if planned["end"] is None:
@@ -96,6 +99,7 @@ def verdict_of(grounds: Grounds) -> Verdict:
         doubts_of(grounds),
         grounds.checked.damaged.count,
         grounds.checked.numbers["findings"],
+        grounds.checked.doubts["doubts"],
         planned["end"] is None,
     )
     return first_of(OF_RECORDING, holds)

@@ -6,30 +6,62 @@ from collections.abc import Iterable
 from functools import partial
 
 from mxf.lines import (
-    DisputedPlaceLine, FindingLine, FindingsLine, Line, PlannedLine, RestoreLine, StopLine, UnitsLine, take_lines,
+    DisputedPlaceLine, DoubtLine, DoubtsLine, FindingLine, FindingsLine, Line, PlannedLine, RestoreLine, StopLine, UnitsLine,
+    take_lines,
 )  # fmt: skip
 from mxf.report.rows import Rows
-from mxf.standing import is_damaged_at
+from mxf.standing import is_damaged_at, is_doubt
+from mxf.wording import are_text, count_text
 
 # The hint of a source whose partition packs all say that it begins elsewhere.
 SHIFTED = re.compile(r"(by its partition packs )(.*)( begins at \d+: OFFSET is \d+ too (?:high|low))")
 
-OFFSETS = 24  # of the findings of a code that are shown
+FEW = 4  # places of a code that stand one by one
+
+
+class Alike(Rows[FindingLine]):
+    """The findings or the doubts of one code: the first of them, and the last."""
+
+    last: FindingLine
+
+    def add(self, row: FindingLine) -> None:
+        """Counts one."""
+        super().add(row)
+        self.last = row
+
+    def are_few(self) -> bool:
+        """Whether all of them can stand one by one."""
+        return self.count <= FEW
+
+    def text(self) -> str:
+        """What is found or in doubt, with its code, and how often."""
+        word = "doubt " if is_doubt(self.last["code"]) else ""
+        times = f" ({self.count} times)" if self.count > 1 else ""
+        return f"{word}{self.last['code']} {self.last['text']}{times}"
+
+    def members(self) -> Line:
+        """The same as members of an object, with the first and the last offset."""
+        first, last = self.kept[0], self.last
+        places = {"count": self.count, "first": first["offset"], "last": last["offset"]}
+        return {"code": last["code"], "text": last["text"], **places}
 
 
 class Checked:
-    """What `check` says: which pieces are damaged, and of each code how often it is found, and its first offsets; and its
-    hints."""
+    """What `check` says: which pieces are damaged, of each code how often and where it is found or in doubt, and its hints."""
 
     def __init__(self, lines: Iterable[Line], hints: list[str]) -> None:
         self.hints = hints
         self.numbers: FindingsLine = {"findings": 0}
         self.damaged: Rows[StopLine] = Rows()
-        self.codes: dict[str, Rows[FindingLine]] = {}
+        self.doubts: DoubtsLine = {"doubts": 0}
+        self.codes: dict[str, Alike] = {}
+        self.doubted: dict[str, Alike] = {}
         take_lines(lines, {
             "stop": (StopLine, self.take_stop),
             "finding": (FindingLine, self.take_finding),
             "findings": (FindingsLine, partial(setattr, self, "numbers")),
+            "doubt": (DoubtLine, self.take_doubt),
+            "doubts": (DoubtsLine, partial(setattr, self, "doubts")),
         })  # fmt: skip
 
     def take_stop(self, line: StopLine) -> None:
@@ -39,14 +71,28 @@ class Checked:
 
     def take_finding(self, line: FindingLine) -> None:
         """A finding."""
-        self.codes.setdefault(line["code"], Rows(OFFSETS)).add(line)
+        self.codes.setdefault(line["code"], Alike()).add(line)
 
-    def by_code(self) -> Rows[tuple[str, Rows[FindingLine]]]:
-        """The codes in their order, with their findings."""
-        rows: Rows[tuple[str, Rows[FindingLine]]] = Rows()
-        for code in sorted(self.codes.items()):
-            rows.add(code)
-        return rows
+    def take_doubt(self, line: DoubtLine) -> None:
+        """A doubt."""
+        self.doubted.setdefault(line["code"], Alike()).add(line)
+
+    def by_code(self) -> Rows[tuple[str, Alike]]:
+        """The codes of findings in their order, with their findings."""
+        return rising(self.codes)
+
+    def doubted_by_code(self) -> Rows[tuple[str, Alike]]:
+        """The codes of doubts in their order, with their doubts."""
+        return rising(self.doubted)
+
+    def found_text(self) -> str:
+        """How many things are found: what is found at several offsets is one."""
+        kinds = count_text(len(self.codes), "thing is found wrong or missing", "things are found wrong or missing")
+        return kinds + places_text(self.codes, self.numbers["findings"])
+
+    def doubted_text(self) -> str:
+        """How many things are in doubt."""
+        return f"{are_text(len(self.doubted), 'thing')} in doubt{places_text(self.doubted, self.doubts['doubts'])}"
 
     def shifted(self) -> list[tuple[str, ...]]:
         """The hints that say how a wrong OFFSET would be right: what stands before the source, its name, and what follows."""
@@ -55,6 +101,19 @@ class Checked:
     def other_hints(self) -> list[str]:
         """The other hints."""
         return [hint for hint in self.hints if not SHIFTED.fullmatch(hint)]
+
+
+def rising(codes: dict[str, Alike]) -> Rows[tuple[str, Alike]]:
+    """Codes in their order, with what has them."""
+    rows: Rows[tuple[str, Alike]] = Rows()
+    for code in sorted(codes.items()):
+        rows.add(code)
+    return rows
+
+
+def places_text(codes: dict[str, Alike], count: int) -> str:
+    """At how many places codes are found, if they are more."""
+    return f" at {count} places" if count > len(codes) else ""
 
 
 class Planned:

@@ -60,6 +60,16 @@ class Readings:
             self.offsets.append(line["offset"])
 
 
+class Begun(Rows[tuple[int, str]]):
+    """What begins in a cell, by offset: the first are kept, whenever they are added."""
+
+    def add(self, row: tuple[int, str]) -> None:
+        """Counts an offset and what begins there, and keeps it in its place if there is room."""
+        self.count += 1
+        bisect.insort(self.kept, row)
+        del self.kept[self.most :]
+
+
 class Record(NamedTuple):
     """A reference to the set of an identification or of a package, and the lines of what the set says, by their names."""
 
@@ -107,7 +117,7 @@ class Shown:
         self.partitions: Rows[PartitionLine] = Rows()
         self.last: collections.deque[PartitionLine] = collections.deque(maxlen=NODES // 2)
         self.offsets: set[int] = set()
-        self.begins: dict[int, Rows[str]] = collections.defaultdict(lambda: Rows(NAMES))
+        self.begins: dict[int, Begun] = collections.defaultdict(lambda: Begun(NAMES))
         self.chain: ChainLine = {"chain": "broken"}
         self.preferred: PreferredLine = {"partition": None}
         self.rip: RipLine = {"standing": "none"}
@@ -152,7 +162,7 @@ class Shown:
         self.partitions.add(line)
         self.last.append(line)
         self.offsets.add(line["offset"])
-        self.begins[line["offset"] // self.cell].add(f"{line['part']} partition at {line['offset']}")
+        self.begin(line["offset"], f"{line['part']} partition at {line['offset']}")
 
     def take_reference(self, line: ReferenceLine) -> None:
         """A reference to a set that says which program wrote the file, or to that of a package."""
@@ -167,13 +177,17 @@ class Shown:
         """The random index pack."""
         self.rip = line
         if "offset" in line:
-            self.begins[line["offset"] // self.cell].add(f"random index pack at {line['offset']}")
+            self.begin(line["offset"], f"random index pack at {line['offset']}")
 
     def take_rip_entry(self, line: RipEntryLine) -> None:
         """A partition that the random index pack names."""
         self.entries.add(line)
         if line["standing"] == "missing":
-            self.begins[line["offset"] // self.cell].add(f"place {line['offset']} that the random index pack names")
+            self.begin(line["offset"], f"place {line['offset']} that the random index pack names")
+
+    def begin(self, offset: int, name: str) -> None:
+        """What begins at an offset."""
+        self.begins[offset // self.cell].add((offset, name))
 
     def notes(self) -> int:
         """How many packets are held, heads among them."""

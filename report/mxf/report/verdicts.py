@@ -23,17 +23,18 @@ PARTS_MISSING = Verdict("Parts are missing", "doubt", "with parts missing")
 NOT_ALL_VERIFIED = Verdict("Not all as the reference says", "doubt", "not all as the reference says")
 PIECE_UNREAD = Verdict("A piece wasn't read to its end", "doubt")
 FOUND_WRONG = Verdict("Held, with findings", "doubt", "held, with findings")
+IN_DOUBT = Verdict("Held, with doubts", "doubt", "held, with doubts")
 END_UNKNOWN = Verdict("Held as far as is known", "doubt", "held as far as is known")
 WHOLE = Verdict("Whole", "sound", "whole")
 
 # The verdicts of the page of a recording, the first that fits (docs/GUIDE.md). A test compares their words.
 OF_RECORDING = (
-    NOTHING_HELD, DISPUTED, DIFFERENT, PARTS_MISSING, NOT_ALL_VERIFIED, PIECE_UNREAD, FOUND_WRONG, END_UNKNOWN, WHOLE,
+    NOTHING_HELD, DISPUTED, DIFFERENT, PARTS_MISSING, NOT_ALL_VERIFIED, PIECE_UNREAD, FOUND_WRONG, IN_DOUBT, END_UNKNOWN, WHOLE,
 )  # fmt: skip
 
 # The verdicts of the recordings of a database; the worst first.
 OF_DATABASE = (
-    GONE, UNREADABLE, DIFFERENT, DAMAGED, DISPUTED, PARTS_MISSING, NOT_ALL_VERIFIED, FOUND_WRONG, END_UNKNOWN, WHOLE,
+    GONE, UNREADABLE, DIFFERENT, DAMAGED, DISPUTED, PARTS_MISSING, NOT_ALL_VERIFIED, FOUND_WRONG, IN_DOUBT, END_UNKNOWN, WHOLE,
 )  # fmt: skip
 
 

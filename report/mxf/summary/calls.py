@@ -14,7 +14,7 @@ from mxf.summary.judged import HINT, JOINED, Asking
 COMMANDS = {
     "show": (),
     "describe": (),
-    "check": ("--hints", "always"),
+    "check": ("--doubts", "--hints", "always"),
     "plan": (),
     "map": ("--columns", "1", "--rows", "1"),
 }

@@ -1,6 +1,7 @@
 """What differs between two recordings, or two copies of one."""
 from __future__ import annotations
 
+import itertools
 from collections.abc import Iterable, Iterator, Mapping, Sequence
 from typing import NamedTuple
 
@@ -57,13 +58,14 @@ def grouped(rows: Iterable[Row]) -> Mapping[str, list[str]]:
 
 
 def missing_rows(tool: Tool, asking: Asking) -> Iterator[Row]:
-    """Which ranges aren't held, the first of them."""
+    """Which ranges aren't held, the first of them, whether their bytes are at hand or not."""
     extents: list[ExtentLine] = []
     words = ["map", "--extents", "--columns", "1", "--rows", "1", *(["--skim"] if asking.is_skimming else [])]
     take_lines(tool.ask(words, asking.sources), {"extent": (ExtentLine, extents.append)})
-    missing = [extent for extent in extents if extent["standing"] in ("missing", "hand")]
-    for extent in missing[:RANGES]:
-        yield "Missing", f"{extent['start']} to {extent['end']}, {bytes_text(extent['end'] - extent['start'])}"
+    runs = itertools.groupby(extents, lambda extent: extent["standing"] in ("missing", "hand"))
+    missing = [[*run] for is_missing, run in runs if is_missing]
+    for first, last in ((run[0]["start"], run[-1]["end"]) for run in missing[:RANGES]):
+        yield "Missing", f"{first} to {last}, {bytes_text(last - first)}"
     if len(missing) > RANGES:
         yield "Missing", f"{len(missing) - RANGES} more, which mxf_tool map --extents names"
 
@@ -84,6 +86,7 @@ class Compared:
         summary = Summary(asking)
         yield from summary.description()
         yield "State", summary.judged.sentence()
+        yield from summary.found()
         yield from missing_rows(asking.tool, asking)
 
     def are_alike(self) -> bool:

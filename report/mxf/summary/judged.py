@@ -8,7 +8,7 @@ from mxf.lines import Line, RestoreLine
 from mxf.report.asking import HINT, JOINED, Asking, is_skim
 from mxf.report.guide import REASONS
 from mxf.report.judging import Grounds, parts_of, verdict_of
-from mxf.report.planned import Checked, Planned
+from mxf.report.planned import Alike, Checked, Planned
 from mxf.report.shown import Mapped, Shown
 from mxf.wording import count_text
 from mxf.written import Written
@@ -59,8 +59,20 @@ class Judged:
         return self.grounds.planned.numbers["end"]
 
     def findings(self) -> int:
-        """How many things are found wrong or missing."""
+        """How many findings there are."""
         return self.grounds.checked.numbers["findings"]
+
+    def found(self) -> Sequence[Alike]:
+        """What is found wrong or missing, by the codes."""
+        return [one for _, one in self.grounds.checked.by_code().kept]
+
+    def doubts(self) -> int:
+        """How many doubts there are."""
+        return self.grounds.checked.doubts["doubts"]
+
+    def doubted(self) -> Sequence[Alike]:
+        """What is in doubt, by the codes."""
+        return [one for _, one in self.grounds.checked.doubted_by_code().kept]
 
     def shifted(self) -> list[str]:
         """The hints that say which OFFSET is wrong."""

@@ -7,7 +7,6 @@ from collections.abc import Sequence
 from mxf.faults import READ, USAGE, OwnFault
 from mxf.sources import FORM, FORMS, is_read_once
 
-PACKET = b"\x06\x0e\x2b\x34"  # how each packet begins
 CATALOGUE = b"MXFCAT\x00"  # how each catalogue begins
 
 
@@ -17,8 +16,9 @@ def is_form(word: str) -> bool:
 
 
 def source_word(word: str) -> str:
-    """The word that names a source. A word without the form of one is the path of a file: of a catalogue, of a piece that
-    begins with a packet, or else of a range, both from the first byte of the recording on."""
+    """The word that names a source. A word without the form of one is the path of a file: of a catalogue, or else of a range
+    from the first byte of the recording on. Of a whole file a range says what a piece does, and it goes on behind damage.
+    """
     if is_form(word):
         return word
     if is_read_once(word):
@@ -31,7 +31,7 @@ def source_word(word: str) -> str:
         raise OwnFault(READ, f"read fault: {word}: {said}") from fault
     if begins == CATALOGUE:
         return f"cat:{word}"
-    return f"{'at' if begins.startswith(PACKET) else 'range'}:0:{word}"
+    return f"range:0:{word}"
 
 
 def source_words(words: Sequence[str]) -> list[str]:

@@ -14,7 +14,7 @@ from mxf.summary.calls import answers_of
 from mxf.summary.judged import Asking, Judged, reason_text
 from mxf.wording import bytes_text, count_text, length_text, times_text
 
-PICTURES, SOUNDS, ORDERS, TAPES, NAMED = 2, 3, 2, 2, 2  # of which so many are told
+PICTURES, SOUNDS, ORDERS, TAPES, NAMED, FOUND = 2, 3, 2, 2, 2, 4  # of which so many are told
 LETTERS = 100  # of a text of the recording
 
 # What a hint says of the file of a source: its path, and where it begins.
@@ -58,7 +58,7 @@ class Summary:
 
     def lines(self) -> Iterator[str]:
         """The lines for a terminal, whose heads stand in a column."""
-        rows = [*self.description(), ("State", self.judged.sentence()), *self.advice()]
+        rows = [*self.description(), ("State", self.judged.sentence()), *self.found(), *self.advice()]
         width = max(len(head) for head, _ in rows) + 2
         yield from (f"{head:{width}}{text}" for head, text in rows)
         if self.is_skimmed:
@@ -96,6 +96,14 @@ class Summary:
             return "not stated"
         return f"{first} to {last}" if last else f"from {first} on"
 
+    def found(self) -> Iterator[Row]:
+        """What is found wrong or missing, and what is in doubt, in one row: what stands at several offsets is told once."""
+        told = [one.text() for one in (*self.judged.found(), *self.judged.doubted())]
+        rest = len(told) - FOUND
+        more = [f"{count_text(rest, 'other')}, which {self.check()} tells"] if rest > 0 else []
+        if told:
+            yield "Found", "; ".join(told[:FOUND] + more)
+
     def advice(self) -> Iterator[Row]:
         """What to do: the hint of a wrong OFFSET, on which all orders rest, or else the first orders; and what to call
         next."""
@@ -124,7 +132,11 @@ class Summary:
             return " ".join(["mxf_tool sources", *named])
         if self.judged.order_count():
             return " ".join(["mxf_report", *named, *map(word_of, self.judged.orders()[:ORDERS])])
-        return " ".join(["mxf_tool check", *named]) if self.judged.findings() else None
+        return " ".join([self.check(), *named]) if self.judged.findings() or self.judged.doubts() else None
+
+    def check(self) -> str:
+        """The command that tells what is found, and what is in doubt if anything is."""
+        return "mxf_tool check --doubts" if self.judged.doubts() else "mxf_tool check"
 
     def members(self) -> Mapping[str, object]:
         """The same as members of an object, with all pictures and sounds."""
@@ -156,6 +168,9 @@ class Summary:
             "held": self.judged.held(),
             "end": self.judged.end(),
             "findings": self.judged.findings(),
+            "found": [one.members() for one in self.judged.found()],
+            "doubts": self.judged.doubts(),
+            "doubted": [one.members() for one in self.judged.doubted()],
             "disputed": self.judged.disputed(),
             "hints": self.judged.shifted(),
             "ordered": self.judged.order_count(),
