@@ -73,6 +73,8 @@ FLAGS = {"verify": "whole", "map": "extents", "check": "doubts"}
 OF_BYTES = ("plan", "map", "units")
 # What may stand before a command, the option of that name.
 FORMS = ("json", "skim")
+# The lines of `check` that say that there is nothing.
+NOTHING_FOUND = ("findings 0", "doubts 0", '{"line":"findings","findings":0}', '{"line":"doubts","doubts":0}')
 NAME = re.compile(r'\{"line":"([^"]*)"')
 
 # A worked file in a crate of tests: its name and its bytes, as hexadecimal digits with comments.
@@ -355,7 +357,7 @@ class Run:
             if case.at_hand and command.name in OF_BYTES or "--skim" in command.form:
                 continue
             wanted = [line for line in command.lines if name_of(line) not in ("piece", "stop")]
-            found = wanted not in (["findings 0"], ['{"line":"findings","findings":0}'])
+            found = any(line not in NOTHING_FOUND for line in wanted)
             status = int(found) if command.name == "check" else command.status
             lines += self.wrong_at(command, [saved], wanted, status)
         return lines
