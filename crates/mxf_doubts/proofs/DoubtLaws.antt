@@ -1,8 +1,8 @@
 -- Doubts by their definition.
-use Rattle.mxf_views.proofs.Common.{◌≡◌, ◌≢◌, ◌↔◌, ◌∙◌, ◌≤◌, ◌+◌, ℕ, Bool, true, List, [], ◌∷◌, ◌&&◌, ◌==◌, not, Option, Some, None}
+use Rattle.mxf_views.proofs.Common.{◌≡◌, ◌↔◌, ◌≤◌, ◌+◌, ℕ, Bool, true, List, [], ◌==◌, not, Some}
 use Rattle.mxf_views.proofs.Common.{end_of, le-leb, leb-true}
-use Rattle.mxf_views.proofs.Common.{IsTrue, sym, ap, refl, subst, arith, In, In-clear_notes, NoteParts, filter, flat_map, inl, inr, map}
-use Rattle.mxf_views.proofs.Common.{IsClear, IsContent, and_from, and_parts, AreBytes, copies_of, list_any-In, kind_of, is_in_copy}
+use Rattle.mxf_views.proofs.Common.{sym, refl, subst, arith, In, In-clear_notes, NoteParts, filter, flat_map, inl, inr, map}
+use Rattle.mxf_views.proofs.Common.{IsClear, IsContent, and_from, and_parts, AreBytes, copies_of, list_any-In, is_in_copy}
 use Rattle.mxf_klv.proofs.Lists.{In-chosen, In-filter, In-flat_map, In-map}
 use Rattle.mxf_klv.proofs.Tests.{not_equal}
 use Rattle.mxf_klv.specs.Rising.{In-union, IsRising, IsRising-union}

@@ -1,7 +1,7 @@
 -- Where clear packets lie, and whether partitions count them right.
 use Rattle.mxf_views.proofs.Common.{◌≡◌, ◌↔◌, ◌∙◌, ◌+◌, ◌≤◌, ◌<◌, ℕ, zero, suc, Bool, true, false, List, [], ◌∷◌, ◌&&◌, ◌||◌, ◌==◌}
-use Rattle.mxf_views.proofs.Common.{sym, ap, refl, arith, length, map, nat_le, nat_lt, get_or, AllWithin, In, list_any, list_any-In, list_all}
-use Rattle.mxf_views.proofs.Common.{and_from, and_parts, same_bool, le-leb, leb-true, lt-ltb, ltb-true, ltb-false, subst, cases_lt, inl, inr}
+use Rattle.mxf_views.proofs.Common.{sym, ap, refl, arith, length, map, nat_le, nat_lt, get_or, AllWithin, In, list_any, list_any-In}
+use Rattle.mxf_views.proofs.Common.{and_from, and_parts, same_bool, le-leb, leb-true, lt-ltb, ltb-true, subst, cases_lt, inl, inr}
 use Rattle.mxf_views.proofs.Common.{false_from_ne_true, IsTrue, Option, Some, None, NoteParts, end_of, covered_end, greatest_end, kind_of, cond}
 use Rattle.mxf_views.proofs.Common.{option_map_or, find, max, range_with_len, IsCatalogue, IsNote, all-In, In-clear_notes, clear_notes}
 use Rattle.mxf_views.proofs.Common.{IsNonDecreasingBy, IsPermutation, nat_cmp, union_of_runs, covered_run, Ordering, eqb-true, eq-eqb, ne_eqb, or_cases, ◌≢◌, PartitionParts}
@@ -21,7 +21,7 @@ use Rattle.mxf_catalogue.specs.Disputes.{AreApart}
 use Rattle.mxf_catalogue.specs.Runs.{LiesIn}
 use Rattle.mxf_catalogue.specs.declared.run.Run.{Run}
 use Rattle.mxf_views.specs.Places.{SegmentAtParts, is_segment, segments_of, without_entries}
-use Rattle.mxf_doubts.specs.IndexFit.{AreClear, are_filled, begins_in, begins_segment, has_byte, has_own, has_segment, is_clear_at}
+use Rattle.mxf_doubts.specs.IndexFit.{AreClear, are_filled, begins_in, begins_segment, has_byte, has_own, is_clear_at}
 use Rattle.mxf_doubts.specs.Header.{is_within, span_of}
 use Rattle.mxf_doubts.specs.IndexFit.{first_behind, has_foreign, is_cut_at, is_foreign, is_index_misfit, own_pair}
 use Rattle.mxf_views.specs.Partitions.{in_numbers}

@@ -1,8 +1,8 @@
 -- Index table segments that partitions don't count right, in the words of packets and segments.
-use Rattle.mxf_views.proofs.Common.{◌≡◌, ◌≢◌, ◌↔◌, ◌∙◌, ◌+◌, ◌≤◌, ◌<◌, ℕ, Bool, true, false, List, [], ◌∷◌, ◌&&◌, ◌||◌, ◌==◌, ◌⊎◌, not}
-use Rattle.mxf_views.proofs.Common.{sym, ap, refl, subst, arith, inl, inr, map, filter, find, cond, In, list_any, list_any-In, list_all, IsTrue}
+use Rattle.mxf_views.proofs.Common.{◌≡◌, ◌≢◌, ◌↔◌, ◌∙◌, ◌+◌, ◌≤◌, ◌<◌, ℕ, Bool, true, false, List, ◌&&◌, ◌||◌, ◌==◌, ◌⊎◌, not}
+use Rattle.mxf_views.proofs.Common.{sym, ap, refl, inl, inr, map, filter, find, cond, In, list_any-In}
 use Rattle.mxf_views.proofs.Common.{and_from, and_parts, or_cases, le-leb, leb-true, lt-ltb, ltb-true, eqb-true, eq-eqb, nat_le, nat_lt}
-use Rattle.mxf_views.proofs.Common.{false_from_ne_true, Option, Some, None, option_map_or, option_and_then, range_with_len, NoteParts, end_of, kind_of}
+use Rattle.mxf_views.proofs.Common.{Option, Some, None, option_map_or, option_and_then, range_with_len, NoteParts, end_of, kind_of}
 use Rattle.mxf_views.proofs.Common.{IsContent, IsClear, In-clear_notes, clear_notes, clear_at-found, PartitionParts}
 use Rattle.mxf_klv.proofs.Counts.{In-range}
 use Rattle.mxf_klv.proofs.Lists.{In-chosen, In-filter, In-list_all, found-In, list_all-In}
@@ -16,8 +16,7 @@ use Rattle.mxf_views.specs.Places.{SegmentAtParts, is_segment, segments_of}
 use Rattle.mxf_places.proofs.OverLaws.{over_says}
 use Rattle.mxf_places.proofs.ZoneLaws.{behind_says}
 use Rattle.mxf_places.specs.Claims.{behind_metadata, over_fills}
-use Rattle.mxf_places.specs.Named.{IsBehindMetadata, IsOver}
-use Rattle.mxf_doubts.specs.DoubtCauses.{AreFilled, AtPartition, IsDark, IsForeign, IsIndexMisfit, IsMiscounted, IsUnfit}
+use Rattle.mxf_doubts.specs.DoubtCauses.{AreFilled, AtPartition, IsForeign, IsIndexMisfit, IsMiscounted, IsUnfit}
 use Rattle.mxf_doubts.specs.DoubtCauses.IsMiscounted.{has_other, cuts_one, leaves_one, has_none}
 use Rattle.mxf_doubts.specs.DoubtCauses.IsUnfit.{uncounted, no_index, miscounted}
 use Rattle.mxf_doubts.specs.IndexFit.{are_filled, begins_in, begins_segment, first_behind, has_byte, has_foreign, has_own, has_segment}

@@ -1,12 +1,11 @@
 -- Orderly copies, their sets, and the first that lacks a label, in words.
 use Rattle.mxf_views.proofs.Common.{◌≡◌, ◌↔◌, ◌∙◌, ◌≤◌, ◌<◌, ◌+◌, ℕ, Bool, true, false, List, [], ◌∷◌, ◌&&◌, ◌==◌, if◌then◌else◌}
-use Rattle.mxf_views.proofs.Common.{Option, Some, None, AreBytes, IsClear, IsContent, IsCopy, In, In-clear_notes, NoteParts, sym, ap, refl}
-use Rattle.mxf_views.proofs.Common.{and_from, and_parts, arith, cond, end_of, eq-eqb, eqb-true, filter, find, is_fill, is_some, kind_of}
-use Rattle.mxf_views.proofs.Common.{le-leb, leb-true, list_all, list_any, list_any-In, nat_le, subst, copies_of, filter_map, inl, inr}
-use Rattle.mxf_views.proofs.Common.{cases_lt, IsSetKind}
+use Rattle.mxf_views.proofs.Common.{Option, Some, None, AreBytes, IsContent, In, In-clear_notes, NoteParts, sym, ap, refl}
+use Rattle.mxf_views.proofs.Common.{and_from, and_parts, arith, cond, end_of, eq-eqb, eqb-true, find, is_fill, kind_of}
+use Rattle.mxf_views.proofs.Common.{le-leb, leb-true, list_any, list_any-In, nat_le, subst, copies_of, filter_map, inl, inr}
 use Rattle.std.specs.Option.{option_map, option_map_or}
 use Rattle.std.specs.Prelude.{is_none, unwrap_or}
-use Rattle.mxf_klv.proofs.Lists.{In-filter, In-filter_map, In-list_all, found-In, list_all-In, none_found}
+use Rattle.mxf_klv.proofs.Lists.{In-filter, In-filter_map, In-list_all, found-In, list_all-In}
 use Rattle.mxf_sets.proofs.LabelLaws.{only_label}
 use Rattle.mxf_sets.specs.Batch.{BatchParts}
 use Rattle.mxf_sets.specs.Items.{ItemParts}

@@ -1,8 +1,8 @@
 -- References to none of the sets of a copy, in words.
 use Rattle.mxf_views.proofs.Common.{◌≡◌, ◌↔◌, ◌∙◌, ◌==◌, ◌||◌, ℕ, Bool, true, false, List, [], ◌∷◌, ◌&&◌, if◌then◌else◌, not, length}
-use Rattle.mxf_views.proofs.Common.{Option, Some, None, AreBytes, IsClear, IsContent, In, NoteParts, sym, ap, refl, subst, ◌⊎◌}
+use Rattle.mxf_views.proofs.Common.{Option, Some, None, AreBytes, IsContent, In, NoteParts, sym, ap, refl, subst, ◌⊎◌}
 use Rattle.mxf_views.proofs.Common.{and_from, and_parts, arith, bytes_eq, bytes_eq-Decides, eq-eqb, eqb-true, filter, flat_map, inl, inr}
-use Rattle.mxf_views.proofs.Common.{is_fill, is_some, kind_of, list_all, list_any, list_any-In, map, not_true, copies_of, keeps_value}
+use Rattle.mxf_views.proofs.Common.{is_fill, is_some, kind_of, list_any, list_any-In, map, not_true, copies_of, keeps_value}
 use Rattle.std.specs.Option.{option_map_or}
 use Rattle.std.specs.Prelude.{Err, Ok, unwrap_or}
 use Rattle.std.specs.Result.{result_ok}
@@ -23,9 +23,9 @@ use Rattle.mxf_views.specs.declared.copy.CopyInfo.{CopyInfo}
 use Rattle.mxf_views.specs.Copies.{is_primer, sets_from, sets_in, zone_of}
 use Rattle.mxf_views.specs.Readings.{IsReadAs}
 use Rattle.mxf_views.specs.SetItems.{set_items}
-use Rattle.mxf_doubts.specs.DoubtCauses.{HasInstance, HoldsReference, IsOfCopy, IsSetIn, IsTold, IsUnreferred, RefersToNone, many, one}
+use Rattle.mxf_doubts.specs.DoubtCauses.{HasInstance, HoldsReference, IsSetIn, IsTold, IsUnreferred, RefersToNone, many, one}
 use Rattle.mxf_doubts.specs.Header.{has_instance, instance_of, is_batch_tag, is_orderly, is_reference_tag, is_told_from}
-use Rattle.mxf_doubts.specs.Header.{is_told_note, references_of, refers_to_none, sets_in_copy, unreferred}
+use Rattle.mxf_doubts.specs.Header.{is_told_note, references_of, refers_to_none, unreferred}
 use Rattle.mxf_doubts.proofs.OrderlyLaws.{in_zone, orderly, set_in}
 
 -- ---- What an item holds

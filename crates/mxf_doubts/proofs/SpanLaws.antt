@@ -1,5 +1,5 @@
 -- Where sets lie, and whether one lies in a zone.
-use Rattle.mxf_views.proofs.Common.{◌≡◌, ◌∙◌, ◌+◌, ◌≤◌, ◌<◌, ℕ, zero, suc, Bool, true, false, List, [], ◌∷◌, ◌&&◌, ◌||◌}
+use Rattle.mxf_views.proofs.Common.{◌≡◌, ◌+◌, ◌≤◌, ◌<◌, ℕ, zero, suc, true, false, List, [], ◌∷◌, ◌&&◌, ◌||◌}
 use Rattle.mxf_views.proofs.Common.{sym, ap, refl, arith, length, map, nat_le, get_or, AllWithin, In, list_any, list_any-In}
 use Rattle.mxf_views.proofs.Common.{and_from, and_parts, same_bool, le-leb, leb-true, subst, cases_lt, inl, inr}
 use Rattle.mxf_views.proofs.Common.{false_from_ne_true, Option, Some, None, NoteParts, end_of}

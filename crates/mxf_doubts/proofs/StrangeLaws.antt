@@ -1,9 +1,8 @@
 -- Strange packets, and packets of header metadata, in words.
-use Rattle.mxf_views.proofs.Common.{◌≡◌, ◌≢◌, ◌↔◌, ◌∙◌, ℕ, Bool, true, false, List, [], ◌∷◌, ◌&&◌, ◌||◌, ◌+◌, ◌==◌, not}
-use Rattle.mxf_views.proofs.Common.{Option, Some, None, IsTrue, sym, ap, refl, subst, arith, In, NoteParts, kind_of, either, inl, inr}
-use Rattle.mxf_views.proofs.Common.{and_from, and_parts, bytes_eq, bytes_eq-Decides, drop, list_any, list_any-In, not_true, take}
-use Rattle.mxf_views.proofs.Common.{IsContent, IsClear, IsCopy, copies_of, end_of, eq-eqb, eqb-true, filter_map, is_fill, ◌⊎◌}
-use Rattle.std.specs.Option.{option_map}
+use Rattle.mxf_views.proofs.Common.{◌≡◌, ◌↔◌, ◌∙◌, ℕ, Bool, true, false, List, [], ◌∷◌, ◌&&◌, ◌||◌, ◌+◌, ◌==◌, not}
+use Rattle.mxf_views.proofs.Common.{Some, sym, ap, refl, subst, arith, In, NoteParts, kind_of, either, inl, inr}
+use Rattle.mxf_views.proofs.Common.{and_from, and_parts, bytes_eq, bytes_eq-Decides, drop, list_any-In, not_true, take}
+use Rattle.mxf_views.proofs.Common.{IsContent, IsClear, IsCopy, copies_of, eq-eqb, eqb-true, is_fill, ◌⊎◌}
 use Rattle.mxf_klv.proofs.Lists.{In-filter_map}
 use Rattle.mxf_klv.proofs.Tests.{not-true-false}
 use Rattle.mxf_klv.specs.declared.kinds.Kind.{Kind}
@@ -17,7 +16,7 @@ use Rattle.mxf_klv.specs.Kind.{is_in_containers}
 use Rattle.mxf_doubts.specs.DoubtCauses.{HasStructure1, IsDark, IsFirstPrimer, IsOfHeader, IsStrange, IsStrangeInside, IsStrangeOutside}
 use Rattle.mxf_doubts.specs.DoubtCauses.{a_fill, a_primer, a_set, an_unknown, essence, raw_set, unknown}
 use Rattle.mxf_doubts.specs.Doubts.{is_of_header, is_strange_inside, is_strange_outside}
-use Rattle.mxf_doubts.specs.Sound.{IsInSoundZone, begin_at, filled_by, is_first_primer, is_in_sound_zone, sound_zones}
+use Rattle.mxf_doubts.specs.Sound.{begin_at, filled_by, is_first_primer, is_in_sound_zone, sound_zones}
 use Rattle.mxf_doubts.specs.Strange.{IsLone, bare_key, has_structure_1, is_essence, is_lone, is_named, is_other, is_strange}
 use Rattle.mxf_doubts.specs.Strange.{is_container_packet, is_dark, is_strange_as, named_keys}
 use Rattle.mxf_doubts.proofs.LoneLaws.{lone}

@@ -1,5 +1,5 @@
 -- Tables of identifiers, and what stands in them when one more is put in.
-use Rattle.mxf_views.proofs.Common.{◌≡◌, ◌∙◌, ◌||◌, ◌∷◌, ℕ, Bool, true, false, List, [], Option, Some, None, ap, sym, refl, cond}
+use Rattle.mxf_views.proofs.Common.{◌≡◌, ◌∙◌, ◌||◌, ◌∷◌, ℕ, Bool, true, false, List, [], Option, Some, ap, sym, refl, cond}
 use Rattle.mxf_views.proofs.Common.{◌==◌, if◌then◌else◌, eq-eqb}
 use Rattle.mxf_views.proofs.Common.{NoteParts, bytes_eq, cons_option, filter, filter_map, list_any, nat_cmp, subst}
 use Rattle.mxf_views.proofs.Common.{nat_cmp-IsAntisymmetric, bytes_eq-Decides, false_from_ne_true, Less, Equal, Greater, length, inl, inr, arith}

@@ -1,8 +1,8 @@
 -- Tracks that are named, and essence that no track names, in words.
 use Rattle.mxf_views.proofs.Common.{◌≡◌, ◌≢◌, ◌↔◌, ◌∙◌, ℕ, Bool, true, false, List, [], ◌∷◌, ◌&&◌, ◌==◌, not, if◌then◌else◌, length}
 use Rattle.mxf_views.proofs.Common.{Option, Some, None, AreBytes, IsClear, IsContent, In, In-clear_notes, NoteParts, sym, ap, refl, subst}
-use Rattle.mxf_views.proofs.Common.{and_from, and_parts, arith, bytes_eq, bytes_eq-Decides, drop, eq-eqb, eqb-true, filter, filter_map}
-use Rattle.mxf_views.proofs.Common.{flat_map, kind_of, list_any, list_any-In, not_true, inl, inr}
+use Rattle.mxf_views.proofs.Common.{and_from, and_parts, bytes_eq, bytes_eq-Decides, drop, eq-eqb, eqb-true, filter, filter_map}
+use Rattle.mxf_views.proofs.Common.{kind_of, list_any, list_any-In, not_true, inl}
 use Rattle.std.specs.Option.{option_map_or}
 use Rattle.std.specs.Prelude.{unwrap_or}
 use Rattle.mxf_klv.proofs.Lists.{In-filter, In-filter_map, In-flat_map}

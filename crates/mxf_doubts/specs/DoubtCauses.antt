@@ -1,8 +1,8 @@
 -- What each code of a doubt says of the notes (this project's profile).
-use Rattle.std.specs.Prelude.{◌≡◌, ◌≢◌, ℕ, ◌+◌, ◌<◌, ◌≤◌, ◌⊎◌, IsTrue, true, Some, None, IsSome, List, [], ◌∷◌, length, take, drop}
+use Rattle.std.specs.Prelude.{◌≡◌, ◌≢◌, ℕ, ◌+◌, ◌<◌, ◌≤◌, ◌⊎◌, IsTrue, true, Some, List, [], ◌∷◌, length, take, drop}
 use Rattle.mxf_klv.specs.declared.kinds.Kind.TheVariants as kinds
 use Rattle.mxf_klv.specs.Parts.{NoteParts}
-use Rattle.mxf_klv.specs.Note.{end_of, keeps_value}
+use Rattle.mxf_klv.specs.Note.{end_of}
 use Rattle.mxf_klv.specs.Kind.{kind_of}
 use Rattle.mxf_klv.specs.Rising.{In}
 use Rattle.mxf_sets.specs.Batch.{BatchParts, batch_items}

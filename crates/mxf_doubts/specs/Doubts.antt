@@ -1,5 +1,5 @@
 -- Doubts: where the notes of a file show what damage leaves and ordinary writers don't write (this project's profile).
-use Rattle.std.specs.Prelude.{ℕ, Bool, false, ◌&&◌, ◌||◌, not, List, [], ◌∷◌, map, flat_map, filter}
+use Rattle.std.specs.Prelude.{ℕ, Bool, false, ◌&&◌, ◌||◌, not, List, [], map, flat_map, filter}
 use Rattle.std.specs.List.{filter_map}
 use Rattle.mxf_klv.specs.Parts.{NoteParts}
 use Rattle.mxf_klv.specs.Kind.{kind_of}

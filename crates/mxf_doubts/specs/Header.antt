@@ -1,6 +1,6 @@
 -- What copies of the header metadata lack as damage leaves them: a Preface, labels of tags, sets that others refer to (ST
 -- 377-1, header metadata; what is in doubt is this project's profile).
-use Rattle.std.specs.Prelude.{◌≡◌, ℕ, ◌+◌, Bool, true, false, ◌&&◌, ◌||◌, ◌==◌, not, nat_le, if◌then◌else◌, Option, Some, None, is_some}
+use Rattle.std.specs.Prelude.{◌≡◌, ℕ, ◌+◌, Bool, false, ◌&&◌, ◌||◌, ◌==◌, not, nat_le, if◌then◌else◌, Option, Some, None, is_some}
 use Rattle.std.specs.Prelude.{is_none, List, [], ◌∷◌, length, map, filter, find, flat_map}
 use Rattle.std.specs.BTreeSet.{BTreeSet, contains}
 use Rattle.std.specs.Cmp.Lexicographic.{slice_cmp}
@@ -19,7 +19,7 @@ use Rattle.mxf_sets.specs.PackReadings.{batch_in, label_of}
 use Rattle.mxf_sets.specs.Readable.{read_as}
 use Rattle.mxf_catalogue.specs.Disputes.{clear_notes}
 use Rattle.mxf_views.specs.declared.copy.CopyInfo.{CopyInfo}
-use Rattle.mxf_views.specs.Copies.{copies_of, is_fill, is_primer, is_set_note, sets_from, zone_of}
+use Rattle.mxf_views.specs.Copies.{is_fill, is_primer, is_set_note, sets_from, zone_of}
 use Rattle.mxf_views.specs.Labels.{is_in_copy, primer_of}
 use Rattle.mxf_views.specs.SetItems.{set_items}
 use Rattle.mxf_doubts.specs.Strange.{is_other}

@@ -1,7 +1,7 @@
 -- Index table segments as partitions count them (ST 377-1: IndexByteCount counts from the first segment to the end of the last
 -- one's trailing fill; what is in doubt is this project's profile).
 use Rattle.std.specs.Prelude.{◌≡◌, ◌↔◌, ℕ, ◌+◌, Bool, true, false, ◌&&◌, ◌||◌, ◌==◌, not, nat_le, nat_lt, if◌then◌else◌, Option, Some}
-use Rattle.std.specs.Prelude.{List, find, filter, map}
+use Rattle.std.specs.Prelude.{List, find, filter}
 use Rattle.std.specs.List.{list_all, list_any, range_with_len}
 use Rattle.std.specs.Option.{option_and_then, option_map_or}
 use Rattle.mxf_klv.specs.Parts.{NoteParts}

@@ -1,4 +1,4 @@
-use Rattle.mxf_views.proofs.Common.{◌∙◌, ℕ, List, ap, get_or, length, ltb-false, nat_lt, rules, subst, sym}
+use Rattle.mxf_views.proofs.Common.{◌∙◌, ℕ, ltb-false, nat_lt, rules, sym}
 use Rattle.std.proofs.lemmas.List.Sorted.{IsPartitionPoint-from_clause}
 use Rattle.mxf_klv.proofs.Sides.{sides_parted}
 use Rattle.mxf_doubts.proofs.FitLaws.{no_own_hit, own_hit, pair_side, pair_total}

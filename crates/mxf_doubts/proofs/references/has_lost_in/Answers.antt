@@ -1,4 +1,4 @@
-use Rattle.mxf_views.proofs.Common.{◌≡◌, ◌∙◌, ◌||◌, Bool, List, ℕ, ap, arith, length, list_any, nat_cmp, not, refl, subst, sym}
+use Rattle.mxf_views.proofs.Common.{◌≡◌, ◌∙◌, ◌||◌, Bool, List, ℕ, ap, arith, length, list_any, nat_cmp, not, subst, sym}
 use Rattle.std.specs.BTreeSet.{contains}
 use Rattle.std.specs.Cmp.Lexicographic.{slice_cmp}
 use Rattle.std.specs.List.{AllByRecursion}

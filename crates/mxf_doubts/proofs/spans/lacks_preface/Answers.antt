@@ -1,4 +1,4 @@
-use Rattle.mxf_views.proofs.Common.{◌≡◌, ◌∙◌, ◌&&◌, Bool, List, ap, filter, list_any, sym}
+use Rattle.mxf_views.proofs.Common.{◌∙◌, ◌&&◌, Bool, List, ap, filter, list_any, sym}
 use Rattle.mxf_catalogue.specs.Disputes.{clear_notes}
 use Rattle.mxf_views.specs.Copies.{is_set_note}
 use Rattle.mxf_doubts.specs.declared.spans.Span.{Span}

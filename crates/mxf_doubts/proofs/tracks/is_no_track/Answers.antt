@@ -1,5 +1,5 @@
-use Rattle.mxf_views.proofs.Common.{◌≡◌, ◌∙◌, ◌&&◌, Bool, List, ℕ, ap, bytes_eq, false, list_any, not, sym, true}
-use Rattle.mxf_doubts.specs.Tracks.{is_any, named_tracks}
+use Rattle.mxf_views.proofs.Common.{◌∙◌, ◌&&◌, Bool, ap, bytes_eq, list_any, not, sym}
+use Rattle.mxf_doubts.specs.Tracks.{named_tracks}
 use Rattle.mxf_doubts.proofs.TableLaws.{any_listed, none_listed}
 use Rattle.mxf_doubts.proofs.tracks.is_no_track.Goals as goal
 

@@ -1,4 +1,4 @@
-use Rattle.mxf_views.proofs.Common.{◌≡◌, ◌∙◌, ◌==◌, List, NoteParts, Option, ap, clear_notes, find, option_copied, subst, sym}
+use Rattle.mxf_views.proofs.Common.{◌∙◌, ◌==◌, List, NoteParts, ap, clear_notes, find, option_copied, subst, sym}
 use Rattle.mxf_catalogue.specs.Disputes.{AreApart}
 use Rattle.mxf_doubts.specs.IndexFit.{AreClear}
 use Rattle.mxf_doubts.proofs.FitLaws.{goes_at, goes_by}

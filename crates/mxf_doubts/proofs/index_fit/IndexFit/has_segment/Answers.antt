@@ -1,4 +1,4 @@
-use Rattle.mxf_views.proofs.Common.{◌∙◌, ℕ, List, NoteParts, SegmentAtParts, ap, ltb-false, nat_lt, segments_of, sym}
+use Rattle.mxf_views.proofs.Common.{◌∙◌, List, NoteParts, SegmentAtParts, ap, ltb-false, nat_lt, segments_of, sym}
 use Rattle.mxf_views.proofs.KeyedLists.{keys_never_fall}
 use Rattle.mxf_doubts.specs.IndexFit.{has_segment}
 use Rattle.mxf_doubts.proofs.FitLaws.{no_segment_hit, segment_hit}

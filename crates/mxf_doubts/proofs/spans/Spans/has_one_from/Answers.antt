@@ -1,4 +1,4 @@
-use Rattle.mxf_views.proofs.Common.{◌≡◌, ◌∙◌, ◌+◌, ◌≤◌, ◌<◌, ℕ, List, ap, length, ltb-false, nat_le, subst, sym, get_or}
+use Rattle.mxf_views.proofs.Common.{◌≡◌, ◌∙◌, ◌+◌, ◌≤◌, ◌<◌, List, length, ltb-false, nat_le, subst, sym, get_or}
 use Rattle.std.specs.List.Sorted.{IsNonDecreasingBy}
 use Rattle.mxf_doubts.specs.declared.spans.Span.{Span}
 use Rattle.mxf_doubts.proofs.SpanLaws.{IsPlace, first_behind, none_behind}

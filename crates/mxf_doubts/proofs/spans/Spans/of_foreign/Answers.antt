@@ -1,4 +1,4 @@
-use Rattle.mxf_views.proofs.Common.{List, NoteParts, subst, sym}
+use Rattle.mxf_views.proofs.Common.{List, subst, sym}
 use Rattle.std.specs.List.Sorted.{IsNonDecreasingBy}
 use Rattle.mxf_catalogue.proofs.SpanLaws.{AreApart-filter}
 use Rattle.mxf_catalogue.specs.Disputes.{clear_notes}
