@@ -6,10 +6,10 @@ use mxf_restore::{DisputedPlace, Order, Plan};
 use std::alloc::Global;
 
 /// All from an offset on, in bytes: no pack says what lies there.
-fn all_from(start: u128) -> Order {
+fn all_from(start: u64) -> Order {
     Order {
         reason: Reason::Gap,
-        start,
+        start: u128::from(start),
         end: None,
         source: None,
         inside: false,
