@@ -1,6 +1,6 @@
 //! Lists of sources: texts that name a source a line.
-ghost use Rattle.std.specs.Prelude.{◌≡◌, ◌++◌, ◌∷◌, [], nat_lt, filter, length, map, IfOk, OnOk};
-ghost use Rattle.mxf_commands.specs.Lists.{named, naming_lines};
+ghost use Rattle.std.specs.Prelude.{◌≡◌, ◌++◌, ◌∷◌, [], nat_lt, filter, length, map, IfErr, IfOk, OnOk};
+ghost use Rattle.mxf_commands.specs.Lists.{bad_line, named, naming_lines};
 
 use std::alloc::{AllocError, Global};
 use std::str;
@@ -11,7 +11,8 @@ pub struct BadLine(pub usize);
 
 /// The bytes of a list as text.
 pub fn text_of(bytes: &[u8]) -> Result<&str, BadLine>
-    ensures { IfOk result (λ text. text.now ≡ bytes.now) }
+    ensures text { IfOk result (λ text. text.now ≡ bytes.now) }
+    ensures line { IfErr result (λ line. line.0 ≡ bad_line bytes.now) }
 {
     match str::from_utf8(bytes) {
         Ok(text) => Ok(text),

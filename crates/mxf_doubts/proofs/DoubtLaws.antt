@@ -11,7 +11,7 @@ use Rattle.mxf_views.proofs.CopyLaws.{copies_are, set_note}
 use Rattle.mxf_views.specs.declared.copy.CopyInfo.{CopyInfo}
 use Rattle.mxf_views.specs.Copies.{is_set_note}
 use Rattle.mxf_doubts.specs.declared.doubt.Code.{Code}
-use Rattle.mxf_doubts.specs.declared.doubt.Code.TheVariants.{G01, G02, G03, G06, G07, G08, G09, G10}
+use Rattle.mxf_doubts.specs.declared.doubt.Code.TheVariants.{G01, G02, G03, G06, G07, G08, G09, G10, G11}
 use Rattle.mxf_doubts.specs.declared.doubt.Doubt.{Doubt}
 use Rattle.mxf_doubts.specs.Classes.{is_misfit}
 use Rattle.mxf_doubts.specs.Codes.{all_codes, doubt, doubt_cmp, doubt_cmp-IsAntisymmetric, doubt_total}
@@ -20,6 +20,7 @@ use Rattle.mxf_doubts.specs.Doubts.{doubts_for, doubts_of, is_strange_inside, is
 use Rattle.mxf_doubts.specs.Header.{has_set, is_without_one_preface, lacks_preface}
 use Rattle.mxf_doubts.specs.Tracks.{is_untracked}
 use Rattle.mxf_doubts.proofs.ClassLaws.{misfit}
+use Rattle.mxf_doubts.proofs.EndLaws.{behind_ends}
 use Rattle.mxf_doubts.proofs.MisfitLaws.{index_misfits}
 use Rattle.mxf_doubts.proofs.OrderlyLaws.{unlabelled}
 use Rattle.mxf_doubts.proofs.ReferenceLaws.{lost_references}
@@ -102,6 +103,7 @@ causes G07 notes o r b = clear_ones (is_untracked notes) _ notes o (λ n c. untr
 causes G08 notes o r b = clear_ones is_misfit _ notes o (λ n c. misfit n (b n c.held))
 causes G09 notes o r b = lost_references notes r b o
 causes G10 notes o r b = unlabelled notes o r b
+causes G11 notes o r b = behind_ends notes r o
 
 held : (code : Code) → In code all_codes
 held G01 = inl refl
@@ -112,6 +114,7 @@ held G07 = inr (inr (inr (inr (inl refl))))
 held G08 = inr (inr (inr (inr (inr (inl refl)))))
 held G09 = inr (inr (inr (inr (inr (inr (inl refl))))))
 held G10 = inr (inr (inr (inr (inr (inr (inr (inl refl)))))))
+held G11 = inr (inr (inr (inr (inr (inr (inr (inr (inl refl))))))))
 
 -- The doubts are those offsets that are found of their code.
 doubts_are : (notes : List NoteParts) (d : Doubt) → In d (doubts_of notes) ↔ In d.offset (offsets_for d.code notes)

@@ -8,13 +8,13 @@ use Rattle.std.specs.declared.cmp.Ordering.{Ordering}
 use Rattle.std.proofs.Common.{get_or, sym, ◌∙◌, ap}
 use Rattle.std.proofs.lemmas.Cmp.{on_total, then_total, nat_cmp_total, eq_by_cmp_equiv}
 use Rattle.mxf_doubts.specs.declared.doubt.Code.{Code}
-use Rattle.mxf_doubts.specs.declared.doubt.Code.TheVariants.{G01, G02, G03, G06, G07, G08, G09, G10}
+use Rattle.mxf_doubts.specs.declared.doubt.Code.TheVariants.{G01, G02, G03, G06, G07, G08, G09, G10, G11}
 use Rattle.mxf_doubts.specs.declared.doubt.Doubt.{Doubt}
 use Rattle.mxf_klv.specs.NoteOrder.{ties}
 
 -- The codes, rising.
 abbrev pub all_codes : List Code
-all_codes = G01 ∷ G02 ∷ G03 ∷ G06 ∷ G07 ∷ G08 ∷ G09 ∷ G10 ∷ []
+all_codes = G01 ∷ G02 ∷ G03 ∷ G06 ∷ G07 ∷ G08 ∷ G09 ∷ G10 ∷ G11 ∷ []
 
 -- The number in the name of a code.
 abbrev pub code_number : Code → ℕ
@@ -26,6 +26,7 @@ code_number G07 = 7
 code_number G08 = 8
 code_number G09 = 9
 code_number G10 = 10
+code_number G11 = 11
 
 -- The name of a code: G, and two digits.
 abbrev pub code_name : Code → List ℕ
@@ -40,6 +41,7 @@ code_text G07 = codes "essence that no track names"
 code_text G08 = codes "set's key doesn't fit its items"
 code_text G09 = codes "reference to no set"
 code_text G10 = codes "item that the primer lacks"
+code_text G11 = codes "unit behind the essence's end"
 
 -- The doubt of a code at an offset.
 abbrev pub doubt : Code → ℕ → Doubt
@@ -57,7 +59,7 @@ doubt_equiv = eq_by_cmp_equiv doubt_total
 
 -- The code with the number, by its place in a list that has some code at the places of other numbers.
 abbrev pub numbered : ℕ → Code
-numbered n = get_or (G01 ∷ G02 ∷ G03 ∷ G03 ∷ G03 ∷ G06 ∷ G07 ∷ G08 ∷ G09 ∷ G10 ∷ []) (n - 1) G01
+numbered n = get_or (G01 ∷ G02 ∷ G03 ∷ G03 ∷ G03 ∷ G06 ∷ G07 ∷ G08 ∷ G09 ∷ G10 ∷ G11 ∷ []) (n - 1) G01
 
 -- Its number is its place there.
 pub numbered_back : (c : Code) → numbered (code_number c) ≡ c
@@ -69,6 +71,7 @@ numbered_back G07 = refl
 numbered_back G08 = refl
 numbered_back G09 = refl
 numbered_back G10 = refl
+numbered_back G11 = refl
 
 same_doubt : (a b : Doubt) → a.offset ≡ b.offset → a.code ≡ b.code → a ≡ b
 same_doubt a b e f i = record { offset = e i; code = f i }

@@ -17,11 +17,23 @@ use Rattle.mxf_views.specs.Copies.{IsCopy, IsSetKind}
 use Rattle.mxf_views.specs.Labels.{primer_of}
 use Rattle.mxf_views.specs.Partitions.{PartitionParts, partitions_of}
 use Rattle.mxf_views.specs.Places.{SegmentAtParts, segments_of}
+use Rattle.mxf_places.specs.Held.{IsEndOfFile}
 use Rattle.mxf_places.specs.Named.{IsBehindMetadata, IsOver}
+use Rattle.mxf_sets.specs.declared.pack.random_index.RipEntry.{RipEntry}
+use Rattle.mxf_sets.specs.declared.segment.numbers.SegmentNumbers.{SegmentNumbers}
+use Rattle.mxf_sets.specs.Offset.{stream_offset}
+use Rattle.mxf_sets.specs.Segment.{SegmentParts}
+use Rattle.mxf_units.specs.Limits.{IsEssenceZone, IsFirstPacket}
+use Rattle.mxf_units.specs.declared.essence_zone.EssenceZone.{EssenceZone}
+use Rattle.mxf_views.specs.RandomIndex.{RipAtParts}
+use Rattle.mxf_views.specs.RandomIndexView.{rip_view_of}
+use Rattle.mxf_views.specs.declared.random_index.RipView.TheVariants.{One}
+use Rattle.mxf_views.specs.declared.random_index.Standing.{Standing}
+use Rattle.mxf_views.specs.declared.random_index.Standing.TheVariants.{Held}
 use Rattle.mxf_views.specs.Readings.{IsReadAs}
 use Rattle.mxf_views.specs.SetItems.{IsMadeUpOf}
 use Rattle.mxf_doubts.specs.declared.doubt.Code.{Code}
-use Rattle.mxf_doubts.specs.declared.doubt.Code.TheVariants.{G01, G02, G03, G06, G07, G08, G09, G10}
+use Rattle.mxf_doubts.specs.declared.doubt.Code.TheVariants.{G01, G02, G03, G06, G07, G08, G09, G10, G11}
 use Rattle.mxf_doubts.specs.declared.doubt.Doubt.{Doubt}
 use Rattle.mxf_doubts.specs.Classes.{IsMisfit}
 use Rattle.mxf_doubts.specs.Header.{is_batch_tag, is_reference_tag}
@@ -248,6 +260,57 @@ pub record IsFirstUnlabelled (notes : List NoteParts) (offset : ℕ) : Type 0 wh
   pub lacks : LacksLabel primer set
   pub first : (m : NoteParts) → IsSetIn notes copy start m → m.offset < offset → LacksLabel primer m → ⊥
 
+-- ---- The ends of streams
+
+-- The segment gives some unit the stream offset, and none a greater one.
+pub record IsLastOffset (s : SegmentParts) (offset : ℕ) : Type 0 where
+  pub unit : ℕ
+  pub given : stream_offset s unit ≡ Some offset
+  pub greatest : (other x : ℕ) → stream_offset s other ≡ Some x → x ≤ offset
+
+-- The essence of the last partition of a stream lies there: the other partitions of the stream begin before it, and it has a first
+-- packet.
+pub record IsLastZone (notes : List NoteParts) (body_sid : ℕ) (zone : EssenceZone) : Type 0 where
+  pub partition : PartitionParts
+  pub held : In partition (partitions_of notes)
+  pub body : partition.pack.numbers.body_sid ≡ body_sid
+  pub others : (q : PartitionParts) → In q (partitions_of notes) → q.pack.numbers.body_sid ≡ body_sid → q ≢ partition
+      → q.pack.numbers.body_offset < partition.pack.numbers.body_offset
+  pub first : NoteParts
+  pub first_is : IsFirstPacket notes partition first
+  pub zone_is : IsEssenceZone notes partition first zone
+
+-- The end of the file is known, and each partition is held that the random index pack lists.
+pub record ArePartitionsHeld (notes : List NoteParts) : Type 0 where
+  pub end : ℕ
+  pub end_is : IsEndOfFile notes end
+  pub rip : RipAtParts
+  pub rip_is : rip_view_of notes ≡ One rip
+  pub held : (e : RipEntry × Standing) → In e rip.entries → e.1 ≡ Held
+
+-- All segments of units of one size, of the index and the stream of one, state the size that this one states.
+abbrev pub IsSizedAlike : List NoteParts → SegmentNumbers → Type 0
+IsSizedAlike notes n =
+    (t : SegmentAtParts) → In t (segments_of notes) → 0 < t.segment.numbers.unit_bytes
+    → t.segment.numbers.index_sid ≡ n.index_sid → t.segment.numbers.body_sid ≡ n.body_sid
+    → t.segment.numbers.unit_bytes ≡ n.unit_bytes
+
+-- The last place that the segment gives lies at the limit of the last partition of its stream or behind.
+pub record IsBehindEnd (notes : List NoteParts) (s : SegmentAtParts) : Type 0 where
+  pub partitions : ArePartitionsHeld notes
+  pub sized : 0 < s.segment.numbers.unit_bytes → IsSizedAlike notes s.segment.numbers
+  pub offset : ℕ
+  pub offset_is : IsLastOffset s.segment offset
+  pub zone : EssenceZone
+  pub zone_is : IsLastZone notes s.segment.numbers.body_sid zone
+  pub limit : ℕ
+  pub limit_is : zone.limit ≡ Some limit
+  pub behind : limit + zone.body_offset ≤ offset + zone.origin
+
+abbrev pub AtSegment : List NoteParts → ℕ → Type 0
+AtSegment notes offset =
+    (s : SegmentAtParts) × In s (segments_of notes) × (s.offset ≡ offset) × IsBehindEnd notes s
+
 -- The cause of the code is met at the offset.
 abbrev pub IsDoubtedAt : Code → List NoteParts → ℕ → Type 0
 IsDoubtedAt G01 notes offset = LacksPreface notes offset
@@ -258,6 +321,7 @@ IsDoubtedAt G07 notes offset = AtClear notes (IsUntracked notes) offset
 IsDoubtedAt G08 notes offset = AtClear notes IsMisfit offset
 IsDoubtedAt G09 notes offset = IsUnreferred notes offset
 IsDoubtedAt G10 notes offset = IsFirstUnlabelled notes offset
+IsDoubtedAt G11 notes offset = AtSegment notes offset
 
 -- It is a doubt of the notes.
 abbrev pub IsDoubt : List NoteParts → Doubt → Type 0

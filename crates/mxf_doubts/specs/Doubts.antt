@@ -7,8 +7,9 @@ use Rattle.mxf_klv.specs.Rising.{union}
 use Rattle.mxf_catalogue.specs.Disputes.{clear_notes}
 use Rattle.mxf_views.specs.Copies.{copies_of, is_fill, is_set_note}
 use Rattle.mxf_views.specs.Partitions.{partitions_of}
+use Rattle.mxf_views.specs.Places.{segments_of}
 use Rattle.mxf_doubts.specs.declared.doubt.Code.{Code}
-use Rattle.mxf_doubts.specs.declared.doubt.Code.TheVariants.{G01, G02, G03, G06, G07, G08, G09, G10}
+use Rattle.mxf_doubts.specs.declared.doubt.Code.TheVariants.{G01, G02, G03, G06, G07, G08, G09, G10, G11}
 use Rattle.mxf_doubts.specs.declared.doubt.Doubt.{Doubt}
 use Rattle.mxf_doubts.specs.Classes.{is_misfit}
 use Rattle.mxf_doubts.specs.Codes.{all_codes, doubt, doubt_cmp}
@@ -16,6 +17,7 @@ use Rattle.mxf_doubts.specs.Header.{first_unlabelled, lacks_preface, unreferred}
 use Rattle.mxf_doubts.specs.IndexFit.{is_index_misfit}
 use Rattle.mxf_doubts.specs.Sound.{is_first_primer, is_in_sound_zone}
 use Rattle.mxf_doubts.specs.Strange.{is_other, is_strange}
+use Rattle.mxf_doubts.specs.StreamEnds.{is_behind_end}
 use Rattle.mxf_doubts.specs.Tracks.{is_untracked}
 
 -- A packet that header metadata have: a set, a fill, one of no known kind, or the primer pack of a finished copy.
@@ -52,6 +54,7 @@ offsets_for G07 notes = clear_at G07 notes
 offsets_for G08 notes = clear_at G08 notes
 offsets_for G09 notes = flat_map (unreferred notes) (copies_of notes)
 offsets_for G10 notes = filter_map (first_unlabelled notes) (copies_of notes)
+offsets_for G11 notes = map (λ s. s.offset) (filter (is_behind_end notes) (segments_of notes))
 
 -- What is in doubt by a code.
 abbrev pub doubts_for : Code → List NoteParts → List Doubt

@@ -1,9 +1,11 @@
 pub mod Classes
-pub mod Sound
-pub mod Strange
 pub mod Codes
+pub mod DoubtCauses
 pub mod Doubts
 pub mod Header
 pub mod IndexFit
+pub mod Sizes
+pub mod Sound
+pub mod Strange
+pub mod StreamEnds
 pub mod Tracks
-pub mod DoubtCauses

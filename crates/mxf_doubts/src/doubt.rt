@@ -11,6 +11,7 @@ mod asked;
 mod collected;
 mod header;
 mod packets;
+mod segments;
 
 use asked::Asked;
 use collected::Collected;
@@ -21,8 +22,8 @@ use std::cmp::Ordering;
 use std::fmt;
 use std::marker::Model;
 
-/// A kind of doubt. All speak of clear notes: a disputed one is never in doubt, nor is a head. The numbers left out are
-/// those of doubts about edit units, which aren't asked yet.
+/// A kind of doubt. All speak of clear notes: a disputed one is never in doubt, nor is a head. The numbers left out,
+/// G04 and G05, are those of packets where an index puts edit units, which aren't asked yet.
 ///
 /// A finished copy is one as in [`Views::copies`](mxf_views::Views::copies), and its zone the bytes that it fills.
 #[derive(Clone, Copy, Debug, PartialEq, Eq)]
@@ -51,10 +52,13 @@ pub enum Code {
     /// It is the first set of an orderly copy with an item whose tag is 8000 or above and has not exactly one label in the
     /// copy's primer pack.
     G10,
+    /// A segment gives a unit a place at the end of the last part of its stream or behind, while the end of the file is known and
+    /// each partition is held that the random index pack lists.
+    G11,
 }
 
 /// All codes.
-const CODES: [Code; 8] = [
+const CODES: [Code; 9] = [
     Code::G01,
     Code::G02,
     Code::G03,
@@ -63,6 +67,7 @@ const CODES: [Code; 8] = [
     Code::G08,
     Code::G09,
     Code::G10,
+    Code::G11,
 ];
 
 /// What is in doubt, and where.
@@ -87,6 +92,7 @@ impl Code {
             Code::G08 => "set's key doesn't fit its items",
             Code::G09 => "reference to no set",
             Code::G10 => "item that the primer lacks",
+            Code::G11 => "unit behind the essence's end",
         }
     }
 
@@ -191,6 +197,7 @@ impl Collected {
             Code::G03 => self.add_partitions(alloc, asked),
             Code::G09 => self.add_unreferred(alloc, asked),
             Code::G10 => self.add_unlabelled(alloc, asked),
+            Code::G11 => self.add_behind(alloc, asked),
         }
     }
 }

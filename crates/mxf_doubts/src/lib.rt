@@ -13,7 +13,7 @@
 //! | Does a finished copy begin with it? | [`SoundZones::begins_with`] | whether it is the primer pack of one |
 //! | Has a set an item that sets of its class don't have? | [`is_misfit`] | whether it has |
 //!
-//! Doubts about edit units aren't asked yet. Each call's clause says that its answer is a function of the notes; the laws say what the functions are in the
+//! Whether a packet begins where an index puts an edit unit isn't asked yet. Each call's clause says that its answer is a function of the notes; the laws say what the functions are in the
 //! words of notes, copies and items ([`laws::doubts_by_definition`]). Keys, zones and numbers of tracks are listed once, in n
 //! log n steps of what is held, and each question is a search or two.
 //!
@@ -36,9 +36,11 @@ mod labels;
 pub mod laws;
 mod orderly;
 mod references;
+mod sizes;
 mod sound;
 mod spans;
 mod strange;
+mod stream_ends;
 #[cfg(test)]
 mod tests;
 mod tracks;

@@ -146,12 +146,14 @@ pub enum ToldClock {
         last: Option<Timecode>,
         base: u16,
         is_one: bool,
+        /// The header metadata that say so are those of an open partition.
+        is_open: bool,
     },
 }
 
 impl ToldClock {
-    /// What is told of the runs of a clock.
-    pub fn of(runs: &[Run]) -> ToldClock {
+    /// What is told of the runs of a clock, by header metadata that are open or not.
+    pub fn of(runs: &[Run], is_open: bool) -> ToldClock {
         match runs.first() {
             None => ToldClock::None,
             Some(run) => ToldClock::Runs {
@@ -159,6 +161,7 @@ impl ToldClock {
                 last: run.last(),
                 base: run.base(),
                 is_one: runs.len() == 1,
+                is_open,
             },
         }
     }

@@ -134,9 +134,9 @@ fn write_clock<W: fmt::Write>(
 ) -> fmt::Result {
     let ToldClock::Runs {
         first,
-        last,
         base,
         is_one,
+        ..
     } = clock
     else {
         return f.write_str(
@@ -155,23 +155,41 @@ fn write_clock<W: fmt::Write>(
     }
     match word {
         Some(word) if word.frames >= u32::from(base) => {
-            return write!(f, "the clock has {base} frames a second, counted from 00");
+            write!(f, "the clock has {base} frames a second, counted from 00")
         }
         Some(word) if word.is_drop && !first.is_drop && is_one => {
-            return f.write_str("the clock isn't one of drop frame: write ':' before the frames");
+            f.write_str("the clock isn't one of drop frame: write ':' before the frames")
         }
-        _ => {}
+        _ => write_runs(f, clock),
     }
+}
+
+/// Writes from which timecode up to which the first run of a clock goes, and what may go on behind it.
+fn write_runs<W: fmt::Write>(f: &mut fmt::Formatter<W>, clock: ToldClock) -> fmt::Result {
+    let ToldClock::Runs {
+        first,
+        last,
+        is_one,
+        is_open,
+        ..
+    } = clock
+    else {
+        return Ok(());
+    };
     write!(f, "the clock has {first}")?;
     match last {
         Some(last) => write!(f, " to {last}")?,
         None => f.write_str(" and all behind it")?,
     }
-    f.write_str(if is_one {
-        ""
-    } else {
-        ", and others, which describe prints"
-    })
+    if !is_one {
+        f.write_str(", and others, which describe prints")?;
+    }
+    if is_open && last.is_some() {
+        f.write_str(
+            ", by header metadata that are open: a later copy may say more, which plan without --from and --to orders if it isn't held",
+        )?;
+    }
+    Ok(())
 }
 
 /// Writes why no catalogue is saved at a path.

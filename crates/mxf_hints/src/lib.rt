@@ -8,6 +8,7 @@
 //! | which sources end before their bytes do, or have no packet | [`tell_stops`], [`tell_foreign`] |
 //! | which begin elsewhere by their partition packs | [`tell_offsets`], if something [`is_contradicted`] |
 //! | what of the sources doesn't go together | [`tell_together`], [`tell_unsettled`], [`tell_two_recordings`] |
+//! | what a description says too little of, and which packets before an order may be bad too | [`tell_left_open`] |
 //! | which index is meant, and that it isn't held | [`found_units`] |
 //!
 //! What is proved: the exit status of each end of a run ([`Exit`]), the end for each fault, and whether hints are told
@@ -17,19 +18,24 @@
 //! hints are tested.
 #![tactic(auto)]
 
+mod again;
 mod apart;
+mod beside;
 mod contents;
 mod disputing;
 mod exit;
 mod fault;
 mod filled;
 mod found;
+mod fragment;
 mod front;
 mod hint;
 mod index;
 mod kept;
 pub mod laws;
 mod offsets;
+mod open_header;
+mod packets;
 mod part;
 mod refusal;
 mod shift;
@@ -39,6 +45,7 @@ mod telling;
 mod unit_range;
 
 pub use apart::tell_unsettled;
+pub use beside::tell_left_open;
 pub use contents::{Contents, gather_each, gather_one};
 pub use disputing::{tell_together, tell_two_recordings};
 pub use exit::Exit;

@@ -4,6 +4,7 @@ ghost use Rattle.mxf_hints.specs.AskedUnits.{AreAsked, AreBounded, AreFew, AreUp
 ghost use Rattle.mxf_hints.specs.AskedUnits.{word_at};
 
 use crate::fault::{RunFault, ToldClock};
+use crate::open_header::is_open;
 use mxf_asked::{AskedUnits, NamedUnit};
 use mxf_clocks::Run;
 use mxf_timed::{Bound, StoredBounds, TimecodeFault, UnitBound, stored_bounds};
@@ -43,7 +44,7 @@ pub fn span_of<'a>(
 {
     match stored_bounds(units, runs, bound_of(asked.from), bound_of(asked.to)) {
         Ok(bounds) => span_within(units, bounds),
-        Err(fault) => Err(fault_of(runs, asked, fault)),
+        Err(fault) => Err(fault_of(units.holdings().views(), runs, asked, fault)),
     }
 }
 
@@ -95,18 +96,31 @@ fn up_to_last<'a>(views: &Views, index_sid: u32, first: u64) -> Result<UnitSpan,
 }
 
 /// Why the timecodes among words say no units.
-fn fault_of<'a>(runs: &[Run], asked: AskedUnits<'a>, fault: TimecodeFault) -> RunFault<'a>
+fn fault_of<'a>(
+    views: &Views,
+    runs: &[Run],
+    asked: AskedUnits<'a>,
+    fault: TimecodeFault,
+) -> RunFault<'a>
     ensures { IsFault asked.entry fault result }
 {
     match fault {
         TimecodeFault::Nowhere(bound) => RunFault::NoUnitAt {
             word: word_at(asked, bound),
-            clock: ToldClock::of(runs),
+            clock: ToldClock::of(runs, has_open_metadata(views)),
         },
         TimecodeFault::Several(bound) => RunFault::SeveralUnitsAt {
             word: word_at(asked, bound),
         },
         TimecodeFault::LastBeforeFirst => RunFault::LastBeforeFirst,
+    }
+}
+
+/// Whether the preferred copy of the header metadata is that of an open partition.
+fn has_open_metadata(views: &Views) -> bool {
+    match views.preferred() {
+        Some(copy) => is_open(&copy),
+        None => false,
     }
 }
 

@@ -90,7 +90,7 @@ module _ (saved : List NoteParts) where
         ∙ map-map (λ d. d.note.offset) again (filter p (disputed_notes notes))
         ∙ (λ i. map (λ d. says_same saved (λ x. x.offset) d.note (λ held. refl) i) (filter p (disputed_notes notes)))
 
-    clear_offsets : (p q : NoteParts → Bool) → ((n : NoteParts) → p (noted n) ≡ q n)
+    pub clear_offsets : (p q : NoteParts → Bool) → ((n : NoteParts) → p (noted n) ≡ q n)
         → map (λ n. n.offset) (filter p (clear_notes (skim notes)))
         ≡ map (λ n. n.offset) (filter q (clear_notes notes))
     clear_offsets p q alike =

@@ -220,12 +220,14 @@ module _ (saved : List NoteParts) where
         (filter test notes) (λ n h. parts_same n ((In-filter test notes n).0 h).0)
         ∙ sym (map-map (disputed_beside saved) (λ n. disputed_parts n notes) (filter test notes))
 
-    pub clear_skim : clear_notes (skim notes) ≡ skim (clear_notes notes)
-    clear_skim =
-        let left : undisputed_notes (skim notes) ≡ skim (undisputed_notes notes) =
+    pub undisputed_skim : undisputed_notes (skim notes) ≡ skim (undisputed_notes notes)
+    undisputed_skim =
         filter_mapped (λ n. not (is_disputed n (skim notes))) noted notes
         ∙ ap (map noted) (filter_alike (λ n. not (is_disputed (noted n) (skim notes)))
-        (λ n. not (is_disputed n notes)) notes (λ n h. ap not (disputed_same n h))) in
-        ap (filter (λ n. n.whole)) left
+        (λ n. not (is_disputed n notes)) notes (λ n h. ap not (disputed_same n h)))
+
+    pub clear_skim : clear_notes (skim notes) ≡ skim (clear_notes notes)
+    clear_skim =
+        ap (filter (λ n. n.whole)) undisputed_skim
         ∙ filter_mapped (λ n. n.whole) noted (undisputed_notes notes)
         ∙ ap (map noted) (λ i. filter (λ n. says_same saved (λ x. x.whole) n (λ held. refl) i) (undisputed_notes notes))

@@ -3,6 +3,9 @@ pub mod HeldLaws
 pub mod ViewLaws
 pub mod WholeFileLaws
 pub mod FindingLaws
+pub mod PlaceLaws
+pub mod DoubtLaws
+pub mod AlikeLaws
 pub mod RunLaws
 pub mod SavedLaws
 pub mod DescriptionLaws

@@ -23,7 +23,7 @@ use Rattle.mxf_read.proofs.SkimsAndReadings.{as_noted}
 use Rattle.mxf_forms.specs.Forms.{PrintedLine}
 use Rattle.mxf_lines.specs.declared.printing.line.record.Named.{Named}
 use Rattle.mxf_lines.specs.declared.printing.line.record.Named.TheVariants.{Identification, Package}
-use Rattle.mxf_lines.specs.Answering.{check_status, finding_lines, place_status, report_lines, stop_lines}
+use Rattle.mxf_lines.specs.Answering.{check_status, doubt_lines, doubted_status, finding_lines, place_status, report_lines, stop_lines}
 use Rattle.mxf_lines.specs.IndexLines.{place_line, rip_lines, segment_line}
 use Rattle.mxf_lines.specs.ItemLines.{item_lines, set_lines}
 use Rattle.mxf_lines.specs.Lines.{chain_line, copy_line, gap_line, join_line, lines_where, note_line}
@@ -36,6 +36,7 @@ use Rattle.mxf_skimmed.specs.Skims.{NoneAlike, disputed_beside, noted_beside, sk
 use Rattle.mxf_skimmed.specs.SkimmedLines.{PrintsTheSame, read_line, skim_line, with_head}
 use Rattle.mxf_skimmed.specs.SkimmedRuns.{AreReadAndSkimmed, IsSkimOf}
 use Rattle.mxf_skimmed.proofs.DescriptionLaws.{description_has_the_same_status, skim_is_described_the_same}
+use Rattle.mxf_skimmed.proofs.DoubtLaws.{skim_has_the_same_doubts}
 use Rattle.mxf_skimmed.proofs.FindingLaws.{skim_has_the_same_findings}
 use Rattle.mxf_skimmed.proofs.HeldLaws.{clear_skim, disputed_same, disputed_skim}
 use Rattle.mxf_skimmed.proofs.RunLaws.{passed_over_is, skim_of_parts, skimmed_head}
@@ -220,6 +221,7 @@ module _ (saved : List NoteParts) where
     pub skim_prints_the_same : PrintsTheSame saved notes (skim notes)
     skim_prints_the_same =
         let findings = skim_has_the_same_findings saved notes apart in
+        let doubts = skim_has_the_same_doubts saved notes apart in
         record {
           show = record {
             others = others notes;
@@ -231,6 +233,11 @@ module _ (saved : List NoteParts) where
           check = record {
             lines = λ reports at beside. λ i. flat_map stop_lines reports ++ finding_lines (findings i);
             status = λ reports at beside. ap (check_status reports) findings;
+          };
+          doubts = record {
+            lines = λ reports at beside. λ i.
+                (flat_map stop_lines reports ++ finding_lines (findings i)) ++ doubt_lines (doubts i);
+            status = λ reports at beside. λ i. doubted_status reports (findings i) (doubts i);
           };
           describe = record {
             lines = λ reports at beside. skim_is_described_the_same saved notes apart;

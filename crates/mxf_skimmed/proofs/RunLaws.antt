@@ -20,6 +20,7 @@ use Rattle.mxf_read.specs.SkimGathering.{IsPreferred, IsTheSkim, SkimHandedBy}
 use Rattle.mxf_read.proofs.SkimsAndReadings.{as_noted}
 use Rattle.mxf_skimmed.specs.Skims.{NoneAlike, noted_beside, skim_beside}
 use Rattle.mxf_skimmed.specs.SkimmedRuns.{AreReadAndSkimmed, IsSavedIn, IsSkimOf, SaysTheSame}
+use Rattle.mxf_skimmed.proofs.DoubtLaws.{skim_has_the_same_doubts}
 use Rattle.mxf_skimmed.proofs.FindingLaws.{skim_has_the_same_findings}
 use Rattle.mxf_skimmed.proofs.ViewLaws.{skim_has_the_same_gaps, skim_has_the_same_views}
 use Rattle.mxf_skimmed.proofs.WholeFileLaws.{front_of_skim, none_alike}
@@ -346,6 +347,7 @@ module _ {R : Type 0} (left : R → Option (List ℕ)) where
         views = skim_has_the_same_views is.saved notes (clear_skim is.saved notes apart);
         gaps = skim_has_the_same_gaps is.saved notes;
         findings = skim_has_the_same_findings is.saved notes apart;
+        doubts = skim_has_the_same_doubts is.saved notes apart;
       })
 
   pub parts_read_from_front : (parts : List (Part R)) (notes skim : List NoteParts) (l : List PacketParts)

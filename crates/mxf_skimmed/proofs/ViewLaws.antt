@@ -66,7 +66,7 @@ module _ (saved : List NoteParts) where
       ∙ ap (λ o. option_map (λ segment. record { offset = n.offset; segment = segment })
       (if is_segment (kind_of n.key) then o else None)) (read_same saved segment_at n)
 
-  read_primer_same : (n : NoteParts) → read_as primer_at (noted n) ≡ read_as primer_at n
+  pub read_primer_same : (n : NoteParts) → read_as primer_at (noted n) ≡ read_as primer_at n
   read_primer_same n = ap (read_as primer_at) (noted_is saved n) ∙ read_same saved primer_at n
 
   primer_same : (n : NoteParts) → is_readable_primer (noted n) ≡ is_readable_primer n
@@ -102,7 +102,7 @@ module _ (saved : List NoteParts) where
   -- ---- lists of notes
 
   -- what is chosen of other kinds is as it was
-  chosen_stay : (p : NoteParts → Bool) (notes : List NoteParts) → ((n : NoteParts) → p (noted n) ≡ p n)
+  pub chosen_stay : (p : NoteParts → Bool) (notes : List NoteParts) → ((n : NoteParts) → p (noted n) ≡ p n)
       → ((n : NoteParts) → p n ≡ true → noted n ≡ n) → filter p (map noted notes) ≡ filter p notes
   chosen_stay p [] same is = refl
   chosen_stay p (n ∷ notes) same is =
@@ -123,7 +123,7 @@ module _ (saved : List NoteParts) where
   segments_stay notes =
       filter_map_mapped placed_segment noted notes ∙ (λ i. filter_map (λ n. segment_same n i) notes)
 
-  zone_skimmed : (start bytes : ℕ) (notes : List NoteParts)
+  pub zone_skimmed : (start bytes : ℕ) (notes : List NoteParts)
       → zone_of start bytes (map noted notes) ≡ map noted (zone_of start bytes notes)
   zone_skimmed start bytes notes =
       filter_mapped (lies_in start bytes) noted notes
@@ -261,7 +261,7 @@ module _ (saved : List NoteParts) where
         (λ i. sets_found (e i) (find (λ c. c.partition == partition) (copies i)))
         ∙ sets_stay (clear_notes notes) (find (λ c. c.partition == partition) (copies_of notes))
 
-    there : (offset : ℕ) → primer_there (skim notes) offset ≡ primer_there notes offset
+    pub there : (offset : ℕ) → primer_there (skim notes) offset ≡ primer_there notes offset
     there offset =
         ap (λ (clear : List NoteParts). option_and_then (read_as primer_at) (find (λ n. n.offset == offset) clear)) e
         ∙ ap (option_and_then (read_as primer_at)) (find_mapped (λ n. n.offset == offset) noted (clear_notes notes)

@@ -8,7 +8,7 @@ use Rattle.mxf_skim.specs.declared.scan.Scan.TheVariants.{Full, Skim}
 use Rattle.mxf_places.specs.AtHand.{AtHandParts}
 use Rattle.mxf_read.specs.declared.gathering.report.PieceReport.{PieceReport}
 use Rattle.mxf_asked.specs.declared.ask.Ask.{Ask}
-use Rattle.mxf_asked.specs.declared.ask.Ask.TheVariants.{Check, Describe, Join, Locate, Show}
+use Rattle.mxf_asked.specs.declared.ask.Ask.TheVariants.{Check, Describe, Doubts, Join, Locate, Show}
 use Rattle.mxf_forms.specs.Forms.{Field, PrintedLine, flag}
 use Rattle.mxf_lines.specs.Answering.{answer_lines, answer_status, report_lines}
 use Rattle.mxf_lines.specs.Lines.{note_line}
@@ -55,6 +55,7 @@ pub record ShowsTheSame (saved notes skim : List NoteParts) : Type 0 where
 pub record PrintsTheSame (saved notes skim : List NoteParts) : Type 0 where
   pub show : ShowsTheSame saved notes skim
   pub check : AnswersTheSame Check skim notes
+  pub doubts : AnswersTheSame Doubts skim notes
   pub describe : AnswersTheSame Describe skim notes
   pub locate : (index unit : ℕ) → AnswersTheSame (Locate index unit) skim notes
   pub join : AnswersTheSame Join skim notes

@@ -5,6 +5,7 @@ use Rattle.mxf_klv.specs.Parts.{NoteParts}
 use Rattle.mxf_klv.specs.Rising.{In}
 use Rattle.mxf_views.specs.Gaps.{gaps_of}
 use Rattle.mxf_views.specs.Headline.{IsTheRun}
+use Rattle.mxf_doubts.specs.Doubts.{doubts_of}
 use Rattle.mxf_findings.specs.Findings.{findings_of}
 use Rattle.mxf_findings.specs.SameViews.{SameViews}
 use Rattle.mxf_read.specs.declared.gathering.part.Part.{Part}
@@ -13,11 +14,12 @@ use Rattle.mxf_read.specs.Gathering.{HandedBy, HandsNote, IsGood}
 use Rattle.mxf_read.specs.SkimGathering.{IsTheSkim, SkimHandedBy}
 use Rattle.mxf_skimmed.specs.Skims.{skim_beside}
 
--- All views, the gaps and the findings of the first content are those of the second.
+-- All views, the gaps, the findings and the doubts of the first content are those of the second.
 pub record SaysTheSame (a b : List NoteParts) : Type 0 where
   pub views : SameViews a b
   pub gaps : gaps_of a ≡ gaps_of b
   pub findings : findings_of a ≡ findings_of b
+  pub doubts : doubts_of a ≡ doubts_of b
 
 module _ {R : Type 0} (left : R → Option (List ℕ)) where
   -- The first content is what a run holds that read the parts, the second what one holds that skimmed them.

@@ -4,12 +4,13 @@ ghost use Rattle.mxf_klv.specs.Note.{head_note};
 ghost use Rattle.mxf_klv.specs.Parts.{NoteParts, PacketParts};
 ghost use Rattle.mxf_klv.specs.Rising.{In};
 ghost use Rattle.mxf_catalogue.specs.Content.{AreReduced, IsCatalogue, IsContent, IsLocated, reduced_union};
-ghost use Rattle.mxf_catalogue.specs.Disputes.{clear_notes, disputed_notes, is_disputed};
+ghost use Rattle.mxf_catalogue.specs.Disputes.{IsDisputed, Overlaps, SharesOffset, clear_notes, disputed_notes, is_disputed};
 ghost use Rattle.mxf_catalogue.specs.History.{HandsSame};
 ghost use Rattle.mxf_views.specs.Gaps.{gaps_of};
 ghost use Rattle.mxf_views.specs.Headline.{IsNoteOf, IsReadFromFront};
 ghost use Rattle.mxf_views.specs.WellFormed.{IsWellFormed};
 ghost use Rattle.mxf_views.specs.WholeFile.{AreNotesOf};
+ghost use Rattle.mxf_doubts.specs.Doubts.{doubts_of};
 ghost use Rattle.mxf_findings.specs.Findings.{findings_of};
 ghost use Rattle.mxf_findings.specs.SameViews.{SameViews};
 ghost use Rattle.mxf_readings.specs.Readings.{is_held};
@@ -64,6 +65,23 @@ pub fn skims_are_disputed_as_readings_are()
     ensures undisputed { (notes : List NoteParts) → disputed_notes notes ≡ [] → NoneAlike notes }
 {}
 
+/// A law of [`gather_skim`](mxf_read::gather_skim): whether packets of a container are alike or not, a skim disputes the notes of
+/// all other packets as the reading does that was handed the same pieces and saved catalogues, by the same marks.
+pub fn skims_dispute_the_other_packets()
+    ensures disputed { (read saved notes skim : List NoteParts)
+        → ((m : NoteParts) → In m notes ↔ IsLocated (λ x. In x (read ++ saved)) m)
+        → IsTheSkim (λ x. In x (noted_by Skim read ++ saved)) skim → (n : NoteParts) → is_of_container n ≡ false
+        → IsDisputed n skim ↔ IsDisputed n notes }
+    ensures same_offset { (read saved notes skim : List NoteParts)
+        → ((m : NoteParts) → In m notes ↔ IsLocated (λ x. In x (read ++ saved)) m)
+        → IsTheSkim (λ x. In x (noted_by Skim read ++ saved)) skim → (n : NoteParts) → is_of_container n ≡ false
+        → SharesOffset n skim ↔ SharesOffset n notes }
+    ensures overlaps { (read saved notes skim : List NoteParts)
+        → ((m : NoteParts) → In m notes ↔ IsLocated (λ x. In x (read ++ saved)) m)
+        → IsTheSkim (λ x. In x (noted_by Skim read ++ saved)) skim → (n : NoteParts) → is_of_container n ≡ false
+        → Overlaps n skim ↔ Overlaps n notes }
+{}
+
 /// A law of [`Views`](mxf_views::Views): where no two notes of a container's packets are alike, the views of a skim are
 /// those of the reading. Its gaps are in any case.
 pub fn skims_have_the_same_views()
@@ -85,11 +103,24 @@ pub fn skims_have_the_same_findings()
         → findings_of (skim_beside saved notes) ≡ findings_of notes }
 {}
 
+/// A law of [`Doubts::of`](mxf_doubts::Doubts::of): where no two notes of a container's packets are alike, the doubts of a
+/// skim are those of the reading.
+pub fn skims_have_the_same_doubts()
+    ensures { (saved notes : List NoteParts) → NoneAlike notes → doubts_of (skim_beside saved notes) ≡ doubts_of notes }
+{}
+
 /// A law of [`with_heads`](mxf_skim::with_heads): what is saved of a skim, joined with the content of the reading, is
 /// that content.
 pub fn saved_skims_are_completed_by_readings()
     ensures { (saved notes : List NoteParts) → IsContent notes → AreReduced notes
         → reduced_union (with_heads (skim_beside saved notes)) notes ≡ notes }
+{}
+
+/// A law of [`with_heads`](mxf_skim::with_heads): what is saved of a content, as of a skim, joined with the content is the content.
+/// So a saved skim changes nothing beside the skim.
+pub fn saved_skims_say_nothing_new()
+    ensures { (notes : List NoteParts) → IsContent notes → AreReduced notes
+        → reduced_union (with_heads notes) notes ≡ notes }
 {}
 
 /// A law of [`gather_skim`](mxf_read::gather_skim): where a reading of the same parts holds no two notes of a
@@ -111,7 +142,7 @@ pub fn skims_say_what_readings_say<R: Read>()
 {}
 
 /// A law of [`answer`](mxf_lines::answer): where a reading holds no two notes of a container's packets that are alike,
-/// `show`, `check`, `describe`, `locate` and `join` have of a skim the lines and the status of the reading, as text and
+/// `show`, `check`, `check --doubts`, `describe`, `locate` and `join` have of a skim the lines and the status of the reading, as text and
 /// as JSON. But the line of a note, which `show` has, says ` head` too if the packet was passed over, as the line of
 /// the note's head does. Each packet of a container was passed over of which no saved catalogue has the note, and none
 /// of another kind.

@@ -9,12 +9,16 @@
 //!   no saved catalogue has the note ([`laws::skims_say_what_readings_say`], [`laws::skims_hold_what_was_read`]). They
 //!   are a content ([`laws::skims_are_contents`]), disputed and clear as those of the reading are
 //!   ([`laws::skims_are_disputed_as_readings_are`]).
-//! - All views, the gaps ([`laws::skims_have_the_same_views`]) and the findings
-//!   ([`laws::skims_have_the_same_findings`]) are those of the reading.
-//! - All lines of `show`, `check`, `describe`, `locate` and `join` are those of the reading, and so is the status, but
+//! - All views, the gaps ([`laws::skims_have_the_same_views`]), the findings ([`laws::skims_have_the_same_findings`]) and the
+//!   doubts ([`laws::skims_have_the_same_doubts`]) are those of the reading.
+//! - All lines of `show`, `check`, `check --doubts`, `describe`, `locate` and `join` are those of the reading, and so is the status, but
 //!   that `show` says ` head` of a packet that was passed over ([`laws::skims_print_what_readings_print`]).
 //! - What is saved of the skim, joined with the reading, is the reading
-//!   ([`laws::saved_skims_are_completed_by_readings`]).
+//!   ([`laws::saved_skims_are_completed_by_readings`]); joined with the skim it is the skim
+//!   ([`laws::saved_skims_say_nothing_new`]).
+//!
+//! Where some are alike, the notes of all other packets are those of the reading still, disputed as these are
+//! ([`laws::skims_dispute_the_other_packets`]).
 //!
 //! The skim of a well-formed file has the views of the reading of the file from the front
 //! ([`laws::skims_of_whole_files_are_read_from_the_front`]): no notes of such a file are alike.

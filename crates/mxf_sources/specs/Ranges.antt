@@ -1,9 +1,13 @@
 -- Of which sources bytes are at hand, and where these lie (this project's profile).
-use Rattle.std.specs.Prelude.{◌≡◌, ◌-◌, ℕ, Bool, List, [], ◌∷◌, map, min, if◌then◌else◌}
+use Rattle.std.specs.Prelude.{◌≡◌, ◌-◌, ℕ, Bool, List, [], ◌∷◌, map, min, slice_get, if◌then◌else◌}
 use Rattle.std.specs.List.{list_any}
+use Rattle.std.specs.Option.{option_map_or}
 use Rattle.mxf_klv.specs.Note.{greatest_end}
 use Rattle.mxf_hand.specs.Settling.{settled}
 use Rattle.mxf_hand.specs.declared.given.Extent.{Extent}
+use Rattle.mxf_hand.specs.declared.given.SourceFault.{SourceFault}
+use Rattle.mxf_hand.specs.declared.given.SourceFault.TheVariants as faults
+use Rattle.mxf_hand.specs.declared.given.excerpt.Excerpt.{Excerpt}
 use Rattle.mxf_klv.specs.Parts.{NoteParts}
 use Rattle.mxf_places.specs.AtHand.{AtHandParts, nothing_at_hand}
 use Rattle.mxf_read.specs.Gathering.{piece_limit}
@@ -24,6 +28,12 @@ pub record IsUntouched (before after : List NoteParts) (at : AtHandParts) : Type
 abbrev pub settled_reports : List Source → List NoteParts → List Extent → List PieceReport → List PieceReport
 settled_reports sources notes extents reports =
     if has_range sources then map (settled notes extents) reports else reports
+
+-- The fault with the number of the source that an excerpt is of, in place of that of the excerpt.
+abbrev pub fault_of_source : SourceFault → List Excerpt → SourceFault
+fault_of_source faults.OutOfMemory excerpts = faults.OutOfMemory
+fault_of_source (faults.ReadFault number) excerpts =
+    faults.ReadFault (option_map_or (λ e. e.source) (slice_get excerpts number) number)
 
 -- The offset of the first byte that a source gives.
 abbrev pub gives_from : SourceParts → ℕ

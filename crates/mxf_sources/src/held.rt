@@ -5,7 +5,7 @@ ghost use Rattle.mxf_read.specs.Gathering.{AllTell, HandedBy, reports_of};
 ghost use Rattle.mxf_read.specs.SkimGathering.{IsTheSkim, SkimHandedBy};
 ghost use Rattle.mxf_places.specs.AtHand.{nothing_at_hand};
 ghost use Rattle.mxf_skim.specs.declared.scan.Scan.TheVariants.{Full, Skim};
-ghost use Rattle.mxf_sources.specs.Ranges.{IsUntouched, has_range, settled_reports};
+ghost use Rattle.mxf_sources.specs.Ranges.{IsUntouched, fault_of_source, has_range, settled_reports};
 
 use crate::opened::{Opened, open_sources, ungathered};
 use crate::reopened::Reopened;
@@ -233,7 +233,9 @@ fn extents_of(alloc: Global, excerpts: &[Excerpt]) -> Result<Vec<Extent>, Source
 }
 
 /// The fault with the number of the source in place of that of its excerpt.
-fn fault_of_source(fault: SourceFault, excerpts: &[Excerpt]) -> SourceFault {
+fn fault_of_source(fault: SourceFault, excerpts: &[Excerpt]) -> SourceFault
+    ensures { result ≡ fault_of_source fault excerpts.now }
+{
     match fault {
         SourceFault::OutOfMemory => SourceFault::OutOfMemory,
         SourceFault::ReadFault { source_number } => match excerpts.get(source_number) {

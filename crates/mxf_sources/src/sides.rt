@@ -1,9 +1,9 @@
 //! What is renewed, and what it is renewed by.
 ghost use Rattle.std.specs.Prelude.{◌≡◌, IfOk, false};
 ghost use Rattle.mxf_views.specs.Headline.{IsTheRun};
-ghost use Rattle.mxf_read.specs.Gathering.{AllTell, HandedBy};
+ghost use Rattle.mxf_read.specs.Gathering.{AllTell, HandedBy, reports_of};
 ghost use Rattle.mxf_readings.specs.Readings.{all_notes};
-ghost use Rattle.mxf_sources.specs.Ranges.{has_range};
+ghost use Rattle.mxf_sources.specs.Ranges.{has_range, settled_reports};
 ghost use Rattle.mxf_sources.specs.Sides.{AreAllOf};
 
 use crate::held::{HeldBySources, completed, hold_opened, settled, settled_reports};
@@ -60,6 +60,14 @@ pub fn hold_sides<'r, 'a, F: PassOver + Drop>(
         → IfOk result (λ s. IsTheRun (HandedBy F.remaining earlier.entry.parts.items) s.earlier.gathered.views) }
     ensures later { has_range later.entry.sources.now ≡ false → AllTell F.remaining later.entry.parts.items
         → IfOk result (λ s. AreAllOf F.remaining later.entry.parts.items s.later.views) }
+
+    // The reports are those of the pieces, with the stops as ends that what is held makes up for.
+    ensures earlier_reports { AllTell F.remaining earlier.entry.parts.items
+        → IfOk result (λ s. s.earlier.gathered.reports ≡ settled_reports earlier.entry.sources.now s.earlier.gathered.views
+        earlier.entry.extents.items (reports_of F.remaining earlier.entry.parts.items)) }
+    ensures later_reports { AllTell F.remaining later.entry.parts.items
+        → IfOk result (λ s. s.later.reports ≡ settled_reports later.entry.sources.now s.later.views
+        later.entry.extents.items (reports_of F.remaining later.entry.parts.items)) }
 {
     let sources = earlier.sources;
     let earlier = hold_opened(rt, Scan::Full, earlier, last)?;
@@ -75,8 +83,11 @@ fn hold_later<'r, 'a, F: Read + Drop>(
     opened: Opened<'_, 'a, F>,
     last: &'r LastFault,
 ) -> Result<Later, RunFault<'a>>
-    ensures { has_range opened.entry.sources.now ≡ false → AllTell F.remaining opened.entry.parts.items
+    ensures views { has_range opened.entry.sources.now ≡ false → AllTell F.remaining opened.entry.parts.items
         → IfOk result (λ later. AreAllOf F.remaining opened.entry.parts.items later.views) }
+    ensures reports { AllTell F.remaining opened.entry.parts.items
+        → IfOk result (λ later. later.reports ≡ settled_reports opened.entry.sources.now later.views
+        opened.entry.extents.items (reports_of F.remaining opened.entry.parts.items)) }
 {
     let (sources, parts, extents) = opened.into_parts();
     match gather_each(rt.alloc(), parts) {
@@ -93,8 +104,10 @@ fn later_of<'r, 'a>(
     sources: &[Source<'a>],
     last: &'r LastFault,
 ) -> Result<Later, RunFault<'a>>
-    ensures { has_range sources.now ≡ false
+    ensures views { has_range sources.now ≡ false
         → IfOk result (λ later. later.views ≡ all_notes contents.contents.items) }
+    ensures reports { IfOk result (λ later. later.reports
+        ≡ settled_reports sources.now later.views extents.items contents.reports.items) }
 {
     let Contents {
         contents,

@@ -19,8 +19,8 @@ use mxf_commands::{
 };
 use mxf_forms::Form;
 use mxf_hints::{
-    Exit, RefusalHint, RunFault, SKIM_HINT, Telling, tell, tell_on_screen, tell_stops,
-    tell_together,
+    Exit, RefusalHint, RunFault, SKIM_HINT, Telling, tell, tell_left_open, tell_on_screen,
+    tell_stops, tell_together,
 };
 use mxf_lines::{
     AnswerFault, Searched, Verified, answer, print_edit_units, print_found, print_many_plan,
@@ -226,9 +226,14 @@ fn print_told<'a>(
     };
     let exit = print_asked(rt, inputs, asked, &held)?;
     let exit = told_held(rt, inputs, &held, false, exit)?;
+    let views = &held.gathered.views;
+    let has_hints = inputs.telling.has_hints;
+    if has_hints && tell_left_open(rt, asked, views, &held.at_hand).is_err() {
+        return Err(RunFault::OutOfMemory);
+    }
     let is_skim_checked = inputs.scan == Scan::Skim
         && matches!(asked, Told::Answer(Ask::Check | Ask::Doubts));
-    if is_skim_checked && inputs.telling.has_hints && tell_on_screen(rt, &SKIM_HINT).is_err() {
+    if is_skim_checked && has_hints && tell_on_screen(rt, &SKIM_HINT).is_err() {
         return Err(RunFault::OutOfMemory);
     }
     Ok(exit)

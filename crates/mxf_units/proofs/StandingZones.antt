@@ -27,7 +27,7 @@ In-reverse x (y ∷ ys) =
       λ h. elim h [ inl s ↦ e.1 (inr s) | inr k ↦ e.1 (inl (ih.1 k)) ],
     )
 
-In-parts : (notes : List NoteParts) (x : StreamPart)
+pub In-parts : (notes : List NoteParts) (x : StreamPart)
     → In x (parts_of notes) ↔ ((p : PartitionParts) × In p (partitions_of notes) × (x ≡ part_of notes p))
 unfolding parts_of
 In-parts notes x =
@@ -68,10 +68,19 @@ none-behind q p l b o e = none_or q.zone (λ s.
     (nat_cmp q.partition p.partition) (tied q.body_sid p.body_sid b) (tied q.body_offset p.body_offset o)
     (some_none q.zone p.zone e s) l)
 
-not_itself : (x y : StreamPart) → part_cmp y x ≡ Less → x ≡ y → ⊥
+pub not_itself : (x y : StreamPart) → part_cmp y x ≡ Less → x ≡ y → ⊥
 not_itself x y l e =
     let t = tied_itself part_total x in
     let u : part_cmp x x ≡ Less = subst (λ z. part_cmp z x ≡ Less) (sym e) l in cc (t, u)
+
+-- Parts that are left out don't change the order of the others.
+pub falls-filter : (f : StreamPart → Bool) (xs : List StreamPart) → IsFalling xs → IsFalling (filter f xs)
+falls-filter f [] h = tt
+falls-filter f (x ∷ xs) h =
+    elim (f x) as (λ b. IsFalling (if b then x ∷ filter f xs else filter f xs)) [
+      | true ↦ (all-filter (λ q. part_cmp q x ≡ Less) f xs h.0, falls-filter f xs h.1)
+      | false ↦ falls-filter f xs h.1
+    ]
 
 -- ---- parts that begin at an offset or below it
 
@@ -85,14 +94,6 @@ module _ (notes : List NoteParts) (body_sid offset : ℕ) where
     pub here : (p : PartitionParts) → BeginsUpTo notes body_sid offset p → In (part_of notes p) xs
     pub there : (x : StreamPart) → In x xs → (p : PartitionParts) × BeginsUpTo notes body_sid offset p
         × (x ≡ part_of notes p)
-
-  falls-filter : (f : StreamPart → Bool) (xs : List StreamPart) → IsFalling xs → IsFalling (filter f xs)
-  falls-filter f [] h = tt
-  falls-filter f (x ∷ xs) h =
-      elim (f x) as (λ b. IsFalling (if b then x ∷ filter f xs else filter f xs)) [
-        | true ↦ (all-filter (λ q. part_cmp q x ≡ Less) f xs h.0, falls-filter f xs h.1)
-        | false ↦ falls-filter f xs h.1
-      ]
 
   are_left : AreLeft left
   are_left = record {

@@ -168,26 +168,37 @@ any_given p unit (s ∷ segments) =
 same_any : {K : Type 0} (test : K → Bool) (xs ys : List K) → SameMembers xs ys → list_any test xs ≡ list_any test ys
 same_any {K} test xs ys same = grind (arith, list_any-In, same_bool, list_any)
 
--- So segments that say all, and those of them alone that may have it, place a unit as all do.
-module _ (unit : ℕ) (fits : unit < 2 ^ 64) (segments all near above : List SegmentAtParts)
-    (say : SayAll segments all) (around : IsAround first_unit units_end unit all near above) where
-  pub near-place : place_of near unit ≡ place_of segments unit
+-- Those alone that may have a unit place it as all do.
+module _ (unit : ℕ) (fits : unit < 2 ^ 64) (all near above : List SegmentAtParts)
+    (around : IsAround first_unit units_end unit all near above) where
+  pub near-place : place_of near unit ≡ place_of all unit
   near-place = ap (only_place None) (near_alone first_unit units_end (place_in unit) unit all near above around
       (λ s l. outside-place unit fits s (inl l)) (λ s l. outside-place unit fits s (inr l)))
-      ∙ same-only_place (filter_map (place_in unit) all) (filter_map (place_in unit) segments)
-      (said-places segments all say unit)
 
-  pub near-entry : entry_of near unit ≡ entry_of segments unit
+  pub near-entry : entry_of near unit ≡ entry_of all unit
   near-entry =
-      let f = λ (s : SegmentAtParts). index_entry s.segment unit in
-      ap (only_entry None) (near_alone first_unit units_end f unit all near above around
+      ap (only_entry None)
+      (near_alone first_unit units_end (λ (s : SegmentAtParts). index_entry s.segment unit) unit all near above around
       (λ s l. outside-entry unit fits s (inl l)) (λ s l. outside-entry unit fits s (inr l)))
-      ∙ same-only_entry (filter_map f all) (filter_map f segments)
-      (said-entries segments all say unit)
 
-  pub near-given : (p : StreamPlace) → is_given p unit near ≡ is_given p unit segments
+  pub near-given : (p : StreamPlace) → is_given p unit near ≡ is_given p unit all
   near-given p = any_given p unit near
       ∙ ap (list_any (is_same_place p)) (near_alone first_unit units_end (place_in unit) unit all near above around
       (λ s l. outside-place unit fits s (inl l)) (λ s l. outside-place unit fits s (inr l)))
+      ∙ sym (any_given p unit all)
+
+-- So do those that say all.
+module _ (unit : ℕ) (segments all : List SegmentAtParts) (say : SayAll segments all) where
+  pub said-place : place_of all unit ≡ place_of segments unit
+  said-place = same-only_place (filter_map (place_in unit) all) (filter_map (place_in unit) segments)
+      (said-places segments all say unit)
+
+  pub said-entry : entry_of all unit ≡ entry_of segments unit
+  said-entry =
+      let f = λ (s : SegmentAtParts). index_entry s.segment unit in
+      same-only_entry (filter_map f all) (filter_map f segments) (said-entries segments all say unit)
+
+  pub said-given : (p : StreamPlace) → is_given p unit all ≡ is_given p unit segments
+  said-given p = any_given p unit all
       ∙ same_any (is_same_place p) (filter_map (place_in unit) all) (filter_map (place_in unit) segments)
       (said-places segments all say unit) ∙ sym (any_given p unit segments)

@@ -18,6 +18,11 @@
 //! | Where is it looked for? | [`Units::place`], [`Units::location`], [`Units::parts`] | its place in its stream; the
 //! [`EssenceZone`] in which that is to be found; the partitions as parts of their streams |
 //! | All of that at once? | [`Units::placed`] | [`PlacedUnit`] |
+//! | Which places do given segments give? | [`IndexSegments::of`], then [`IndexSegments::place`] | the place of a unit
+//! in its stream |
+//! | Where do the streams lie, without any index? | [`parts_of`], then [`zone_at`]; [`behind_index`] |
+//! the partitions as parts of their streams, and the [`EssenceZone`] in which an offset of a stream is to be found; where
+//! the bytes of a partition's essence begin |
 //!
 //! A unit's bytes reach up to the next place in its stream that a segment of its index gives; those of the last one
 //! reach up to the end of its partition. So do those of a unit whose next place lies behind that end, unless it is the
@@ -58,6 +63,7 @@ mod covers;
 mod essence_zone;
 mod even_units;
 mod first_packet;
+mod index_segments;
 mod indexes;
 mod intervals;
 mod last;
@@ -75,9 +81,10 @@ mod units;
 
 pub use covers::cover_of;
 pub use essence_zone::EssenceZone;
-pub use essence_zone::part::StreamPart;
+pub use essence_zone::part::{StreamPart, parts_of, zone_at};
 pub use even_units::{EvenUnits, UnitCounts, lists_units};
 pub use first_packet::behind_index;
+pub use index_segments::IndexSegments;
 pub use indexes::{index_sids, named_index_sids};
 pub use last::last_unit;
 pub use location::Location;

@@ -23,11 +23,10 @@ ghost use Rattle.mxf_units.specs.declared.essence_zone.EssenceZone.{EssenceZone}
 use crate::beside::beside_essence;
 use crate::essence_zone::EssenceZone;
 use crate::essence_zone::part::{StreamPart, parts_of, zone_at};
-use crate::intervals::Intervals;
+use crate::index_segments::IndexSegments;
 use crate::location::{Location, extent_by, extent_in, is_behind, standing_by};
 use crate::next_places::NextPlaces;
 use crate::placed::PlacedUnit;
-use crate::repeated::without_repeated;
 use crate::segments::{entry_of, is_given, place_of, segments_for};
 use crate::standing::UnitStanding;
 use crate::unit::{EditUnit, Extent};
@@ -49,7 +48,7 @@ pub struct Units<'a> {
     /// The offsets where no essence can lie.
     beside: Cover,
     index_sid: u32,
-    segments: Intervals<SegmentAt<'a>>,
+    segments: IndexSegments<'a>,
     places: NextPlaces,
     parts: Vec<StreamPart>,
 }
@@ -107,9 +106,8 @@ impl<'a> Units<'a> {
         let holdings = Holdings::of(alloc, views)?;
         let known = known_of(alloc, &holdings, at_hand)?;
         let beside = beside_essence(alloc, &holdings)?;
-        let segments = without_repeated(alloc, segments_for(alloc, views, index_sid)?)?;
-        let places = NextPlaces::of(alloc, &segments)?;
-        let segments = Intervals::of(alloc, segments)?;
+        let segments = IndexSegments::of(alloc, segments_for(alloc, views, index_sid)?)?;
+        let places = NextPlaces::of(alloc, segments.all())?;
         let parts = parts_of(alloc, &holdings)?;
         Ok(Units {
             holdings,
@@ -197,8 +195,7 @@ impl<'a> Units<'a> {
         ensures given { (p : StreamPlace)
             → is_given p unit result.now ≡ is_given p unit (segments_for self.now.known.notes self.now.index_sid) }
     {
-        let (near, _) = self.segments.around(u128::from(unit));
-        near
+        self.segments.near(unit)
     }
 
     /// Where a unit lies, by its place in its stream, as far as that is known.

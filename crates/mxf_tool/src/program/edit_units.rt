@@ -1,6 +1,7 @@
 //! Where edit units lie, and what to restore for them.
 ghost use Rattle.std.specs.Prelude.{◌≡◌, IfOk};
 ghost use Rattle.mxf_lines.specs.OneRun.{clocks_told};
+ghost use Rattle.mxf_tool.specs.Waiting.{waits_for_metadata};
 
 use super::{Inputs, Printed, print_answer};
 use mxf_asked::IndexedUnits;
@@ -131,7 +132,9 @@ fn print_plan_for<'a>(
 }
 
 /// Whether header metadata may come by which there is a unit at a timecode.
-fn waits_for_metadata(views: &Views, fault: &RunFault<'_>) -> bool {
+fn waits_for_metadata(views: &Views, fault: &RunFault<'_>) -> bool
+    ensures { result ≡ waits_for_metadata views.now fault.now }
+{
     let is_finished = views.preferred().is_some_and(|copy| copy.finished);
     !is_finished && matches!(fault, RunFault::NoUnitAt { .. })
 }

@@ -37,12 +37,10 @@ fn part_of(evidence: &Evidence<'_>, partition: &Partition) -> StreamPart
     }
 }
 
-/// The parts of all streams, from the last to the first. They take memory.
+/// The partitions as parts of their streams, from the last to the first: by BodySID, then by BodyOffset, then those with
+/// a first packet before the others. They take memory.
 #[tactic(auto, unfolding(crate::specs::EssenceZones::parts_of))]
-pub(crate) fn parts_of(
-    alloc: Global,
-    holdings: &Holdings<'_>,
-) -> Result<Vec<StreamPart>, OutOfMemory>
+pub fn parts_of(alloc: Global, holdings: &Holdings<'_>) -> Result<Vec<StreamPart>, OutOfMemory>
     ensures { IfOk result (λ v. v.items ≡ parts_of holdings.now) }
 {
     let evidence = Evidence::of(alloc, holdings)?;
@@ -71,8 +69,9 @@ fn falling(mut parts: Vec<StreamPart>) -> Vec<StreamPart>
     parts
 }
 
-/// Where the essence lies in which an offset of a stream, in bytes, is to be found: a binary search.
-pub(crate) fn zone_at(
+/// Where the essence lies in which an offset of a stream, in bytes, is to be found, of parts from the last to the first: a
+/// binary search.
+pub fn zone_at(
     parts: &[StreamPart],
     body_sid: u32,
     offset: u128,

@@ -1,28 +1,20 @@
-use Rattle.std.proofs.Common.{◌≡◌, subst}
-use Rattle.mxf_units.specs.Intervals.{IsAround}
-use Rattle.mxf_units.specs.NextPlaces.{first_unit, units_end}
+use Rattle.std.proofs.Common.{◌≡◌, ◌∙◌, subst}
 use Rattle.mxf_units.specs.Streams.{entry_of, is_given, place_of, segments_for}
 use Rattle.mxf_units.specs.Units.{UnitsParts}
-use Rattle.mxf_units.proofs.WalkLaws.{near-entry, near-given, near-place}
+use Rattle.mxf_units.proofs.WalkLaws.{said-entry, said-given, said-place}
 use Rattle.mxf_units.proofs.units.Units.segments_near.Goals as goal
 
-around : (c : goal.After-near-1) → IsAround first_unit units_end c.args.unit c.self.inside.segments
-    c.around.result.0.now c.around.result.1.now
-around c =
-    subst (λ n. IsAround first_unit units_end n c.self.inside.segments c.around.result.0.now c.around.result.1.now)
-    c.from.ensures c.around.ensures
-
 pub returns-clause-place : goal.returns-clause-place
-returns-clause-place c = subst (λ (u : UnitsParts). place_of c.around.result.0.now c.args.unit
+returns-clause-place c = subst (λ (u : UnitsParts). place_of c.near.result.now c.args.unit
     ≡ place_of (segments_for u.known.notes u.index_sid) c.args.unit) c.self.view_is
-    (near-place c.args.unit c.ranges.unit.fits _ _ _ _ c.self.invariant.0 (around c))
+    (c.near.ensures.place ∙ said-place c.args.unit _ _ c.self.invariant.0)
 
 pub returns-clause-entry : goal.returns-clause-entry
-returns-clause-entry c = subst (λ (u : UnitsParts). entry_of c.around.result.0.now c.args.unit
+returns-clause-entry c = subst (λ (u : UnitsParts). entry_of c.near.result.now c.args.unit
     ≡ entry_of (segments_for u.known.notes u.index_sid) c.args.unit) c.self.view_is
-    (near-entry c.args.unit c.ranges.unit.fits _ _ _ _ c.self.invariant.0 (around c))
+    (c.near.ensures.entry ∙ said-entry c.args.unit _ _ c.self.invariant.0)
 
 pub returns-clause-given : goal.returns-clause-given
-returns-clause-given c = λ p. subst (λ (u : UnitsParts). is_given p c.args.unit c.around.result.0.now
+returns-clause-given c = λ p. subst (λ (u : UnitsParts). is_given p c.args.unit c.near.result.now
     ≡ is_given p c.args.unit (segments_for u.known.notes u.index_sid)) c.self.view_is
-    (near-given c.args.unit c.ranges.unit.fits _ _ _ _ c.self.invariant.0 (around c) p)
+    (c.near.ensures.given p ∙ said-given c.args.unit _ _ c.self.invariant.0 p)
