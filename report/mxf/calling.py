@@ -11,7 +11,8 @@ from collections.abc import Callable, Iterator, Sequence
 from types import TracebackType
 
 from mxf.faults import NO_PROGRAM, OwnFault, ToolFault
-from mxf.lines import Line, LineFault, lines_in
+from mxf.lines import Line
+from mxf.reading import LineFault, lines_in
 from mxf.sources import Sources
 
 # The line that each command prints whatever it finds.

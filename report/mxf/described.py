@@ -8,7 +8,8 @@ from typing import NamedTuple
 
 from mxf.essence import Picture, Sound, picture_of, sound_of
 from mxf.labels.naming import container_text, is_stated
-from mxf.lines import ClockLine, DescribedLine, EssenceLine, Line, SampledPictureLine, SoundLine, Takers, take_lines
+from mxf.lines import ClockLine, DescribedLine, EssenceLine, Line, SampledPictureLine, SoundLine
+from mxf.reading import Takers, take_lines
 from mxf.packages import Packages
 from mxf.written import Written
 

@@ -1,9 +1,8 @@
 """The packages of a recording by what `describe` says, and which of them stands for it."""
 from __future__ import annotations
 
-from mxf.lines import (
-    AnyLine, ContainerLine, Line, LineFault, NameLine, PackageLine, Takers, TimecodeWords, TrackLine, checked,
-)  # fmt: skip
+from mxf.lines import AnyLine, ContainerLine, Line, NameLine, PackageLine, TimecodeWords, TrackLine
+from mxf.reading import LineFault, Takers, checked
 
 KINDS = ("picture", "sound", "data")  # of tracks of essence, the first that stands for a package
 

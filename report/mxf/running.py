@@ -1,14 +1,18 @@
 """How a program runs: its standard streams, the signals that end it, and its status."""
 from __future__ import annotations
 
+import contextlib
 import errno
 import io
 import os
 import signal
 import sys
-from collections.abc import Callable
+import tempfile
+from collections.abc import Callable, Iterator
 
 from mxf.faults import OUTPUT, OwnFault, ToolFault, tell, tell_own
+
+SIGNALS = (signal.SIGHUP, signal.SIGINT, signal.SIGTERM)  # that end this program
 
 
 def open_streams() -> None:
@@ -30,6 +34,28 @@ def end_by_signals() -> None:
     for number in (signal.SIGHUP, signal.SIGTERM):
         if signal.getsignal(number) == signal.SIG_DFL:
             signal.signal(number, lambda number, _: sys.exit(128 + number))
+
+
+@contextlib.contextmanager
+def held_back() -> Iterator[None]:
+    """Signals that would end this process come after the block, so that it knows of what it has begun."""
+    held = signal.pthread_sigmask(signal.SIG_BLOCK, SIGNALS)
+    try:
+        yield
+    finally:
+        signal.pthread_sigmask(signal.SIG_SETMASK, held)
+
+
+@contextlib.contextmanager
+def temporary_folder(prefix: str) -> Iterator[str]:
+    """A folder that goes at the end, whenever a signal ends the program: also while the folder is made or removed."""
+    with held_back():
+        made = tempfile.TemporaryDirectory(prefix=prefix)
+    try:
+        yield made.name
+    finally:
+        with held_back():
+            made.cleanup()
 
 
 def status_of(run: Callable[[], int]) -> int:

@@ -8,7 +8,8 @@ from collections.abc import Iterable, Sequence
 from typing import NamedTuple
 
 from mxf.faults import READ, USAGE, OwnFault
-from mxf.lines import Line, PieceLine, checked
+from mxf.lines import Line, PieceLine
+from mxf.reading import checked
 
 # The forms of a source, and how many numbers stand between each and its path.
 FORMS = {"at": 1, "range": 1, "slice": 2, "cat": 0}

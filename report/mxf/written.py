@@ -4,7 +4,8 @@ from __future__ import annotations
 from typing import NamedTuple
 
 from mxf.labels.naming import is_stated, pattern_text
-from mxf.lines import AnyLine, LabelLine, Line, PartitionLine, StampLine, Takers, TextLine
+from mxf.lines import AnyLine, LabelLine, Line, PartitionLine, StampLine, TextLine
+from mxf.reading import Takers
 from mxf.moments import text_of_stamp
 from mxf.wording import count_text
 

@@ -13,6 +13,7 @@ from multiprocessing.sharedctypes import Synchronized
 from typing import Any, Generic, TypeVar, cast
 
 from mxf.faults import NO_PROGRAM, OwnFault, ToolFault
+from mxf.running import SIGNALS, held_back
 
 Item = TypeVar("Item")
 Answer = TypeVar("Answer")
@@ -21,8 +22,6 @@ FAULTS = (ToolFault, OwnFault, OSError)  # of one item; any other is one of this
 
 # A process that is forked knows all that this one does, so no work has to be told to it.
 CONTEXT = multiprocessing.get_context("fork")
-
-SIGNALS = (signal.SIGHUP, signal.SIGINT, signal.SIGTERM)  # that end this program
 
 
 class Outcome(Generic[Answer]):
@@ -71,16 +70,6 @@ def beside(stream: Stream[Item, Answer], items: Sequence[Item], jobs: int) -> It
             receiver.close()
         for worker in multiprocessing.active_children():
             worker.join()
-
-
-@contextlib.contextmanager
-def held_back() -> Iterator[None]:
-    """Signals that would end this process come after the block, so that it knows of each process that it has started."""
-    signal.pthread_sigmask(signal.SIG_BLOCK, SIGNALS)
-    try:
-        yield
-    finally:
-        signal.pthread_sigmask(signal.SIG_UNBLOCK, SIGNALS)
 
 
 def started(words: tuple[Any, ...]) -> BaseProcess:

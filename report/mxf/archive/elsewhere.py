@@ -4,7 +4,6 @@ from __future__ import annotations
 import contextlib
 import email.utils
 import os
-import tempfile
 from collections.abc import Iterator
 from pathlib import Path
 from typing import NamedTuple, Union
@@ -21,6 +20,7 @@ from mxf.fetch.folder import Folder
 from mxf.fetch.getting import Bounds, Getting
 from mxf.fetch.opening import COMMAND, Where, is_elsewhere, is_web, opened
 from mxf.lines import Line
+from mxf.running import temporary_folder
 from mxf.sources import Source, Sources
 
 # What is said of a place that is none, without the place: a URL may have a password in it.
@@ -82,7 +82,7 @@ class Looking:
         if self.named.into is not None:
             yield Path(os.path.abspath(self.named.into))
             return
-        with tempfile.TemporaryDirectory(prefix="mxf_archive.") as path:
+        with temporary_folder("mxf_archive.") as path:
             yield Path(path)
 
     def opened(self, path: Path) -> contextlib.AbstractContextManager[Getting]:

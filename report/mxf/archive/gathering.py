@@ -8,7 +8,6 @@ from __future__ import annotations
 import contextlib
 import os
 import re
-import tempfile
 from collections.abc import Iterable
 from typing import NamedTuple
 
@@ -17,8 +16,10 @@ from mxf.archive.origins import IDENTIFIED, origin_of
 from mxf.calling import Call, Keeps, Tool
 from mxf.faults import ToolFault
 from mxf.files import sha256_of
-from mxf.lines import Line, take_lines
+from mxf.lines import Line
+from mxf.reading import take_lines
 from mxf.packages import Packages
+from mxf.running import temporary_folder
 from mxf.sources import Source, Sources, are_put_together, source_of
 
 FORMAT = 1  # of these lines
@@ -141,7 +142,7 @@ class Gathering:
         themselves."""
         if self.named.has_ranges() and not are_put_together(self.tool.pieces(self.named.sources), self.named.sources):
             return self.named.sources
-        folder = self.opened.enter_context(tempfile.TemporaryDirectory(prefix="mxf_archive."))
+        folder = self.opened.enter_context(temporary_folder("mxf_archive."))
         joined = os.path.join(folder, "joined")
         join = self.tool.call(["join", "--strict", "--out", joined], self.named.sources)
         self.tool.texts_of(join)

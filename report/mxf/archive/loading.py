@@ -7,7 +7,8 @@ from mxf.archive import database, storing
 from mxf.archive.rows import Recording, recordings_of
 from mxf.archive.words import Words
 from mxf.faults import DATA, READ, OwnFault, tell_own
-from mxf.lines import Line, LineFault, line_of
+from mxf.lines import Line
+from mxf.reading import LineFault, line_of
 
 
 def load(words: Words) -> int:

@@ -10,7 +10,8 @@ from typing import Any, NamedTuple
 from mxf.archive import database, origins, printing
 from mxf.calling import Tool
 from mxf.faults import USAGE, OwnFault, tell_own
-from mxf.lines import ItemLine, Line, checked
+from mxf.lines import ItemLine, Line
+from mxf.reading import checked
 from mxf.sources import Sources
 from mxf.archive.words import Words
 

@@ -15,11 +15,12 @@ from mxf.described import Described
 from mxf.faults import DATA, OwnFault
 
 from mxf.lines import (
-    AnyLine, ChainLine, ClipLine, ClockLine, ContainerLine, DescribedLine, DisputeLine, DoubtLine, EssenceLine, FindingLine,
-    ItemLine, LabelLine, Line, LineFault, MapCounts, NameLine, OrderLine, PackageLine, PackLine, PlannedLine, ReferenceLine,
-    SampledPictureLine, SoundLine, StampLine, StopLine, Takers, TextLine, TimecodeLine, TrackLine, UidLine, UnitsLine, checked,
-    take_line,
+    AnyLine, ChainLine, ClipLine, ClockLine, ContainerLine, DescribedLine, DisputeLine, DoubtLine, EssenceLine,
+    FindingLine, ItemLine, LabelLine, Line, MapCounts, NameLine, OrderLine, PackageLine, PackLine, PlannedLine,
+    ReferenceLine, SampledPictureLine, SoundLine, StampLine, StopLine, TextLine, TimecodeLine, TrackLine, UidLine,
+    UnitsLine,
 )  # fmt: skip
+from mxf.reading import LineFault, Takers, checked, take_line
 from mxf.standing import is_damaged_at, is_doubt, is_lacking, is_unreadable
 from mxf.written import Written
 

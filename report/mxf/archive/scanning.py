@@ -19,7 +19,8 @@ from mxf.archive.rows import Recording, recordings_of
 from mxf.archive.scanned import UNREAD, Scanned
 from mxf.archive.words import Words
 from mxf.faults import OwnFault, ToolFault, tell_own
-from mxf.lines import Line, line_of
+from mxf.lines import Line
+from mxf.reading import line_of
 from mxf.sources import Sources
 
 MOST_OTHERS = 20  # that are named of what isn't looked at

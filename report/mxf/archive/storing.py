@@ -12,7 +12,8 @@ from mxf.archive import schema
 from mxf.archive.answering import identity_of
 from mxf.archive.rows import Recording, Row, number_of
 from mxf.faults import OwnFault
-from mxf.lines import Line, PacketLine, checked, end_of_packet
+from mxf.lines import Line, PacketLine
+from mxf.reading import checked, end_of_packet
 from mxf.standing import UNREADABLE
 
 # The counts of a state by which it is said to have changed.

@@ -12,7 +12,8 @@ from mxf.archive.folders import Found
 from mxf.archive.joining import Reader
 from mxf.archive.words import Words
 from mxf.faults import USAGE, OwnFault, tell_own
-from mxf.lines import Line, line_of
+from mxf.lines import Line
+from mxf.reading import line_of
 
 COUNTS = ("packets", "all-packets", "bytes", "all-bytes", "differs", "cut", "unknown")
 HEADS = ("recording", *(name.replace("-", "_") for name in COUNTS), "why")

@@ -8,7 +8,8 @@ from mxf.calling import Call, Tool, program
 from mxf.faults import NO_PROGRAM, OwnFault, ToolFault
 from mxf.fetch.folder import Folder
 from mxf.fetch.forms import formed
-from mxf.lines import Line, LineFault, line_of
+from mxf.lines import Line
+from mxf.reading import LineFault, line_of
 from mxf.sources import Sources
 
 

@@ -3,18 +3,8 @@ from __future__ import annotations
 
 from typing import Any, TypedDict, cast
 
-from mxf.lines import (
-    ClockLine,
-    FindingLine,
-    Line,
-    PacketLine,
-    RangeLine,
-    RestoreLine,
-    UnitsLine,
-    UnitWords,
-    checked,
-    end_of_packet,
-)
+from mxf.lines import ClockLine, FindingLine, Line, PacketLine, RangeLine, RestoreLine, UnitsLine, UnitWords
+from mxf.reading import checked, end_of_packet
 
 
 class UnitLine(UnitWords):

@@ -5,7 +5,8 @@ from collections.abc import Sequence
 
 from mxf.described import Described
 from mxf.faults import ToolFault
-from mxf.lines import ExtentLine, UnitLine, take_lines
+from mxf.lines import ExtentLine, UnitLine
+from mxf.reading import take_lines
 from mxf.report.asked import Words
 from mxf.report.asking import Asking
 from mxf.report.bounds import CELLS, INDEXES, NAMES, UNITS

@@ -5,14 +5,14 @@ from __future__ import annotations
 FINDINGS = {
     "F01": ("different packets at one offset", "`show` marks them `disputed`. Find out which reading holds, and leave out the other one's sources."),
     "F02": ("overlapping packets", "Compare the OFFSETs of the sources with the places that were restored. Then as for F01."),
-    "F03": ("bytes not held", "Restore it if you need it; after a `head`, from that packet on. Of a restore in parts these findings may stay."),
+    "F03": ("bytes not held", "Restore it if you need it; after a `head`, from that packet on. In a restore of parts such findings may stay."),
     "F04": ("partition pack unreadable", "Restore these bytes again, from another copy of the medium."),
     "F05": ("partition names another offset", "Correct the OFFSETs. If a single one says so, its pack is damaged or wrong."),
     "F06": ("previous partition doesn't fit", "`link missing`: restore from the offset after `previous`, unless a pack is held there and disputed. `link skips`: a partition between isn't named; it may be of another reading. `link wrong`: as for F04."),
     "F07": ("footer marked open", "[Read the file again](#a-recording-that-still-grows) when it is closed. Until then take what it says of lengths and metadata as provisional."),
     "F08": ("footer partition not held", "Restore from the offset after `footer` to the end."),
     "F09": ("header metadata not whole", "See the `copy` line: restore from START, or from the end of the pack if it is `none`. Or take another copy, if `preferred` names one that is `finished`."),
-    "F10": ("set unreadable", "Restore these bytes again. If they come back the same, or [`verify`](#whether-a-copy-is-as-it-was) finds them as they were when the recording came in, the file was written so: other sets aren't touched by it."),
+    "F10": ("set unreadable", "Restore these bytes again. If they come back the same, or [`verify`](ARCHIVE.md#whether-a-copy-is-as-it-was) finds them as they were when the recording came in, the file was written so: other sets aren't touched by it."),
     "F11": ("index segment unreadable", "As for F10."),
     "F12": ("random index pack doesn't fit", "With `rip-entry .. missing` lines: restore those partitions, and it will fit; if a `note` line there says `disputed`, [settle the dispute](#a-recording-that-still-grows), for restoring changes nothing. With none: packets after it, or a partition that it doesn't list, are of another reading or file."),
     "F13": ("reference not found", "With F09 beside it, restore the rest of the header metadata. Otherwise the file was written so; the `package` and `identification` lines say which reference it is, and if none does, it is that to the content storage."),
@@ -29,6 +29,7 @@ DOUBTS = {
     "G08": ("set's key doesn't fit its items", "The key of the set is damaged: its items are of another one."),
     "G09": ("reference to no set", "An identifier is damaged, in the set that refers or in the one that it means."),
     "G10": ("item that the primer lacks", "The tag of the item is damaged, or the primer pack."),
+    "G11": ("unit behind the essence's end", "A stream offset in the index is damaged, or the number of its units. Or essence is missing at the end, and the partitions were written anew."),
 }  # fmt: skip
 
 # The characters of a map (docs/FORMATS.md): the fill of a cell, and what it says.

@@ -3,7 +3,7 @@ from __future__ import annotations
 
 from collections.abc import Iterator
 
-from mxf.lines import end_of_packet
+from mxf.reading import end_of_packet
 from mxf.report.planned import Checked, Planned
 from mxf.report.shown import Mapped, Shown
 from mxf.report.verdicts import OF_RECORDING, Verdict, first_of

@@ -6,9 +6,10 @@ from collections.abc import Iterable
 from functools import partial
 
 from mxf.lines import (
-    DisputedPlaceLine, DoubtLine, DoubtsLine, FindingLine, FindingsLine, Line, PlannedLine, RestoreLine, StopLine, UnitsLine,
-    take_lines,
+    DisputedPlaceLine, DoubtLine, DoubtsLine, FindingLine, FindingsLine, Line, PlannedLine, RestoreLine, StopLine,
+    UnitsLine,
 )  # fmt: skip
+from mxf.reading import take_lines
 from mxf.report.rows import Rows
 from mxf.standing import is_damaged_at, is_doubt
 from mxf.wording import are_text, count_text

@@ -2,11 +2,10 @@
 from __future__ import annotations
 
 import shlex
-import tempfile
 
 from mxf.described import containers_text
 from mxf.faults import NO_PROGRAM, OwnFault
-from mxf.lines import LineFault, end_of_packet, fields_of
+from mxf.reading import LineFault, end_of_packet, fields_of
 from mxf.report import pages
 from mxf.report.asked import Words
 from mxf.report.asking import Asking
@@ -16,6 +15,7 @@ from mxf.report.judging import parts_of, verdict_of
 from mxf.report.partition_drawing import drawing_of_partitions
 from mxf.report.strips import what_is_ordered
 from mxf.report.told import Told, file_of
+from mxf.running import temporary_folder
 from mxf.wording import count_text
 
 
@@ -29,7 +29,7 @@ def title_of(told: Told) -> str:
 
 def page_of_recording(tool: Asking, words: Words) -> str:
     """The page of one recording."""
-    with tempfile.TemporaryDirectory(prefix="mxf_report.") as folder:
+    with temporary_folder("mxf_report.") as folder:
         tool.join(folder)
         try:
             facts = Facts(tool, words)

@@ -9,9 +9,10 @@ from functools import partial
 from typing import NamedTuple
 
 from mxf.lines import (
-    AnyLine, ChainLine, CopyLine, ExtentLine, Line, MapLine, NoteLine, PartitionLine, PieceLine, PreferredLine, RangeLine,
-    ReferenceLine, RipEntryLine, RipLine, RowLine, SegmentLine, Takers, take_line, take_lines,
+    AnyLine, ChainLine, CopyLine, ExtentLine, Line, MapLine, NoteLine, PartitionLine, PieceLine, PreferredLine,
+    RangeLine, ReferenceLine, RipEntryLine, RipLine, RowLine, SegmentLine,
 )  # fmt: skip
+from mxf.reading import Takers, take_line, take_lines
 from mxf.report.bounds import NAMES, NODES
 from mxf.report.rows import Rows
 from mxf.written import Written

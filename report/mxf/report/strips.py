@@ -10,7 +10,8 @@ from functools import partial
 
 from mxf.report.clocks import Clock, Place, Timecodes
 from mxf.report.guide import REASONS, STANDING_WORDS
-from mxf.lines import Line, RestoreLine, UnitLine, UnitsLine, VerifiedUnitsLine, take_lines
+from mxf.lines import Line, RestoreLine, UnitLine, UnitsLine, VerifiedUnitsLine
+from mxf.reading import take_lines
 from mxf.report.planned import Planned
 from mxf.report.rows import Rows
 

@@ -5,7 +5,8 @@ import collections
 import os
 from collections.abc import Iterable, Sequence
 
-from mxf.lines import Line, NoteLine, SourceLine, take_lines
+from mxf.lines import Line, NoteLine, SourceLine
+from mxf.reading import take_lines
 from mxf.report.asking import Asking
 from mxf.report.bounds import NAMES
 from mxf.report.rows import Rows

@@ -27,7 +27,7 @@ IN_DOUBT = Verdict("Held, with doubts", "doubt", "held, with doubts")
 END_UNKNOWN = Verdict("Held as far as is known", "doubt", "held as far as is known")
 WHOLE = Verdict("Whole", "sound", "whole")
 
-# The verdicts of the page of a recording, the first that fits (docs/GUIDE.md). A test compares their words.
+# The verdicts of the page of a recording, the first that fits (docs/PAGES.md). A test compares their words.
 OF_RECORDING = (
     NOTHING_HELD, DISPUTED, DIFFERENT, PARTS_MISSING, NOT_ALL_VERIFIED, PIECE_UNREAD, FOUND_WRONG, IN_DOUBT, END_UNKNOWN, WHOLE,
 )  # fmt: skip

@@ -4,7 +4,8 @@ from __future__ import annotations
 from collections.abc import Iterable
 from functools import partial
 
-from mxf.lines import DiffersLine, Line, PacketLine, RangeLine, StopLine, VerifiedLine, VerifiedUnitsLine, take_lines
+from mxf.lines import DiffersLine, Line, PacketLine, RangeLine, StopLine, VerifiedLine, VerifiedUnitsLine
+from mxf.reading import take_lines
 from mxf.report.rows import Rows
 from mxf.report.strips import Strip
 

@@ -3,10 +3,10 @@ from __future__ import annotations
 
 import contextlib
 import os
-import tempfile
 
 from mxf.calling import Call, Keeps
 from mxf.lines import Line
+from mxf.running import temporary_folder
 from mxf.sources import Source, Sources, source_of
 from mxf.summary.judged import HINT, JOINED, Asking
 
@@ -61,7 +61,7 @@ def answers_of(asking: Asking) -> dict[str, list[Line]]:
     """What mxf_tool says of the sources, by the commands. The calls go side by side if they read little."""
     asking.tool.version()  # asks the program itself from now on, and not what makes it
     with contextlib.ExitStack() as opened:
-        asking.join(opened.enter_context(tempfile.TemporaryDirectory(prefix="mxf_report.")))
+        asking.join(opened.enter_context(temporary_folder("mxf_report.")))
         is_beside = asking.is_skimming or is_small(asking.sources)
         calls = {command: call_of(asking, command, is_beside) for command in COMMANDS}
         for call in calls.values() if is_beside else ():

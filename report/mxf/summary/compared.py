@@ -6,7 +6,8 @@ from collections.abc import Iterable, Iterator, Mapping, Sequence
 from typing import NamedTuple
 
 from mxf.calling import Tool
-from mxf.lines import ExtentLine, NoteLine, take_lines
+from mxf.lines import ExtentLine, NoteLine
+from mxf.reading import take_lines
 from mxf.sources import Sources
 from mxf.summary.judged import Asking
 from mxf.summary.summary import Row, Summary

@@ -3,7 +3,7 @@ from __future__ import annotations
 
 from mxf.archive.printing import print_lines, print_objects
 from mxf.faults import NO_PROGRAM, OwnFault
-from mxf.lines import LineFault
+from mxf.reading import LineFault
 from mxf.summary.compared import Compared
 from mxf.summary.judged import Asking
 from mxf.summary.summary import Summary
