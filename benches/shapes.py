@@ -222,6 +222,23 @@ def constant_index(partitions: int, repeated: bool) -> bytes:
     return b"".join(parts)
 
 
+def ended(count: int) -> list[bytes]:
+    """A recording whose random index pack lists `count` partitions of an edit unit each, and as many indexes, each with a
+    segment of one unit, of sizes that differ."""
+    unit, parts, this, previous = essence_packet(VALUE), [], 0, 0
+    footer = count * (PACK + len(unit))
+    for number in range(count):
+        states = f"previous={previous} footer={footer} body-sid=2 body-offset={number * len(unit)}"
+        part = laid(f"{'body' if number else 'header'} {states}", this) + unit
+        parts.append(part)
+        previous, this = this, this + len(part)
+    index = [laid(f"segment index-sid={number + 1} unit-bytes={number + 1} start={number % 2} duration=1") for number in range(count)]
+    states = f"previous={previous} footer={footer} index-bytes={sum(map(len, index))} index-sid=1"
+    listed_partitions = " ".join(f"2:{number * (PACK + len(unit))}" for number in range(count))
+    parts += [laid(f"footer {states}", footer), *index, laid(f"rip {listed_partitions} 0:{footer}")]
+    return [b"".join(parts)]
+
+
 def timed(count: int) -> list[bytes]:
     """The same with a clip in the header metadata that gives each edit unit its timecode. The pictures are stored in
     another order than they are shown: the first, and then of each three the last one first."""
@@ -258,6 +275,10 @@ class Shape:
     contents: Callable[[int], list[list[notes.Note]]] = lambda _: []
     options: tuple[str, ...] = ()
 
+    def asked(self) -> str:
+        """The question with what it is asked for beside, as a row names it."""
+        return " ".join((self.question, *(word for word in self.options if word == "--doubts")))
+
 
 SHAPES = {
     "growing": Shape("partitions with 28 sets each", "show", 500, growing),
@@ -269,6 +290,11 @@ SHAPES = {
     "references": Shape("references among as many sets", "check", 500, references),
     "named": Shape("references to one package of many items", "check", 500, named),
     "causes": Shape("partitions with two findings", "check", 8000, causes),
+    "doubts": Shape("partitions with 28 sets each", "check", 500, growing, options=("--doubts",)),
+    "doubted_zones": Shape("zones over one another", "check", 2000, zones, options=("--doubts",)),
+    "doubted_tags": Shape("tags for as many items", "check", 2000, tags, options=("--doubts",)),
+    "doubted_references": Shape("references among as many sets", "check", 500, references, options=("--doubts",)),
+    "doubted_ends": Shape("partitions and indexes", "check", 4000, ended, options=("--doubts",)),
     "disputed": Shape("disputed notes", "show", 37_500, disputed),
     "readings": Shape("disputed notes of two sources", "sources", 37_500, disputed),
     "beside": Shape("disputed notes of a reference", "verify", 37_500, beside, contents_beside),

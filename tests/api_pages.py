@@ -1,5 +1,9 @@
 #!/usr/bin/env python3
-"""Writes docs/api from the sources: a page for each library, and README.md, which lists them.
+"""Makes the pages of the libraries from the sources: a page for each library, README.md, which lists them, and files.md.
+
+    tests/api_pages.py                looks at the pages: each public item, method and trait's function has its sentence,
+                                      and each link between the pages leads to a heading
+    tests/api_pages.py --out FOLDER   writes the pages into a folder; `packaging/pages` calls it so
 
 A library is a crate of crates.txt whose src/lib.rt passes items on. Its page has the comment of the crate, then each
 item that lib.rt passes on: types, functions, traits and constants, and apart from them the laws, those of src/laws.rt
@@ -7,17 +11,20 @@ too. A law is a function that takes nothing and answers nothing. Of ghost code n
 clauses. files.md says of each file of the crates what it has, by its first sentence.
 
 A source is read by its layout, which `rt fmt` keeps: each item begins at the indentation of its block, and its body
-ends there. tests/documents.py compares the pages with what this script makes of the sources.
+ends there. Only failures are printed; the last line is 'N passed, M failed'.
 """
+from __future__ import annotations
+
+import argparse
 import functools
 import itertools
 import pathlib
 import re
 import sys
+from collections.abc import Iterator
 from dataclasses import dataclass, field
 
 TOP = pathlib.Path(__file__).resolve().parent.parent
-PAGES = TOP / "docs/api"
 KINDS = {
     "struct": "Types", "enum": "Types", "type": "Types", "fn": "Functions", "trait": "Traits", "const": "Constants",
 }  # fmt: skip
@@ -27,18 +34,19 @@ DECLARED = re.compile(r"pub (struct|enum|type|fn|trait|const) (\w+)")
 FRONT = """# The libraries, item by item
 
 These pages are for those who build on the libraries. Each page has what one library passes on: its types, functions,
-traits and constants, and apart from them its laws. `tests/api_pages.py` writes the pages from the sources.
-`tests/documents.py` fails if a page differs from what the script makes of the sources today.
+traits and constants, and apart from them its laws. `packaging/pages` makes the pages from the sources, and
+`packaging/release` those of a release.
 
 A page begins with the comment of its crate. Of a law it has the whole comment, of all else the first sentence. The rest
-stands in the source to which the page links.
+stands in the source that the page names.
 
 A clause (`ensures`) says what a function answers and what it leaves. A condition (`requires`) says what its caller has
 to see to. The pages name them, and the sources have their statements. A law takes nothing and answers nothing: its
 clauses say what holds.
 
-[files](files.md) says which file has what. [LAYERS](../LAYERS.md) says which crate stands on which, [MODEL](../MODEL.md) what the definitions in the clauses say.
-[mxf_example](../../crates/mxf_example) is a whole program that builds on the libraries.
+[files](files.md) says which file has what. In the repository `docs/LAYERS.md` says which crate stands on which,
+`docs/MODEL.md` what the definitions in the clauses say, and `crates/mxf_example` is a whole program that builds on the
+libraries.
 
 | Library | What it has |
 |---|---|
@@ -46,7 +54,7 @@ clauses say what holds.
 # How the page of files begins.
 FILES = """# The files of the crates
 
-What each file of a crate's `src/` has, by the first sentence of its comment. `tests/api_pages.py` writes this page."""
+What each file of a crate's `src/` has, by the first sentence of its comment."""
 PASSED_ON = re.compile(r"pub use ([\w:]+?)::\{?([\w, ]+)\}?$")
 CODE_LINK = re.compile(r"\[`([^`\]]+)`\](?:\(([^)]*)\))?")
 
@@ -290,7 +298,7 @@ def place(item):
     verb = "stand" if len(conditions + clauses) > 1 else "stands"
     words = " and ".join(told or ["it"])
     path = item.file.relative_to(TOP).as_posix()
-    return f"{words[0].upper()}{words[1:]} {verb} in [{path.split('/src/')[1]}](../../{path})."
+    return f"{words[0].upper()}{words[1:]} {verb} in `{path}`."
 
 
 def signature(item):
@@ -422,7 +430,7 @@ def files():
     rows = (TOP / "crates.txt").read_text(encoding="utf-8").splitlines()
     parts = [FILES]
     for crate in (row.split(":")[0].strip() for row in rows if ":" in row):
-        head = f"| In [src](../../crates/{crate}/src) | Has |"
+        head = f"| In `crates/{crate}/src` | Has |"
         parts += [f"## {crate}", "\n".join((head, "|---|---|", *files_of(crate)))]
     return "\n\n".join(parts) + "\n"
 
@@ -433,14 +441,74 @@ def pages():
     return {"README.md": front(), "files.md": files(), **{f"{name}.md": page(name) for name in libraries()}}
 
 
-def main():
-    """Writes the pages, and removes those of libraries that are no more."""
-    PAGES.mkdir(exist_ok=True)
-    for old in PAGES.glob("*.md"):
+def told_items(crate: str) -> Iterator[tuple[str, str]]:
+    """What a page says of each public item, of each public method and of each function of a trait: its name, and its
+    first sentence, which is empty if it has none."""
+    for name, item in exported(crate).items():
+        if isinstance(item, str):
+            continue
+        yield name, first_sentence(item.docs)
+        blocks = [block for kind, block in implementations(crate).get(name, []) if kind is None]
+        for inner in itertools.chain.from_iterable(block.inside() for block in blocks):
+            if inner.head.startswith("pub fn "):
+                yield f"{name}::{inner.head.removeprefix('pub ')}", first_sentence(inner.docs)
+        for inner in item.inside() if item.head.startswith("pub trait ") else ():
+            if inner.head.startswith("fn "):
+                yield f"{name}::{inner.head}", first_sentence(inner.docs)
+
+
+def headings_of(text: str) -> set[str]:
+    """The anchors of the headings of a page, as GitHub makes them."""
+    names = [re.sub(r"[^\w\- ]", "", line.lstrip("# ").lower()).replace(" ", "-") for line in text_lines(text)]
+    return {f"{name}-{names[:at].count(name)}" if name in names[:at] else name for at, name in enumerate(names)}
+
+
+def text_lines(text: str) -> list[str]:
+    """The headings of a page, without the lines of its blocks of code."""
+    outside = re.sub(r"^```.*?^```", "", text, flags=re.MULTILINE | re.DOTALL)
+    return [line for line in outside.splitlines() if line.startswith("#")]
+
+
+def faults() -> Iterator[tuple[str, str | None]]:
+    """What is looked at: of each thing its name, and what is wrong with it, or None."""
+    for crate in libraries():
+        for name, sentence in told_items(crate):
+            yield f"{crate}: {name}", None if sentence else "it has no sentence"
+    headings = {name: headings_of(text) for name, text in pages().items()}
+    for name, text in pages().items():
+        for page_name, anchor in re.findall(r"\]\(([\w.]*)#?([^)\s]*)\)", text):
+            there = headings.get(page_name or name, set())
+            is_there = anchor in there if anchor else bool(there)
+            yield f"{name}: {page_name}#{anchor}", None if is_there else "the link leads nowhere"
+
+
+def check() -> bool:
+    """Prints what is wrong with the pages, and how many things were looked at. Whether nothing is wrong."""
+    found = list(faults())
+    failed = [(name, fault) for name, fault in found if fault]
+    for name, fault in failed:
+        print(f"FAILED: {fault}: {name}")
+    print(f"{len(found) - len(failed)} passed, {len(failed)} failed")
+    return not failed
+
+
+def write(folder: pathlib.Path) -> None:
+    """Writes the pages into a folder, and removes pages of libraries that are no more."""
+    folder.mkdir(parents=True, exist_ok=True)
+    for old in folder.glob("mxf_*.md"):
         if old.name not in pages():
             old.unlink()
     for name, text in pages().items():
-        (PAGES / name).write_text(text, encoding="utf-8")
+        (folder / name).write_text(text, encoding="utf-8")
+
+
+def main() -> int:
+    parser = argparse.ArgumentParser(description="Looks at the pages of the libraries, or writes them.")
+    parser.add_argument("--out", metavar="FOLDER", type=pathlib.Path, help="write the pages into this folder")
+    folder = parser.parse_args().out
+    if folder is None:
+        return 0 if check() else 1
+    write(folder)
     return 0
 
 

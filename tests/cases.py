@@ -3,6 +3,7 @@
 
     tests/cases.py PROGRAM [WORD]    all cases, or those whose name has the WORD; the last line is 'N passed, M failed'
     tests/cases.py --bytes NAME      the bytes of the cases of that name, a field a line, or of a worked file
+    tests/cases.py --write NAME      the bytes of the first piece of the case of that name, or of a worked file, as they are
 
 Before, the worked files are compared with the bytes in tests/worked and with those that stand in crates of tests, and
 each form of a printed line (forms.txt) has to be wanted by a case.
@@ -10,11 +11,16 @@ each form of a printed line (forms.txt) has to be wanted by a case.
 A case is some lines of a text file in tests/cases. A number sign begins a comment.
 
     case NAME
-    table COLUMN | COLUMN              the case is run for each row below, `{COLUMN}` standing for the row's entry
+    table COLUMN | COLUMN              the case is run for each row below, `{COLUMN}` standing for the row's entry; a line
+                                       that an entry leaves empty isn't there
         ENTRY | ENTRY
     in each order                      the sources are handed in each order
     at OFFSET: PACKET                  a piece that begins at OFFSET; the packets that follow in it stand indented below
         PACKET
+        but NAME WORD ..               the first packet before it of this NAME, or the set of this identifier, is stated
+                                       by these words too, and no longer by those of the same names
+        without NAME                   it isn't there
+        up to END                      of the packets before it, these bytes
     range OFFSET: PACKET               a range that begins at OFFSET, where the first PACKET may be the end of one
     packets of FILE: OFFSET OFFSET     the packets of a file of tests/cases/files.txt that stand there, each a piece
     against OFFSET: PACKET             a piece of the reference of `verify`; the packets that follow in it stand as in `at`
@@ -23,12 +29,13 @@ A case is some lines of a text file in tests/cases. A number sign begins a comme
                                        sources than of the catalogue, and are asked of the sources alone
     show [WORD ..]                     what `show` prints, or those of its lines that begin with one of the words
         LINE
-    check [doubts]                     what `check` prints, and with `--doubts` where that stands there. `locate INDEX
-                                       UNIT`, `units FROM TO [INDEX]`, `plan [INDEX FROM TO]`, `map [extents] COLUMNS
-                                       ROWS` and `join` stand so too. A word `-` is left out
+    check [doubts]                     what `check` prints, and with `--doubts` where that stands there. `describe [WORD
+                                       ..]`, `locate INDEX UNIT`, `units [timecode] FROM TO [INDEX]`, `plan [INDEX FROM
+                                       TO]`, `map [extents] COLUMNS ROWS` and `join` stand so too. A word `-` is left out
         LINE
-    verify [whole] [INDEX FROM TO]     what `verify` prints against the pieces of the reference, with `--whole` where
-        LINE                           that stands there, and with the units of an index
+    verify [whole] [timecode] [INDEX FROM TO]
+        LINE                           what `verify` prints against the pieces of the reference, with `--whole` and
+                                       `--timecode` where that stands there, and with the units of an index
     json show [WORD ..]                the same with `--json`; a WORD is the name of a line's form. Each command may
         LINE                           stand so
     skim show [WORD ..]                the same with `--skim`, of the pieces alone, since a catalogue has the digests that
@@ -59,7 +66,7 @@ CASES = pathlib.Path(__file__).parent / "cases"
 WORKED = pathlib.Path(__file__).parent / "worked"
 CRATES = pathlib.Path(__file__).parent.parent / "crates"
 EXAMPLES = pathlib.Path(__file__).parent.parent / "examples"
-COMMANDS = ("show", "check", "locate", "units", "plan", "map", "join", "verify")
+COMMANDS = ("show", "check", "describe", "locate", "units", "plan", "map", "join", "verify")
 OPTIONS = {
     "locate": ("--index", "--unit"),
     "units": ("--from", "--to", "--index"),
@@ -67,8 +74,10 @@ OPTIONS = {
     "map": ("--columns", "--rows"),
     "verify": ("--index", "--from", "--to"),
 }
-# The option of a command that takes no value: its word in a case is the option's without the dashes.
-FLAGS = {"verify": "whole", "map": "extents", "check": "doubts"}
+# The options of a command that take no value: their words in a case are the options' without the dashes.
+FLAGS = {"verify": ("whole", "timecode"), "units": ("timecode",), "map": ("extents",), "check": ("doubts",)}
+# The commands of whose lines words of a case choose some.
+CHOOSING = ("show", "describe")
 # What is said of bytes at hand too, which a saved catalogue hasn't.
 OF_BYTES = ("plan", "map", "units")
 # What may stand before a command, the option of that name.
@@ -103,9 +112,9 @@ class Command:
     def __init__(self, words, form):
         self.name = words[0]
         self.form = [f"--{form}"] if form in FORMS else []
-        self.chosen = words[1:] if self.name == "show" else []
+        self.chosen = words[1:] if self.name in CHOOSING else []
         options = OPTIONS.get(self.name, ())
-        flags = [f"--{word}" for word in words[1:2] if word == FLAGS.get(self.name)]
+        flags = [f"--{word}" for word in words[1:] if word in FLAGS.get(self.name, ())]
         given = [pair for pair in zip(options, words[1 + len(flags) :]) if pair[1] != "-"]
         self.arguments = flags + [text for pair in given for text in pair]
         self.lines = []
@@ -139,27 +148,42 @@ class Case:
         {"against": self.reference, "together": self.together}.get(sort, self.pieces).append(self.last)
 
     def lay(self, line, files):
-        """Adds the packet of this line, or the packets of the file of that name, to the last piece."""
-        offset, laid, _ = self.last
-        at = offset + sum(map(packets.size_of, laid))
-        laid += files[line] if line in files else [packets.packet(line, at)]
+        """Adds the packet of this line, or the packets of the file of that name, to the last piece, or states one of them
+        otherwise."""
+        lines = self.last[1]
+        word, _, rest = line.partition(" ")
+        if word == "up":
+            lines[:] = front_of(lines, self.last[0], int(rest.removeprefix("to ")))
+        elif word in ("but", "without"):
+            name, *words = rest.split()
+            place = next(at for at, before in enumerate(lines) if name in before.split()[:2])
+            lines[place : place + 1] = [stated(lines[place], words)] if word == "but" else []
+        else:
+            lines += files.get(line, [line])
+
+    def lay_all(self):
+        """Lays the packets of all pieces."""
+        for offset, lines, _ in self.pieces + self.reference + self.together:
+            lines[:] = packets.laid(lines, offset)
 
 
-def file_of(lines):
-    """The packets of a file, from 0 on."""
-    laid, offset = [], 0
-    for line in lines:
-        laid.append(packets.packet(line, offset))
-        offset += packets.size_of(laid[-1])
-    return laid
+def front_of(lines, offset, end):
+    """The packets of these lines up to an end, which may cut one."""
+    for line, at in packets.numbered(lines, offset):
+        size = packets.size_of(packets.packet(line, at))
+        if at < end:
+            yield line if at + size <= end else f"{line} front={end - at}"
 
 
-def packets_at(packets_of_file, offsets):
-    """The packets of a file that stand at these offsets, each a piece."""
-    standing, offset = {}, 0
-    for packet in packets_of_file:
-        standing[offset] = packet
-        offset += packets.size_of(packet)
+def stated(line, words):
+    """The packet of a line, stated by these words too, and no longer by those of the same names."""
+    stated_anew = [word.partition("=")[0] for word in words]
+    return " ".join([word for word in line.split() if word.partition("=")[0] not in stated_anew] + words)
+
+
+def packets_at(lines, offsets):
+    """The packets of a file that stand at these offsets, each a piece, as lines."""
+    standing = {at: line for line, at in packets.numbered(lines, 0)}
     return [(offset, [standing[offset]], "at") for offset in offsets]
 
 
@@ -236,15 +260,19 @@ def case_of(name, lines, files):
                 case.commands[-1].told += rest + "\n"
             else:
                 raise packets.Mistake("no such line")
-        except (packets.Mistake, KeyError, IndexError, ValueError) as mistake:
+        except (packets.Mistake, KeyError, IndexError, ValueError, StopIteration) as mistake:
             sys.exit(f"{name}, line {at}: {text}: {mistake!r}")
+    try:
+        case.lay_all()
+    except (packets.Mistake, KeyError, IndexError, ValueError) as mistake:
+        sys.exit(f"{name}: {mistake!r}")
     return case
 
 
 def all_files():
-    """The worked files: the packets of each."""
+    """The worked files: the lines of the packets of each."""
     blocks = blocks_of(CASES / "files.txt")
-    return {name.removeprefix("file "): file_of([text for _, _, text in lines]) for name, lines in blocks}
+    return {name.removeprefix("file "): [text for _, _, text in lines] for name, lines in blocks}
 
 
 def all_cases(files):
@@ -253,8 +281,9 @@ def all_cases(files):
         for head, lines in blocks_of(path):
             rows, others = rows_of(lines)
             for row in rows:
-                in_row = [(at, indented, filled(text, row)) for at, indented, text in others]
-                yield case_of(f"{path.stem}: {filled(head.removeprefix('case '), row)}", in_row, files)
+                in_row = [(at, indented, filled(text, row).strip()) for at, indented, text in others]
+                stated_lines = [line for line in in_row if line[2]]
+                yield case_of(f"{path.stem}: {filled(head.removeprefix('case '), row)}", stated_lines, files)
 
 
 def commands_of(case):
@@ -400,10 +429,10 @@ def worked_in_crates():
 def wrong_in_the_cases(files, cases):
     """What is wrong with the cases themselves, each as lines: worked files of other bytes, and forms none wants."""
     for path, name, data in worked_in_crates():
-        if data != bytes_of(files[name]):
+        if data != bytes_of(packets.laid(files[name], 0)):
             yield [f"{path.relative_to(CRATES)}: {name} has other bytes than in files.txt"]
     for path in sorted(WORKED.glob("*.bin")):
-        if path.read_bytes() != bytes_of(files[path.stem]):
+        if path.read_bytes() != bytes_of(packets.laid(files[path.stem], 0)):
             yield [f"{path.name} has other bytes than in files.txt"]
     wanted = [line for case in cases for command in case.commands for line in command.lines]
     for _, _, form in lines_of(CASES / "forms.txt"):
@@ -432,7 +461,7 @@ def run_all(program, word, files):
 
 def print_bytes(name, files):
     """Prints the fields of a worked file, or of the pieces of the cases of this name, with their offsets."""
-    pieces = [(name, 0, files[name], "at")] if name in files else []
+    pieces = [(name, 0, packets.laid(files[name], 0), "at")] if name in files else []
     pieces += [(case.name, *piece) for case in all_cases(files) for piece in case.pieces if name in case.name]
     for of, offset, laid, _ in pieces:
         print(f"# {of}, from {offset}")
@@ -443,10 +472,19 @@ def print_bytes(name, files):
             offset += len(data)
 
 
+def write_bytes(name, files):
+    """Writes the bytes of a worked file, or of the first piece of the case of this name."""
+    named = (bytes_of(case.pieces[0][1]) for case in all_cases(files) if case.name == name)
+    written = bytes_of(packets.laid(files[name], 0)) if name in files else next(named)
+    sys.stdout.buffer.write(written)
+
+
 def main():
     files = all_files()
     if len(sys.argv) == 3 and sys.argv[1] == "--bytes":
         print_bytes(sys.argv[2], files)
+    elif len(sys.argv) == 3 and sys.argv[1] == "--write":
+        write_bytes(sys.argv[2], files)
     elif len(sys.argv) in (2, 3):
         sys.exit(0 if run_all(sys.argv[1], (sys.argv + [""])[2], files) else 1)
     else:

@@ -6,15 +6,18 @@ it. Sees that each line of a block that names a file of crates/ stands in it. Se
 table, which an empty line would end, and that the numbers of tests, edits, runs and files that a document gives are those
 of the scripts and crates. Sees that each row of docs/PROMISES.md names a clause, what tries it or edits that there are,
 and that its list has each public call that can be out of memory.
-Looks up in docs/MODEL.md each definition that a clause of a public function of the libraries cites, and each file of
-definitions that it names in the crate of the heading above. Compares the table of docs/LAYERS.md with crates.txt.
-Compares each page of docs/api with what tests/api_pages.py makes of the sources, and what docs/FORMATS.md owns (exit
-statuses, stops, forms of a source, findings, words of lines) with what README.md, docs/GUIDE.md, the man page and the
-sources say of it. Looks up the names of code of docs/MODEL.md, docs/DECISIONS.md and docs/FORMATS.md in the sources. Only
-failures are printed; the last line is 'N passed, M failed'.
+Sees that each definition that a clause of a public function of the libraries cites has a sentence where it stands, or in
+docs/MODEL.md. Looks up each file of definitions that this names, in the crate of the heading above. Compares the tables
+of docs/LAYERS.md and crates/README.md with crates.txt. Looks up the names of code of docs/MODEL.md, docs/DECISIONS.md and
+docs/FORMATS.md in the sources.
+Compares what docs/FORMATS.md owns (exit statuses, stops, forms of a source, findings, words of lines) with what README.md,
+docs/GUIDE.md, the man page and the sources say of it. Sees that no sentence of README.md, docs/GUIDE.md, docs/PAGES.md,
+docs/ARCHIVE.md and the man pages begins with "Of" or "Those", and that none has more than 40 words. Only failures are
+printed; the last line is 'N passed, M failed'.
 """
 import ast
 import collections
+import functools
 import itertools
 import pathlib
 import re
@@ -184,8 +187,26 @@ def has_entry(model, file, name):
     return f"`{name}`" in model or f"`{name.title().replace('_', '')}`" in model
 
 
+@functools.cache
+def with_sentences(file):
+    """The definitions of a file that have a comment right above them."""
+    lines = [line.lstrip() for line in text_of(TOP / file).splitlines()]
+    below = [line for above, line in zip(lines, lines[1:]) if above.startswith("--") and not line.startswith(("--", "use "))]
+    named = (re.match(r"(?:(?:pub|abbrev|unfoldable|record|data) )*([^\s(){}:]+)", line) for line in below)
+    return {name[1] for name in named if name}
+
+
+def has_sentence(file, name):
+    """Whether a definition has a sentence of its own where it stands: right above it; above the relation that it tests or
+    computes, whose name has capital letters, and may begin with Is or Are; or in a comment that names it."""
+    there, titles = with_sentences(file), {word.title().replace("_", "") for word in (name, re.sub(r"_(of|at|in)$", "", name))}
+    known = {name, *titles, *(f"Is{title}" for title in titles), *(f"Are{title}" for title in titles)}
+    return bool(known & there) or re.search(rf"--.*\b{re.escape(name)}\b", text_of(TOP / file)) is not None
+
+
 def verdicts_of_definitions(document):
-    """For each definition that a public clause of the libraries cites: that docs/MODEL.md hasn't its name, or None."""
+    """For each definition that a public clause of the libraries cites: that it has no sentence where it stands, and none
+    in docs/MODEL.md, or None."""
     if document.name != "MODEL.md":
         return
     cited = set()
@@ -193,7 +214,8 @@ def verdicts_of_definitions(document):
         for source in (TOP / "crates" / crate / "src").rglob("*.rt"):
             cited.update(cited_in(source, exported_by(crate)))
     for file, name in sorted(cited):
-        yield 1, f"{name} of {file}", None if has_entry(text_of(document), file, name) else "no such definition"
+        is_said = has_sentence(file, name) or has_entry(text_of(document), file, name)
+        yield 1, f"{name} of {file}", None if is_said else "no sentence says what this is, above it or here"
 
 
 def verdicts_of_definition_files(document):
@@ -216,20 +238,21 @@ def crates():
     return {name.strip(): set(below.split()) for name, below in rows}
 
 
+def named_in_tables(document):
+    """The crates whose folders begin the rows of a document, in their order."""
+    rows = (re.match(r"\| \[(mxf_\w+)\]\((?:\.\./crates/)?mxf_\w+\) \|", line) for line in lines_of(document))
+    return [row[1] for row in rows if row]
+
+
 def verdicts_of_layers(document):
-    """For each row of crates of docs/LAYERS.md: its line, its crates, and how it differs from crates.txt, or None. The
-    table names each crate."""
-    if document.name != "LAYERS.md":
-        return
-    known, told = crates(), set()
-    for number, line in enumerate(lines_of(document), 1):
-        named = re.findall(r"\[(mxf_\w+)\]\(\.\./crates/", line.split(" | ")[0]) if line.startswith("| [") else []
-        if named:
-            told.update(named)
-            stated = set(re.findall(r"\w+", line.split(" | ")[2].replace("the libraries", " ".join(LIBRARIES))))
-            below = set().union(*(known.get(name, set()) for name in named))
-            yield number, ", ".join(named), None if stated == below else f"crates.txt differs in {sorted(stated ^ below)}"
-    yield 1, "the table of crates", None if told == set(known) else f"crates.txt differs in {sorted(told ^ set(known))}"
+    """That crates/README.md has a row for each crate, and docs/LAYERS.md one for each that another uses or that has laws;
+    or how their tables differ from crates.txt."""
+    wanted = {"crates": sorted(crates()), "docs": sorted((set(LIBRARIES) | set(PROGRAM)) - {"mxf_tool"})}
+    if (document.parent.name, document.name) in (("crates", "README.md"), ("docs", "LAYERS.md")):
+        named = sorted(named_in_tables(document))
+        differing = sorted(set(named) ^ set(wanted[document.parent.name])) or sorted(named)
+        fault = None if named == wanted[document.parent.name] else f"crates.txt differs in {differing}"
+        yield 1, "the table of crates", fault
 
 
 # A word of a proof or a definition: its letters may be signs, and dashes join parts.
@@ -339,11 +362,11 @@ def verdicts_of_promises(document):
 
 
 def calls_with_memory():
-    """The public calls of the libraries that can answer that they are out of memory, by the pages of docs/api: the type
-    of each, which a function hasn't, and its name."""
-    for page in (api_pages.PAGES / f"{name}.md" for name in LIBRARIES):
+    """The public calls of the libraries that can answer that they are out of memory, by the pages that tests/api_pages.py
+    makes: the type of each, which a function hasn't, and its name."""
+    for page in (api_pages.pages()[f"{name}.md"] for name in LIBRARIES):
         owner = None
-        for line in text_of(page).splitlines():
+        for line in page.splitlines():
             heading = re.match(r"#+ `(\w+)`", line)
             owner = heading[1] if heading else owner
             call = re.match(r"(- )?`fn (\w+)[^`]*\balloc: Global\b[^`]*-> Result<", line)
@@ -411,14 +434,6 @@ def verdicts_of_numbers(document):
             for found in re.finditer(pattern, line):
                 there = count(found[1])
                 yield number, found[0][-80:], None if int(found[2].replace(",", "")) == there else f"it's {there}"
-
-
-def verdicts_of_api(document):
-    """For each page of docs/api: that it isn't what the script makes of the sources, or None. README.md links all."""
-    if document.parent == api_pages.PAGES:
-        made = api_pages.pages().get(document.name)
-        fault = None if text_of(document) == made else "tests/api_pages.py makes it otherwise of today's sources"
-        yield 1, "the page", fault
 
 
 # A name of code in a document: in small letters with a `_`, or with a capital letter within. An unused crate has one.
@@ -651,21 +666,80 @@ def fault_of_fact(file, owned, there):
     return f"{file} says {there}, and this {owned}"
 
 
+# The longest sentence that a document for users may have, in words; a word of code is one.
+MOST_WORDS = 40
+USER_DOCUMENTS = ("README.md", "docs/GUIDE.md", "docs/PAGES.md", "docs/ARCHIVE.md")
+FONTS = (".B", ".I", ".BR", ".BI", ".RB", ".IR", ".RI")
+
+
+def paragraphs(document):
+    """The paragraphs, list items and cells of a document, each with its first line."""
+    lines, first = [], 0
+    for number, line in enumerate([*lines_of(document), ""], 1):
+        text = line.strip()
+        mark = re.match(r"- |\d+\. ", text)
+        if lines and (not text or mark or text.startswith(("|", "#"))):
+            yield first, " ".join(lines)
+            lines = []
+        if text.startswith("|"):
+            cells = [] if re.fullmatch(r"\|[-| ]+\|", text) else re.split(r"(?<!\\)\|", text)[1:-1]
+            yield from ((number, cell.strip()) for cell in cells if cell.strip())
+        elif text and not text.startswith("#"):
+            first = first if lines else number
+            lines.append(text[mark.end() :] if mark else text)
+
+
+def man_paragraphs(document):
+    """The paragraphs of a man page, each with its first line. What is in bold or italics is a word of code."""
+    lines, first = [], 1
+    for number, line in enumerate([*text_of(document).splitlines(), ".PP"], 1):
+        macro, _, rest = line.partition(" ")
+        if macro in FONTS:
+            last = rest.split()[-1]
+            lines.append("`code`" + (last if re.fullmatch(r"[.,;:)]+", last) else ""))
+        elif not line.startswith("."):
+            lines.append(re.sub(r"\\f[BI].*?\\f[RP]", "`code`", line))
+        elif not line.startswith('.\\"'):
+            if lines:
+                yield first, " ".join(lines)
+            lines, first = [], number + 1
+
+
+def fault_of_sentence(words):
+    """What is wrong with a sentence for users, or None: its noun stands nowhere, or it is too long."""
+    if words[0] in ("Of", "Those"):
+        return f"a sentence begins with {words[0]}"
+    return f"a sentence of {len(words)} words" if len(words) > MOST_WORDS else None
+
+
+def verdicts_of_sentences(document):
+    """For each sentence of a document for users: its line, its first words, and what is wrong with it, or None."""
+    is_man_page = document.suffix == ".1"
+    if not is_man_page and document.relative_to(TOP).as_posix() not in USER_DOCUMENTS:
+        return
+    for number, text in man_paragraphs(document) if is_man_page else paragraphs(document):
+        text = re.sub(r"!?\[([^\]]*)\]\([^)]*\)", r"\1", re.sub(r"`[^`]*`", "`code`", text)).replace("*", "")
+        for sentence in re.split(r"(?<=[.!?])\s+", text):
+            words = sentence.split()
+            if words:
+                yield number, " ".join(words[:12]), fault_of_sentence(words)
+
+
 VERDICTS = (
     verdicts_of_promises, verdicts_of_memory,
     verdicts_of_links, verdicts_of_contracts, verdicts_of_tables, verdicts_of_quotes,
-    verdicts_of_definitions, verdicts_of_definition_files, verdicts_of_layers, verdicts_of_numbers, verdicts_of_api, verdicts_of_code,
-    verdicts_of_facts, verdicts_of_declarations,
+    verdicts_of_definitions, verdicts_of_definition_files, verdicts_of_layers, verdicts_of_numbers, verdicts_of_code,
+    verdicts_of_facts, verdicts_of_declarations, verdicts_of_sentences,
 )  # fmt: skip
 
 
 def main():
-    names = ("README.md", "SECURITY.md", "CONTRIBUTING.md", "CHANGELOG.md", "examples/README.md")
-    documents = [TOP / name for name in names]
-    documents += sorted((TOP / "docs").glob("*.md")) + sorted(api_pages.PAGES.glob("*.md"))
+    names = ("README.md", "SECURITY.md", "CONTRIBUTING.md", "CHANGELOG.md", "examples/README.md", "crates/README.md")
+    documents = [*(TOP / name for name in names), *sorted((TOP / "docs").glob("*.md")), *sorted((TOP / "docs").glob("*.1"))]
     passed = failed = 0
     for document in documents:
-        for number, what, fault in itertools.chain.from_iterable(kind(document) for kind in VERDICTS):
+        kinds = (verdicts_of_sentences,) if document.suffix == ".1" else VERDICTS
+        for number, what, fault in itertools.chain.from_iterable(kind(document) for kind in kinds):
             passed += fault is None
             failed += fault is not None
             if fault:

@@ -11,8 +11,8 @@ bound of processor time, n log n in the bytes of its sources, and a bound of mem
 memory within that bound fails, as does anything on standard error but that an index isn't held. What is noted, why a
 piece ends, what is disputed or a gap, how pieces with other bytes stand to a reference of some of them, where each
 source lies in one of them and in the saved catalogue, and that catalogue are compared with those of notes.py, which
-goes by ST 336 alone, what is put together and ordered of ranges with those of at_hand.py, and clocks with those of
-clocks.py. Cut at packets and within them, with repeats, a part saved, in another order, the sources leave the same
+goes by ST 336 alone, what is put together and ordered of ranges with those of at_hand.py, what a recording is with what
+walk.py reads of its sets, and clocks with those of clocks.py: each number has a file of clocks beside. Cut at packets and within them, with repeats, a part saved, in another order, the sources leave the same
 catalogue, and a saved one is shown as they are; ranges do in another order, with repeats, and with what was saved of
 them. Some pieces are slices of longer files. A slice whose numbers are hostile, or that ends behind its file, is shown as
 the piece of its bytes, or refused. Whole notes that version 1 of the file saved are shown, and joined with the others. A
@@ -33,6 +33,7 @@ The shapes are those of hostile_files.py, the runs those of hostile_runs.py.
 import concurrent.futures
 import itertools
 import os
+import pathlib
 import random
 import sys
 import tempfile
@@ -40,7 +41,7 @@ import time
 
 import notes
 from hostile_files import (
-    MANY, SHAPES, TOP, clips_of_a_frame, differing_ranges, heads_over_bytes, listed_units, many_clips, many_clocks,
+    MANY, SHAPES, TOP, clips_of_a_frame, clocks_of, differing_ranges, heads_over_bytes, listed_units, many_clips, many_clocks,
     many_components, many_descriptors, many_packages, many_tracks, moved_packets, named_again, named_partitions,
     pieces_of, runs_over_one_another, timed_units,
 )  # fmt: skip
@@ -159,6 +160,7 @@ def try_flips(run, name, length, places, beside):
 def seconds_of(run, shape, sources, size):
     """The processor time of each question about sources of `size` bytes in a shape, which is named by its words."""
     joined = str(run.folder / "joined")
+    pathlib.Path(joined).unlink(missing_ok=True)
     asked = {"show": [], "check": [], "locate": ["--index", "1", "--unit", "0"], "join": ["--out", joined]}
     if shape in (listed_units, named_partitions):
         asked.update(units=["--index", "1"], plan=["--index", "1"])
@@ -253,7 +255,8 @@ def tried_all(program, count, first):
 
 def main():
     if sys.argv[1:2] == ["--make"] and len(sys.argv) == 4:
-        print("\n".join(Run("", sys.argv[3]).lay("piece", pieces_of(int(sys.argv[2])))))
+        number, run = int(sys.argv[2]), Run("", sys.argv[3])
+        print("\n".join(run.lay("piece", pieces_of(number)) + run.lay("clocks", clocks_of(number))))
         return 0
     if not 2 <= len(sys.argv) <= 4:
         sys.exit(__doc__)

@@ -248,6 +248,9 @@ def named_by_all(rng, many=None):
 
 RATE, PICTURE = "0000001900000001", "060e2b34040101010103020201000000"
 TIMECODE = "060e2b34040101010103020101000000"
+SOUND, DATA = "060e2b34040101010103020202000000", "060e2b34040101010103020203000000"
+TIMECODES = (TIMECODE, "060e2b34040101010103020102000000", "060e2b34040101010103020103000000")
+DESCRIPTIVE, OTHER_LABEL = "060e2b34040101010103020110000000", "060e2b34040101010103020104000000"
 
 
 def references(numbers):
@@ -388,50 +391,87 @@ def named_again(rng, many=None):
     return described(rng, many, many, many, many, True)
 
 
-def some_clocks(rng):
-    """A few packages that tell the time or have an index, mostly so that they go together, with rates, Origins, durations
-    and bases of all kinds, and segments of some of these rates, at times with entries of pictures that are moved."""
-    made, packages, files = Made(), [], [1 << 40 | number for number in range(rng.randint(1, 3))]
-    other_rates = ("0000003200000002", "00007530000003e9", "0000bb8000000001", "0000003c00000001", "0000000000000001", "ffffffe700000001")
-    rates = [RATE] * 6 + rng.sample(other_rates, rng.choice((0, 0, 1, 2)))
+def clip_parts(rng, made, files, number):
+    """Clips of the file packages, among them fillers and what is no component, or isn't there, at times."""
+    parts = []
+    for _ in range(rng.randint(1, 5)):
+        name = seldom(rng, rng.choice(files), 0, 1 << 41)
+        part = made.clip(name, rng.choice((1, 2)), number(2**63 - 1, -(2**63)), number())
+        if rng.random() < 0.2:
+            filler = {"_0202": signed(rng.choice((0, 3, 50, 50, -1)))}
+            part = rng.choice((made.a("09", **filler), made.a("09", **filler), made.a("05", **filler), 1 << 50))
+        parts.append(part)
+    return parts
 
-    def seldom(usual, *others):
-        """The usual one, or at times one of the others."""
-        return rng.choice(others) if rng.random() < 0.1 else usual
+
+def seldom(rng, usual, *others):
+    """The usual one, or at times one of the others."""
+    return rng.choice(others) if rng.random() < 0.1 else usual
+
+
+def clock_containers(rng, made, file):
+    """Further container data of a package: of the same pair, another one, or none that can be read."""
+    if rng.random() < 0.15:
+        index, body = rng.choice((1, 2)), rng.choice((1, 1, 1, 2))
+        items = {"_2701": uid(file) * 2, "_3f06": f"{index:08x}", "_3f07": f"{body:08x}"}
+        made.a("23", **(items if rng.random() < 0.8 else {"_3f06": items["_3f06"]}))
+
+
+def some_clocks(rng):
+    """A few packages that tell the time or have an index, mostly so that they go together, with kinds of tracks, rates,
+    Origins, durations, containers and bases of all kinds, and segments of some of these rates, at times with entries of
+    pictures that are moved; and at times a set is lost, mostly one that no reference names."""
+    made, packages, files = Made(), [], [1 << 40 | number for number in range(rng.randint(1, 3))]
+    other_rates = ("0000003200000002", "00007530000003e9", "0000bb8000000001", "0000003c00000001", "0000000000000001", "ffffffe700000001", "0000001800000001")
+    rates = [RATE] * 6 + rng.sample(other_rates, rng.choice((0, 0, 1, 2)))
 
     def number(*more):
         """A number, at times one of the edge."""
-        return seldom(rng.choice((0, 1, 2, 7, 1000)), 2**62, -1, -3, *more)
+        return seldom(rng, rng.choice((0, 1, 2, 7, 100, 1000)), 2**62, -1, -1, -3, *more)
 
-    def clips():
-        """Clips of the file packages, and a filler at times."""
-        name = seldom(rng.choice(files), 0, 1 << 41)
-        parts = [made.clip(name, rng.choice((1, 2)), number(2**63 - 1, -(2**63)), number()) for _ in range(rng.randint(1, 4))]
-        return parts + ([made.a("09", _0202=signed(number()))] if rng.random() < 0.3 else [])
-
-    def essence(track):
-        """A track of picture, seldom one of timecode without one."""
-        return made.track(track, seldom(PICTURE, TIMECODE), clips(), rng.choice(rates), seldom(0, 2, -3))
+    def essence(track, *origins):
+        """A track of essence, seldom one of something else."""
+        kind = seldom(rng, rng.choice((PICTURE, PICTURE, SOUND, DATA)), *TIMECODES, DESCRIPTIVE, OTHER_LABEL)
+        return made.track(track, kind, clip_parts(rng, made, files, number), rng.choice(rates), seldom(rng, rng.choice((0, *origins)), 2, -3))
 
     def time():
-        """A track of timecode, seldom of two parts."""
-        base, is_drop = seldom(rng.choice(((25, False), (30, True), (60, True))), (30, False), (25, True), (120, False), (0, False))
-        parts = [made.timecode(number(89999, 2589407, -(2**63)), number(2**63 - 1), base, is_drop) for _ in range(seldom(1, 2))]
-        return made.track(1, TIMECODE, parts, rng.choice(rates), seldom(0, 1))
+        """A track of timecode, seldom of two parts, or of none. Most begin near a minute or a day."""
+        usual = ((25, False), (30, True), (60, True), (60, True))
+        base, is_drop = seldom(rng, rng.choice(usual), (30, False), (25, True), (120, False), (0, False))
+        start = rng.choice((0, 90000, base * 60 - 3, base * 600 - 40, base * 3600 - 110, 2159998, 2589407, 5178811))
+        parts = [made.timecode(seldom(rng, start, -1, -(2**63)), number(-1, 2**63 - 1), base, is_drop) for _ in range(seldom(rng, 1, 0, 2))]
+        return made.track(1, rng.choice(TIMECODES), parts, rng.choice(rates), seldom(rng, 0, 1))
 
-    for file in files + seldom([], [files[0]], [0]):
-        tracks = ([time()] if rng.random() < 0.7 else []) + [essence(track) for track in (1, 2, seldom(3, 2))]
-        packages.append(made.package("37", file, rng.sample(tracks, len(tracks)), seldom(rng.choice((1, 2)), 0)))
-    for name in range(rng.choice((0, 1, 1, 2))):
-        tracks = [seldom(time(), essence(4))] + [essence(track) for track in range(rng.randint(1, 3))]
+    files += seldom(rng, [], [0])
+    for file in files + seldom(rng, [], [files[0]]):
+        tracks = ([time()] if rng.random() < 0.7 else []) + [essence(track, 0, 2, -3) for track in (1, 2, seldom(rng, 3, 2))]
+        packages.append(made.package("37", file, rng.sample(tracks, len(tracks)), seldom(rng, rng.choice((1, 2)), 0)))
+        clock_containers(rng, made, file)
+    for name in range(rng.choice((0, 1, 1, 1, 2))):
+        tracks = [seldom(rng, time(), essence(4))] + [essence(track) for track in range(rng.randint(1, 3))]
+        if rng.random() < 0.15:
+            tracks.insert(rng.randint(0, 1), time())
         packages.append(made.package("36", 1 << 41 | name, tracks))
     lines = []
     for _ in range(rng.choice((0, 1, 2, 2))):
-        lines.append(f"segment index-sid={rng.choice((1, 2))} rate={seldom('25/1', '50/2', '48000/1', '0/1')}")
+        lines.append(f"segment index-sid={rng.choice((1, 2))} rate={seldom(rng, '25/1', '50/2', '48000/1', '0/1')}")
         if rng.random() < 0.7:
             entries = [f"{rng.choice((0, 0, 1, 2, 127, 128, 254, 255)):02X}0000@{unit}" for unit in range(rng.randint(1, 40))]
             lines[-1] += f" start={rng.choice((0, 0, 1, 7, 1000))} duration={len(entries)} entries={','.join(entries)}"
+    if rng.random() < 0.1:
+        # Two pieces, between which a set is lost: the last one, which nothing names, or another.
+        made.a("01")
+        lost = rng.choice((len(made.sets) - 1, rng.randrange(len(made.sets))))
+        ((_, data),) = made.laid(references(packages), lines)
+        start = data.index(made.sets[lost])
+        end = start + len(made.sets[lost])
+        return [(0, data[:start]), (end, data[end:])]
     return made.laid(references(packages), lines)
+
+
+def clocks_of(number):
+    """The pieces of some clocks of this number, which are tried beside its file."""
+    return some_clocks(random.Random(f"clocks of {number}"))
 
 
 def many_clocks(rng, many=None):

@@ -13,7 +13,8 @@ import time
 import at_hand
 import clocks
 import notes
-from hostile_files import RangeOffset, SliceOffset, laid, mutated_bytes, pieces_of
+import walk
+from hostile_files import RangeOffset, SliceOffset, clocks_of, laid, mutated_bytes, pieces_of
 
 MEBIBYTE = 2**20
 # What stands before the bytes of a slice in their file, as far as there is room, and behind them: two packets.
@@ -269,11 +270,11 @@ def pictures(pictured, content, hand):
     return words[0] == "map" and (int(words[3]), int(words[5]), int(words[13])) == (held, beside, len(notes.disputed(content)))
 
 
-def timecodes(run, size, described, shown, sources):
+def timecodes(run, size, walked, shown, sources):
     """Whether units of the first indexes that have a clock tell the timecodes that they show, where the first and the last
     of their runs begin. A picture is stored as many units behind its position as the entry of that says (ST 377-1), 128
     before it to 127 behind it. A unit shows what it stores if that is one position."""
-    runs, _ = clocks.runs_told(described, shown)
+    runs, _ = clocks.runs_told(walked, shown)
     for index in sorted({told[0] for told in runs})[:3]:
         own = [one for one in runs if one[0] == index]
         for first in {own[0][1], own[-1][1]}:
@@ -289,6 +290,32 @@ def timecodes(run, size, described, shown, sources):
                 if first <= unit <= first + 30 and words[12] != told:
                     return False
     return True
+
+
+def try_described(run, size, content, shown, sources):
+    """Asks what the sources are that have these notes, of which these lines are shown; the catalogue of these is saved."""
+    saved = run.folder / "saved"
+    described = run.call((0, 1), size, "describe", *sources).splitlines()
+    status = described_status(described)
+    if status is None or run.call((status,), saved.stat().st_size, "describe", f"cat:{saved}").splitlines() != described:
+        raise Wrong("what is described isn't counted, or the saved catalogue isn't described as its pieces are")
+    walked = walk.Walk(content)
+    if not walk.is_described(described, walked):
+        raise Wrong("what is described isn't what the sets of the header metadata say")
+    if [line for line in described if line.startswith("clock ")] != clocks.clock_lines(walked, shown):
+        raise Wrong("the clocks aren't those of the packages and segments")
+    if not timecodes(run, size, walked, shown, sources):
+        raise Wrong("units don't tell the timecodes of their clock")
+
+
+def try_clocks(run, number):
+    """Asks what some clocks are, which are beside the file of this number."""
+    pieces = clocks_of(number)
+    size, sources = sum(len(data) for _, data in pieces), run.lay("clocks", pieces)
+    content, _, _ = held_of(pieces)
+    (run.folder / "saved").write_bytes(notes.file_of(content))
+    shown = run.call((0,), size, "show", *sources).splitlines()
+    try_described(run, size, content, shown, sources)
 
 
 def try_pieces(run, rng, pieces):
@@ -312,14 +339,7 @@ def try_pieces(run, rng, pieces):
     saved.write_bytes(wanted)
     if run.call((0,), len(wanted), "show", f"cat:{saved}").splitlines() != shown[len(told) :]:
         raise Wrong("the saved catalogue isn't shown as its pieces are")
-    described = run.call((0, 1), size, "describe", *sources).splitlines()
-    status = described_status(described)
-    if status is None or run.call((status,), len(wanted), "describe", f"cat:{saved}").splitlines() != described:
-        raise Wrong("what is described isn't counted, or the saved catalogue isn't described as its pieces are")
-    if [line for line in described if line.startswith("clock ")] != clocks.clock_lines(described, shown):
-        raise Wrong("the clocks aren't those of the packages and segments")
-    if not timecodes(run, size, described, shown, sources):
-        raise Wrong("units don't tell the timecodes of their clock")
+    try_described(run, size, content, shown, sources)
     checked = run.call((0, 1), size, "check", *sources).splitlines()
     stops = list(stops_of(pieces, read, content))
     if checked[: len(stops)] != stops or checked[-1] != f"findings {len(checked) - len(stops) - 1}":
@@ -544,3 +564,4 @@ def try_number(run, number):
     try_file(run, damaged(rng, content))
     try_older(run, random.Random(f"version 1 of {number}"), content)
     try_slice(run, random.Random(f"slice of {number}"), pieces_of(number))
+    try_clocks(run, number)

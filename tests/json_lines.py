@@ -16,17 +16,20 @@ FORMATS = pathlib.Path(__file__).resolve().parent.parent / "docs" / "FORMATS.md"
 TYPES = {"number": (int, float), "word": str, "text": str, "hexadecimal": str, "flag": bool}
 # Strings that are spelled in one way: of a rate of two numbers, of a length of time, and of a timecode.
 SPELLED = {"rate": r"-?\d+/-?\d+", "length": r"\d{2,}:\d\d:\d\d\.\d{3}", "timecode": r"\d\d:\d\d:\d\d[:;]\d{2,}"}
+# A field with its type, and a flag, in the text of a form.
+FIELD = re.compile(r"\{([\w-]+):([^}]*)\}")
+FIELD_OR_FLAG = re.compile(FIELD.pattern + r"|\[([\w-]+)\]")
 
 
 class Form:
     """A form of a line: its command, its name, its text, and by their names the types of its fields and of the members
     that JSON alone has."""
 
-    def __init__(self, command, name, text, fields, alone=""):
+    def __init__(self, command, name, text, alone=""):
         self.command = command
         self.name = name
         self.text = text
-        self.fields = types_of(fields)
+        self.fields = {flag or field: sort or "flag" for field, sort, flag in FIELD_OR_FLAG.findall(text)}
         self.members = {**self.fields, **types_of(alone)}
 
     def fits(self, line):
@@ -41,13 +44,15 @@ class Form:
         for word in self.text.split(" "):
             flag = word.startswith("[") and word.strip("[]")
             if not flag:
-                words.append(re.sub(r"\{([^}]*)\}", lambda name: self.shown(line[name[1]]), word))
+                words.append(FIELD.sub(lambda field: self.shown(line[field[1]], field[2]), word))
             elif line[flag]:
                 words.append(flag)
         return " ".join(words)
 
-    def shown(self, value):
-        """The text of a value; one that isn't there has a word."""
+    def shown(self, value, sort):
+        """The text of a value of a type; one that isn't there has a word, and one that is always the same has no text."""
+        if sort.startswith("="):
+            return ""
         if value is None:
             return "none" if self.name in ("copy", "preferred", "described") else "-"
         if isinstance(value, list):

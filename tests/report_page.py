@@ -7,7 +7,7 @@
                                               script but one whose SHA-256 its policy names
     tests/report_page.py --text PAGE          the text of a page that is seen, a word a line
     tests/report_page.py --rows PAGE [TABLE]  the rows of its first table, or of that of this caption, a line each
-    tests/report_page.py --words              the words of the report are those of docs/GUIDE.md and docs/FORMATS.md
+    tests/report_page.py --words              the words of the report are those of GUIDE, PAGES and FORMATS of docs/
 
 Each difference is a line. Nothing is printed of a page that is right.
 """
@@ -569,8 +569,8 @@ def guide_doubts():
 
 
 def guide_verdicts():
-    """The words of a verdict that docs/GUIDE.md has, in their order."""
-    text = (TOP / "docs" / "GUIDE.md").read_text(encoding="utf-8")
+    """The words of a verdict that docs/PAGES.md has, in their order."""
+    text = (TOP / "docs" / "PAGES.md").read_text(encoding="utf-8")
     table = text.split("\n| Word | What it says |\n", 1)[1].split("\n\n", 1)[0]
     return [row.split(" | ")[0].lstrip("| ") for row in table.splitlines()[1:]]
 

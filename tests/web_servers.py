@@ -265,7 +265,7 @@ def misbehaving(data: bytes) -> Iterator[int]:
 
 
 def main() -> None:
-    """Serves the files of a folder by nginx, until standard input ends: web_servers.py ROOT FOLDER. Prints the address."""
+    """Serves the files of ROOT by nginx, until standard input ends: web_servers.py ROOT NEW_FOLDER. Prints the address."""
     with nginx(Path(sys.argv[1]), Path(sys.argv[2])) as server:
         print(server.url(""), flush=True)
         sys.stdin.read()
