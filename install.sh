@@ -70,4 +70,4 @@ for name in mxf_tool mxf_report mxf_archive mxf_fetch; do
 done
 put 644 "$example/README.md" share/mxf-tool/archive/README.md
 for name in side_by_side slurm/run; do put 755 "$example/$name" "share/mxf-tool/archive/$name"; done
-for name in GUIDE FORMATS ARCHIVE; do put 644 "$pages/$name.md" "share/doc/mxf-tool/$name.md"; done
+for name in GUIDE PAGES FORMATS ARCHIVE; do put 644 "$pages/$name.md" "share/doc/mxf-tool/$name.md"; done
