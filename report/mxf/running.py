@@ -5,14 +5,43 @@ import contextlib
 import errno
 import io
 import os
+import shutil
 import signal
 import sys
 import tempfile
 from collections.abc import Callable, Iterator
+from types import FrameType
 
 from mxf.faults import OUTPUT, OwnFault, ToolFault, tell, tell_own
 
 SIGNALS = (signal.SIGHUP, signal.SIGINT, signal.SIGTERM)  # that end this program
+
+
+class Ending:
+    """What signals do that end this process. While they are held back, the last that came waits. Only handlers of Python wait:
+    in a process of several threads any thread takes a signal, whatever the main one blocks."""
+
+    def __init__(self) -> None:
+        self.blocks, self.come = 0, 0
+
+    def handle(self, number: int, _: FrameType | None = None) -> None:
+        """Ends the main thread by a signal, or has the signal wait."""
+        if self.blocks:
+            self.come = number
+            return
+        self.come = 0
+        raise KeyboardInterrupt() if number == signal.SIGINT else SystemExit(128 + number)
+
+    def release(self) -> None:
+        """Ends the main thread by the signal that waits, if one does."""
+        if self.come:
+            self.handle(self.come)
+
+
+ENDING = Ending()
+
+# The temporary folders that this process has made and not removed.
+FOLDERS: set[str] = set()
 
 
 def open_streams() -> None:
@@ -31,31 +60,50 @@ def open_streams() -> None:
 
 def end_by_signals() -> None:
     """Lets a signal that ends this program end its calls too, and remove what they wrote, as an interrupt does."""
-    for number in (signal.SIGHUP, signal.SIGTERM):
-        if signal.getsignal(number) == signal.SIG_DFL:
-            signal.signal(number, lambda number, _: sys.exit(128 + number))
+    for number in SIGNALS:
+        if signal.getsignal(number) in (signal.SIG_DFL, signal.default_int_handler):
+            signal.signal(number, ENDING.handle)
+
+
+def begin_process() -> None:
+    """Has a process that was forked end by signals that come, and have no folder of the one that forked it."""
+    FOLDERS.clear()
+    ENDING.blocks = 0
+    ENDING.release()
 
 
 @contextlib.contextmanager
 def held_back() -> Iterator[None]:
-    """Signals that would end this process come after the block, so that it knows of what it has begun."""
-    held = signal.pthread_sigmask(signal.SIG_BLOCK, SIGNALS)
+    """Signals that would end this process come after the block, so that it knows of what it has begun. Only the main thread
+    holds them back."""
+    ENDING.blocks += 1
     try:
         yield
     finally:
-        signal.pthread_sigmask(signal.SIG_SETMASK, held)
+        ENDING.blocks -= 1
+        if not ENDING.blocks:
+            ENDING.release()
 
 
 @contextlib.contextmanager
 def temporary_folder(prefix: str) -> Iterator[str]:
-    """A folder that goes at the end, whenever a signal ends the program: also while the folder is made or removed."""
+    """A folder that goes at the end of the block, or else at that of the process, whenever a signal comes."""
     with held_back():
-        made = tempfile.TemporaryDirectory(prefix=prefix)
+        path = tempfile.mkdtemp(prefix=prefix)
+        FOLDERS.add(path)
     try:
-        yield made.name
+        yield path
     finally:
         with held_back():
-            made.cleanup()
+            shutil.rmtree(path, ignore_errors=True)
+            FOLDERS.discard(path)
+
+
+def remove_folders() -> None:
+    """Removes the temporary folders that are left, since a signal came as their blocks began or ended."""
+    with held_back():
+        while FOLDERS:
+            shutil.rmtree(FOLDERS.pop(), ignore_errors=True)
 
 
 def status_of(run: Callable[[], int]) -> int:
@@ -70,6 +118,8 @@ def status_of(run: Callable[[], int]) -> int:
         return fault.status
     except KeyboardInterrupt:
         return 130
+    finally:
+        remove_folders()
 
 
 def printed_by(run: Callable[[], int]) -> int:

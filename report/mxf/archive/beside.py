@@ -13,7 +13,7 @@ from multiprocessing.sharedctypes import Synchronized
 from typing import Any, Generic, TypeVar, cast
 
 from mxf.faults import NO_PROGRAM, OwnFault, ToolFault
-from mxf.running import SIGNALS, held_back
+from mxf.running import begin_process, held_back, remove_folders
 
 Item = TypeVar("Item")
 Answer = TypeVar("Answer")
@@ -129,13 +129,17 @@ def serve(
     """Sends what is done of items, until none is left, or nobody receives what is sent. This process leads a group of its own,
     which an interrupt of a terminal doesn't reach."""
     lead(0)
-    signal.pthread_sigmask(signal.SIG_UNBLOCK, SIGNALS)
-    for receiver in others:
-        receiver.close()  # so that sending fails where that program is killed
-    with contextlib.suppress(KeyboardInterrupt, BrokenPipeError):
+    try:
+        begin_process()
+        for receiver in others:
+            receiver.close()  # so that sending fails where that program is killed
         with contextlib.closing(stream(taken(items, begun))) as each:
             for done in each:
                 sender.send(done)
+    except (KeyboardInterrupt, BrokenPipeError):
+        pass
+    finally:
+        remove_folders()
 
 
 def taken(items: Sequence[Item], begun: Synchronized[int]) -> Iterator[Item]:

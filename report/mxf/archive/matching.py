@@ -2,8 +2,8 @@
 from __future__ import annotations
 
 import os
-import tempfile
 from collections.abc import Iterable
+from pathlib import Path
 from sqlite3 import Connection
 from typing import Any, NamedTuple
 
@@ -12,6 +12,7 @@ from mxf.calling import Tool
 from mxf.faults import USAGE, OwnFault, tell_own
 from mxf.lines import ItemLine, Line
 from mxf.reading import checked
+from mxf.running import temporary_folder
 from mxf.sources import Sources
 from mxf.archive.words import Words
 
@@ -85,10 +86,10 @@ def found_in(tool: Tool, candidates: list[Candidate], sources: Sources) -> tuple
     with a newline stands in no list, so such candidates come first."""
     candidates.sort(key=lambda one: "\n" not in one.path)
     named = [part for one in candidates if "\n" in one.path for part in ("--in", f"cat:{one.path}")]
-    with tempfile.NamedTemporaryFile(prefix="mxf_archive.") as file:
-        file.write("".join(f"cat:{one.path}\n" for one in candidates if "\n" not in one.path).encode())
-        file.flush()
-        call = tool.call(["find", *named, "--recordings", file.name], sources)
+    with temporary_folder("mxf_archive.") as folder:
+        listed = Path(folder, "recordings")
+        listed.write_bytes("".join(f"cat:{one.path}\n" for one in candidates if "\n" not in one.path).encode())
+        call = tool.call(["find", *named, "--recordings", str(listed)], sources)
         lines = list(tool.lines_of(call))
         return call.status, lines
 

@@ -1,9 +1,7 @@
 """How mxf_fetch is run by its words."""
 from __future__ import annotations
 
-import shutil
 import sys
-import tempfile
 from collections.abc import Callable
 from pathlib import Path
 
@@ -17,7 +15,7 @@ from mxf.fetch.faults import Bounded
 from mxf.fetch.getting import Bounds
 from mxf.fetch.opening import Where, opened
 from mxf.fetch.words import Words, read_words
-from mxf.running import end_by_signals, printed_by
+from mxf.running import end_by_signals, printed_by, temporary_folder
 
 RUN: dict[str, Callable[[Call], int]] = {
     "look": calls.look, "units": calls.units, "clip": clip, "whole": calls.whole,
@@ -28,11 +26,8 @@ def run(words: Words) -> int:
     """Runs the command that the words name, and answers its status. Without a folder it has one of its own meanwhile."""
     if words.into is not None:
         return run_in(Path(words.into), words)
-    path = tempfile.mkdtemp(prefix="mxf_fetch.")
-    try:
+    with temporary_folder("mxf_fetch.") as path:
         return run_in(Path(path), words)
-    finally:
-        shutil.rmtree(path, ignore_errors=True)
 
 
 def run_in(path: Path, words: Words) -> int:
