@@ -25,6 +25,47 @@ from fetching import make_long
 from web_servers import Nginx, free_port, misbehaving, nginx
 
 KILLS = 12
+
+# Makes a temporary folder and removes it, in a process of two threads for each line that is run for it, of Python too: there a
+# signal comes. Prints the number of lines, and the lines at which a folder stayed, or the status was another than is wanted.
+SIGNALLED = """
+import os, signal, sys, threading, time
+from mxf import running
+
+def run():
+    with running.temporary_folder("mxf_archive."):
+        return 0
+
+def status_at(line):
+    threading.Thread(target=time.sleep, args=(60,), daemon=True).start()
+    running.end_by_signals()
+    lines = 0
+    def trace(frame, event, _):
+        nonlocal lines
+        lines += event == "line"
+        if lines == line:
+            lines += 1
+            os.kill(os.getpid(), signal.SIGTERM)
+        return trace
+    sys.settrace(trace)
+    try:
+        return running.status_of(run)
+    except SystemExit as end:
+        return end.code
+    finally:
+        sys.settrace(None)
+
+line, failed, status = 0, [], 143
+while status == 143:
+    line += 1
+    child = os.fork()
+    if child == 0:
+        os._exit(status_at(line))
+    status = os.waitstatus_to_exitcode(os.waitpid(child, 0)[1])
+    if os.listdir(os.environ["TMPDIR"]) or status not in (0, 143):
+        failed.append((line, status, os.listdir(os.environ["TMPDIR"])))
+print(line, failed)
+"""
 SECRETS = (b"s3cret", b"hidden", b"operator")
 
 # The tables whose rows come of `describe`, which says of what was looked at what it says of the whole file.
@@ -288,6 +329,17 @@ def try_kills(store: Store) -> None:
     store.here = kept
 
 
+def try_signals(t: Trial) -> None:
+    """Wherever a signal comes while a temporary folder is made and removed, none stays."""
+    temporary = t.work / "signals"
+    temporary.mkdir()
+    known = {**os.environ, "PYTHONPATH": str(t.top / "report"), "TMPDIR": str(temporary)}
+    ended = subprocess.run([sys.executable, "-c", SIGNALLED], env=known, capture_output=True, text=True, check=False)
+    lines, _, failed = ended.stdout.strip().partition(" ")
+    t.equal("a signal at any line: no folder stays", (failed, ended.stderr), ("[]", ""))
+    t.verdict("at each of many lines", lines.isdigit() and int(lines) > 50, lines)
+
+
 def main() -> None:
     """Tries all."""
     signal.signal(signal.SIGINT, signal.default_int_handler)  # also where it was ignored, as behind & of a shell
@@ -298,6 +350,7 @@ def main() -> None:
         shutil.copy(path, root)
     if shutil.which("ffmpeg"):
         make_long(root / "long.mxf", 60)
+    try_signals(t)
     with nginx(root, t.work / "nginx") as server:
         store = Store(t, server, root)
         for trial in (try_each, try_other_places, try_faults, try_list, try_secrets, try_kills):
