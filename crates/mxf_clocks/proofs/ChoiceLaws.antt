@@ -3,13 +3,18 @@ use Rattle.std.proofs.Common.{◌<ℤ◌, int_lt}
 use Rattle.std.specs.Prelude.{not}
 use Rattle.mxf_views.proofs.Common.{◌≡◌, ◌≢◌, ◌∙◌, ◌↔◌, ◌⊎◌, ◌&&◌, ◌||◌, ◌==◌, ◌≤◌, ◌*◌, ℕ, ℤ, pos, negsuc, Bool, true}
 use Rattle.mxf_views.proofs.Common.{false, cond, refl, sym, ap, subst, inl, inr, arith, List, [], ◌∷◌, Option, Some, None}
-use Rattle.mxf_views.proofs.Common.{In, In-list_all, NoteParts, SegmentAtParts, and_from, and_parts, bytes_eq}
+use Rattle.mxf_views.proofs.Common.{In, In-list_all, IsBest, IsContent, IsPreferred, one_by_key}
+use Rattle.mxf_views.proofs.Common.{NoteParts, SegmentAtParts, and_from, and_parts, bytes_eq}
 use Rattle.mxf_views.proofs.Common.{bytes_eq-Decides, copies_of, count_by, eq-eqb, eqb-true}
 use Rattle.mxf_views.proofs.Common.{find, is_some, list_all-In, list_any, list_any-In, lt-ltb, ltb-true, nat_lt}
 use Rattle.mxf_views.proofs.Common.{option_and_then, option_map_or, preferred_of, some_is, unsigned_abs}
 use Rattle.mxf_sets.specs.Component.{ClipParts, TimecodeParts, is_drop}
 use Rattle.mxf_sets.specs.Rate.{is_good, is_same_rate}
 use Rattle.mxf_sets.specs.declared.record.rate.Rate.{Rate}
+use Rattle.mxf_views.specs.declared.copy.CopyInfo.{CopyInfo}
+use Rattle.mxf_views.proofs.BestLaws.{one_best, preferred_is}
+use Rattle.mxf_views.proofs.CopyLaws.{copies_rise}
+use Rattle.mxf_views.proofs.KeyedLists.{rise_by}
 use Rattle.mxf_tracks.specs.declared.component.Component.{Component}
 use Rattle.mxf_tracks.specs.declared.component.Part.{Part}
 use Rattle.mxf_tracks.specs.declared.component.Part.TheVariants as parts
@@ -484,3 +489,19 @@ finished-is notes = (
       ] refl e,
   λ r. ap (λ o. option_map_or (λ c. c.finished) o false) r.1 ∙ r.2,
 )
+
+pub best-is : (notes : List NoteParts) → IsContent notes
+    → IsFinished notes ↔ ((c : CopyInfo) × IsBest (copies_of notes) c × (c.finished ≡ true))
+best-is notes content =
+    let copies = copies_of notes in (
+      λ r. (r.0, subst (IsPreferred copies) r.1 (preferred_is copies), r.2),
+      λ b. elim (preferred_of copies) as (λ o. preferred_of copies ≡ o → IsFinished notes) [
+        | None ↦ λ e. absurd (subst (IsPreferred copies) e (preferred_is copies) b.0 b.1.held b.1.candidate)
+        | Some c ↦ λ e.
+            let best = subst (IsPreferred copies) e (preferred_is copies) in
+            let rise = (rise_by (λ (c : CopyInfo). c.partition) copies).0 (copies_rise notes content) in
+            let same = one_by_key (λ (c : CopyInfo). c.partition) copies c b.0 rise best.held b.1.held
+            (one_best copies c b.0 best b.1) in
+            (c, e, ap (λ (c : CopyInfo). c.finished) same ∙ b.2)
+      ] refl,
+    )

@@ -2,8 +2,11 @@
 ghost use Rattle.std.specs.Prelude.{◌≡◌, ◌↔◌, ℕ, ℤ, List, Some, find, true};
 ghost use Rattle.mxf_klv.specs.Parts.{NoteParts};
 ghost use Rattle.mxf_klv.specs.Rising.{In};
+ghost use Rattle.mxf_catalogue.specs.Content.{IsContent};
 ghost use Rattle.mxf_sets.specs.declared.record.rate.Rate.{Rate};
+ghost use Rattle.mxf_views.specs.Copies.{IsBest, copies_of};
 ghost use Rattle.mxf_views.specs.Places.{SegmentAtParts};
+ghost use Rattle.mxf_views.specs.declared.copy.CopyInfo.{CopyInfo};
 ghost use Rattle.mxf_tracks.specs.declared.component.Component.{Component};
 ghost use Rattle.mxf_tracks.specs.declared.package.FoundPackage.{FoundPackage};
 ghost use Rattle.mxf_tracks.specs.declared.package.PackageAt.{PackageAt};
@@ -21,7 +24,8 @@ ghost use Rattle.mxf_clocks.specs.TracksFor.{StartedClip, clip_of, is_beside, is
 /// A law of [`Clocks::of`](crate::Clocks::of): what it goes by is what relations say. The clock of a package is that of
 /// its first track of timecode. The track that shows a file package, and the one beside a file package's own clock, is the
 /// first that fits. An Origin is that of the first track with its TrackID. Relations also say which clips name a file
-/// package, which packages are file packages, whose the clocks are, and whether the copy is finished.
+/// package, which packages are file packages, whose the clocks are, and whether the preferred copy is finished: a candidate
+/// that no candidate stands above.
 pub fn choices_by_definition()
     ensures clock { (tracks : List TrackAt) (c : ClockTrack) → (clock_of tracks ≡ Some c) ↔ IsClockOf tracks c }
     ensures track { (segments : List SegmentAtParts) (index_sid : ℕ) (clock_rate : Rate) (uid : List ℕ)
@@ -40,4 +44,6 @@ pub fn choices_by_definition()
         ↔ IsFileIndex packages f index_sid }
     ensures teller { (packages : List PackageAt) (by : PackageKind) → (teller packages ≡ by) ↔ IsTeller packages by }
     ensures finished { (notes : List NoteParts) → (is_finished notes ≡ true) ↔ IsFinished notes }
+    ensures best { (notes : List NoteParts) → IsContent notes
+        → IsFinished notes ↔ ((c : CopyInfo) × IsBest (copies_of notes) c × (c.finished ≡ true)) }
 {}

@@ -1,4 +1,4 @@
-use Rattle.mxf_clocks.proofs.ChoiceLaws.{clip-is, clock-is, finished-is, index-is, origin-is, own-is, teller-is, track-is}
+use Rattle.mxf_clocks.proofs.ChoiceLaws.{best-is, clip-is, clock-is, finished-is, index-is, origin-is, own-is, teller-is, track-is}
 use Rattle.mxf_clocks.proofs.choices.choices_by_definition.Goals as goal
 
 pub returns : goal.returns
@@ -11,4 +11,5 @@ returns c = record {
   index = index-is;
   teller = teller-is;
   finished = finished-is;
+  best = best-is;
 }
