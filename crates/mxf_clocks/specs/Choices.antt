@@ -66,6 +66,7 @@ IsNotBelow a b =
 abbrev pub HasSequence : (FoundSequence → Type 0) → FoundTrack → Type 0
 HasSequence IsSo t = (s : FoundSequence) × (t.sequence.found ≡ Some s) × IsSo s
 
+-- A track of timecode.
 abbrev pub IsOfTimecode : FoundTrack → Type 0
 IsOfTimecode t = HasSequence (λ s. s.kind ≡ kinds.Timecode) t
 
@@ -73,6 +74,7 @@ IsOfTimecode t = HasSequence (λ s. s.kind ≡ kinds.Timecode) t
 abbrev pub IsOfEssence : FoundTrack → Type 0
 IsOfEssence t = HasSequence (λ s. (s.kind ≡ kinds.Picture) ⊎ (s.kind ≡ kinds.Sound) ⊎ (s.kind ≡ kinds.Data)) t
 
+-- The component stands in the sequence of the track.
 abbrev pub HasComponent : FoundTrack → Component → Type 0
 HasComponent t c = HasSequence (λ s. In c s.components) t
 
