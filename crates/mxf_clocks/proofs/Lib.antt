@@ -3,7 +3,11 @@ pub mod MomentLaws
 pub mod RateLaws
 pub mod RunFacts
 pub mod Members
+pub mod FirstLaws
+pub mod ChoiceLaws
+pub mod FoundShown
 pub mod ShownLaws
+pub mod ShownByChoices
 pub mod CountLaws
 pub mod OrderLaws
 pub mod TimedLaws

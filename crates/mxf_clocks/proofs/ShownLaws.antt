@@ -1,4 +1,4 @@
--- The runs of clocks tell what is shown.
+-- The runs of clocks tell what is shown, by the functions that choose.
 use Rattle.mxf_views.proofs.Common.{◌≡◌, ◌∙◌, ◌↔◌, ◌&&◌, ◌+◌, ◌*◌, ◌/◌, ℕ, Bool, true, false, cond, refl, sym, ap, subst}
 use Rattle.mxf_views.proofs.Common.{arith, inl, inr, not, List, [], Some, None, and_parts, find, nat_lt}
 use Rattle.mxf_views.proofs.Common.{In, In-filter_map, In-flat_map, In-union, found-In, ltb-true, NoteParts, union}
@@ -24,9 +24,10 @@ use Rattle.mxf_clocks.specs.Fractions.{lesser, rate_over, units_left}
 use Rattle.mxf_clocks.specs.RunLaws.{run_cmp-IsAntisymmetric, run_total}
 use Rattle.mxf_clocks.specs.RunOrder.{run_cmp}
 use Rattle.mxf_clocks.specs.Runs.{RunParts, clock_number, number_at}
-use Rattle.mxf_clocks.specs.Shown.{IsShown, IsShownBy, IsShownByClip, IsShownByFile, IsWithin, StandsAt}
+use Rattle.mxf_clocks.specs.Shown.{IsWithin, StandsAt}
 use Rattle.mxf_clocks.specs.TracksFor.{clip_of, is_below, is_beside, is_clip_of, is_timed, origin_of, shows}
 use Rattle.mxf_clocks.specs.TracksFor.{track_for}
+use Rattle.mxf_clocks.proofs.FoundShown.{IsFound, IsFoundBy, IsFoundByClip, IsFoundByFile}
 use Rattle.mxf_clocks.proofs.MomentLaws.{labels_some}
 use Rattle.mxf_clocks.proofs.Members.{then_to, then_with, to_option, to_test, with_option, with_test}
 use Rattle.mxf_clocks.proofs.RateLaws.{left-is, lesser-is, over, stands-is}
@@ -92,7 +93,7 @@ Tells runs index_sid position number =
 -- ---- by material packages
 
 run_of_shown : (timed : ℕ → Rate → Bool) (packages : List PackageAt) (index_sid position number : ℕ)
-    (s : IsShownByClip timed packages index_sid position number)
+    (s : IsFoundByClip timed packages index_sid position number)
     → HasRunAt index_sid s.clock (rate_over s.clock.rate s.track.track.edit_rate)
     (s.started.clip.start_position +ℤ s.origin) s.started.start
     (lesser s.started.clip.duration
@@ -111,7 +112,7 @@ run_of_shown timed packages index_sid position number s =
     (s.in_clip, (left-is c rate o s.started.start s.units).1 s.in_time))
 
 to_clip : (timed : ℕ → Rate → Bool) (packages : List PackageAt) (index_sid position number : ℕ)
-    → IsShownByClip timed packages index_sid position number
+    → IsFoundByClip timed packages index_sid position number
     → Tells (runs_by_material timed packages) index_sid position number
 unfolding run_of_clip
 to_clip timed packages index_sid position number s =
@@ -153,7 +154,7 @@ material-is Source e = absurd cc
 
 from_clip : (timed : ℕ → Rate → Bool) (packages : List PackageAt) (index_sid position number : ℕ)
     → Tells (runs_by_material timed packages) index_sid position number
-    → IsShownByClip timed packages index_sid position number
+    → IsFoundByClip timed packages index_sid position number
 unfolding run_of_clip
 from_clip timed packages index_sid position number t =
     let r = t.0 in
@@ -176,7 +177,7 @@ from_clip timed packages index_sid position number t =
     (lesser s.0.clip.duration (units_left step s.0.start c.duration)) r position number
     (labels_some c.base c.is_drop good.base) v.denominator o.2 t.3 in
     let both = (lesser-is s.0.clip.duration (units_left step s.0.start c.duration) u.units).0 u.within in
-    subst (λ n. IsShownByClip timed packages n position number) (sym u.index ∙ t.2) (record {
+    subst (λ n. IsFoundByClip timed packages n position number) (sym u.index ∙ t.2) (record {
       material = m.0;
       material_found = m.1;
       kind = material-is m.0.kind p.0;
@@ -203,7 +204,7 @@ from_clip timed packages index_sid position number t =
 -- ---- by file packages
 
 to_file : (timed : ℕ → Rate → Bool) (packages : List PackageAt) (index_sid position number : ℕ)
-    → IsShownByFile timed packages index_sid position number
+    → IsFoundByFile timed packages index_sid position number
     → Tells (runs_by_sources timed packages) index_sid position number
 unfolding run_by_source
 to_file timed packages index_sid position number s =
@@ -232,7 +233,7 @@ to_file timed packages index_sid position number s =
 
 from_file : (timed : ℕ → Rate → Bool) (packages : List PackageAt) (index_sid position number : ℕ)
     → Tells (runs_by_sources timed packages) index_sid position number
-    → IsShownByFile timed packages index_sid position number
+    → IsFoundByFile timed packages index_sid position number
 unfolding run_by_source
 from_file timed packages index_sid position number t =
     let r = t.0 in
@@ -249,7 +250,7 @@ from_file timed packages index_sid position number t =
     let u = of_run i.0 c step tr.0.track.origin 0 (units_left step 0 c.duration) r position number
     (labels_some c.base c.is_drop good.base) v.denominator tr.2 t.3 in
     let zero_more : 0 + u.units ≡ u.units = omega arith in
-    subst (λ n. IsShownByFile timed packages n position number) (sym u.index ∙ t.2) (record {
+    subst (λ n. IsFoundByFile timed packages n position number) (sym u.index ∙ t.2) (record {
       file = f.0;
       file_found = f.1;
       index = i.1;
@@ -267,18 +268,18 @@ from_file timed packages index_sid position number t =
 -- ---- all
 
 by_kind : (k : PackageKind) (timed : ℕ → Rate → Bool) (packages : List PackageAt) (index_sid position number : ℕ)
-    → IsShownBy k timed packages index_sid position number
+    → IsFoundBy k timed packages index_sid position number
     ↔ Tells (runs_by k timed packages) index_sid position number
 by_kind Material timed packages index_sid position number =
     (to_clip timed packages index_sid position number, from_clip timed packages index_sid position number)
 by_kind Source timed packages index_sid position number =
     (to_file timed packages index_sid position number, from_file timed packages index_sid position number)
 
-pub shown-is : (notes : List NoteParts) (packages : List PackageAt) (index_sid position number : ℕ)
-    → IsShown notes packages index_sid position number
+pub found-is : (notes : List NoteParts) (packages : List PackageAt) (index_sid position number : ℕ)
+    → IsFound notes packages index_sid position number
     ↔ Tells (clocks_of notes packages).runs index_sid position number
 unfolding runs_of
-shown-is notes packages index_sid position number =
+found-is notes packages index_sid position number =
     let all = runs_by (teller packages) (is_timed (segments_of notes)) packages in
     let runs = union run_cmp [] all in
     let by = by_kind (teller packages) (is_timed (segments_of notes)) packages index_sid position number in (

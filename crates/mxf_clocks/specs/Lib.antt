@@ -8,5 +8,6 @@ pub mod RunTimecodes
 pub mod RunOrder
 pub mod RunLaws
 pub mod Clocks
+pub mod Choices
 pub mod Shown
 pub mod Lookups

@@ -1,11 +1,10 @@
 -- Which position is shown at which number (ST 377-1, structural metadata; this project's profile), without runs: of the
 -- packages, tracks and clips alone, and by the rates as they are stored.
-use Rattle.std.specs.Prelude.{◌≡◌, ◌+◌, ◌*◌, ◌<◌, ◌≤◌, ◌+ℤ◌, ◌≤ℤ◌, pos, true, unsigned_abs, find, IfSome, ℕ, ℤ, Bool}
-use Rattle.std.specs.Prelude.{List, Some}
+use Rattle.std.specs.Prelude.{◌≡◌, ◌+◌, ◌*◌, ◌<◌, ◌≤◌, ◌+ℤ◌, ◌≤ℤ◌, pos, unsigned_abs, IfSome, ℕ, ℤ, List}
 use Rattle.mxf_klv.specs.Parts.{NoteParts}
 use Rattle.mxf_klv.specs.Rising.{In}
 use Rattle.mxf_sets.specs.declared.record.rate.Rate.{Rate}
-use Rattle.mxf_views.specs.Places.{greatest_unit, segments_of}
+use Rattle.mxf_views.specs.Places.{SegmentAtParts, greatest_unit, segments_of}
 use Rattle.mxf_tracks.specs.Timecodes.{number_in_day}
 use Rattle.mxf_tracks.specs.declared.component.Component.{Component}
 use Rattle.mxf_tracks.specs.declared.package.FoundPackage.{FoundPackage}
@@ -14,10 +13,10 @@ use Rattle.mxf_tracks.specs.declared.package.PackageKind.{PackageKind}
 use Rattle.mxf_tracks.specs.declared.package.PackageKind.TheVariants.{Material, Source}
 use Rattle.mxf_tracks.specs.declared.track.FoundTrack.{FoundTrack}
 use Rattle.mxf_clocks.specs.declared.clock_track.ClockTrack.{ClockTrack}
-use Rattle.mxf_clocks.specs.ClockTracks.{clock_of, components_of, found_packages, found_tracks}
-use Rattle.mxf_clocks.specs.Clocks.{is_finished, teller}
-use Rattle.mxf_clocks.specs.FilePackages.{file_index}
-use Rattle.mxf_clocks.specs.TracksFor.{StartedClip, clip_of, is_beside, is_timed, origin_of, track_for}
+use Rattle.mxf_clocks.specs.Choices.{HasComponent, IsClipOf, IsClockOf, IsFileIndex, IsFinished, IsOriginOf}
+use Rattle.mxf_clocks.specs.Choices.{IsOwnTrack, IsTeller, IsTrackFor}
+use Rattle.mxf_clocks.specs.ClockTracks.{found_packages}
+use Rattle.mxf_clocks.specs.TracksFor.{StartedClip}
 
 -- So many timecodes of this rate take no longer than so many units of that rate, and the same with less: timecodes
 -- times D over N are seconds.
@@ -50,24 +49,23 @@ pub record IsBehind (first : ℤ) (units position : ℕ) : Type 0 where
   pub there : pos position ≡ first +ℤ pos units
 
 -- By a clip of the track of a material package for a file package of the index.
-pub record IsShownByClip (timed : ℕ → Rate → Bool) (packages : List PackageAt) (index_sid position number : ℕ)
+pub record IsShownByClip (segments : List SegmentAtParts) (packages : List PackageAt) (index_sid position number : ℕ)
     : Type 0 where
   pub material : FoundPackage
   pub material_found : In material (found_packages packages)
   pub kind : material.kind ≡ Material
   pub clock : ClockTrack
-  pub tells : clock_of material.tracks ≡ Some clock
+  pub tells : IsClockOf material.tracks clock
   pub file : FoundPackage
-  pub file_found : In file (found_packages packages)
-  pub index : file_index packages file ≡ Some index_sid
+  pub index : IsFileIndex packages file index_sid
   pub track : FoundTrack
-  pub track_is : track_for timed index_sid clock.rate file.properties.package_uid material.tracks ≡ Some track
+  pub track_is : IsTrackFor segments index_sid clock.rate file.properties.package_uid material.tracks track
   pub component : Component
-  pub held : In component (components_of track)
+  pub held : HasComponent track component
   pub started : StartedClip
-  pub clip_is : clip_of file.properties.package_uid component ≡ Some started
+  pub clip_is : IsClipOf file.properties.package_uid component started
   pub origin : ℤ
-  pub origin_is : origin_of file.tracks started.clip.source_track track.track.edit_rate ≡ Some origin
+  pub origin_is : IsOriginOf file.tracks started.clip.source_track track.track.edit_rate origin
   pub units : ℕ
   pub behind : IsBehind (started.clip.start_position +ℤ origin) units position
   pub in_clip : IfSome started.clip.duration (λ e. units < e)
@@ -75,26 +73,29 @@ pub record IsShownByClip (timed : ℕ → Rate → Bool) (packages : List Packag
   pub stands : StandsAt clock track.track.edit_rate (started.start + units) number
 
 -- By the clock track of a file package of the index.
-pub record IsShownByFile (timed : ℕ → Rate → Bool) (packages : List PackageAt) (index_sid position number : ℕ)
+pub record IsShownByFile (segments : List SegmentAtParts) (packages : List PackageAt) (index_sid position number : ℕ)
     : Type 0 where
   pub file : FoundPackage
-  pub file_found : In file (found_packages packages)
-  pub index : file_index packages file ≡ Some index_sid
+  pub index : IsFileIndex packages file index_sid
   pub clock : ClockTrack
-  pub tells : clock_of file.tracks ≡ Some clock
+  pub tells : IsClockOf file.tracks clock
   pub track : FoundTrack
-  pub track_is : find (is_beside timed index_sid clock.rate) (found_tracks file.tracks) ≡ Some track
+  pub track_is : IsOwnTrack segments index_sid clock.rate file.tracks track
   pub units : ℕ
   pub behind : IsBehind track.track.origin units position
   pub in_time : IsWithin clock track.track.edit_rate units
   pub stands : StandsAt clock track.track.edit_rate units number
 
-abbrev pub IsShownBy : PackageKind → (ℕ → Rate → Bool) → List PackageAt → ℕ → ℕ → ℕ → Type 0
-IsShownBy Material timed packages index_sid position number = IsShownByClip timed packages index_sid position number
-IsShownBy Source timed packages index_sid position number = IsShownByFile timed packages index_sid position number
+abbrev pub IsShownBy : PackageKind → List SegmentAtParts → List PackageAt → ℕ → ℕ → ℕ → Type 0
+IsShownBy Material segments packages index_sid position number =
+    IsShownByClip segments packages index_sid position number
+IsShownBy Source segments packages index_sid position number =
+    IsShownByFile segments packages index_sid position number
 
 -- The position of the index is shown at the number: by a material package, or where none tells the time by a file
 -- package; of a copy that is finished.
 pub record IsShown (notes : List NoteParts) (packages : List PackageAt) (index_sid position number : ℕ) : Type 0 where
-  pub finished : is_finished notes ≡ true
-  pub by : IsShownBy (teller packages) (is_timed (segments_of notes)) packages index_sid position number
+  pub finished : IsFinished notes
+  pub teller : PackageKind
+  pub teller_is : IsTeller packages teller
+  pub by : IsShownBy teller (segments_of notes) packages index_sid position number

@@ -65,12 +65,13 @@ clip_of uid c = option_and_then (λ start. option_and_then (naming uid start) (o
 abbrev pub is_clip_of : List ℕ → Component → Bool
 is_clip_of uid c = is_some (clip_of uid c)
 
--- The track for a file package, with its IndexSID and its identifier, beside a clock of this rate: the first that fits
--- it, has Origin 0 and has a clip that names the package.
+-- The track fits the index of a file package beside a clock of this rate, has Origin 0 and has a clip that names the
+-- package.
 abbrev pub shows : (ℕ → Rate → Bool) → ℕ → Rate → List ℕ → FoundTrack → Bool
 shows timed index_sid clock_rate uid t =
     is_beside timed index_sid clock_rate t && begins_at_zero t && list_any (is_clip_of uid) (components_of t)
 
+-- The track for a file package, with its IndexSID and its identifier, beside a clock of this rate: the first such one.
 unfoldable pub track_for : (ℕ → Rate → Bool) → ℕ → Rate → List ℕ → List TrackAt → Option FoundTrack
 track_for timed index_sid clock_rate uid tracks = find (shows timed index_sid clock_rate uid) (found_tracks tracks)
 

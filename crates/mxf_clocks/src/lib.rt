@@ -7,6 +7,7 @@
 //! [`laws`] say which position is shown at which number, without runs.
 #![tactic(auto)]
 
+mod choices;
 mod clock_track;
 mod clocks;
 mod file_package;

@@ -71,18 +71,18 @@ among_is sets w reached [] h = refl
 among_is sets w reached (n ∷ []) h = at_is sets w reached n (h n (inl refl))
 among_is sets w reached (m ∷ n ∷ ns) h = refl
 
-step_is : (sets : List NoteParts) (w : Wanted) (reached uid : List ℕ) → IsStep sets w (set_of sets w reached uid)
+pub step_is : (sets : List NoteParts) (w : Wanted) (reached uid : List ℕ) → IsStep sets w (set_of sets w reached uid)
 unfolding set_of
 step_is sets w reached uid =
     among_is sets w reached (filter (has_uid uid) sets) (λ n i. ((In-filter (has_uid uid) sets n).0 i).0)
 
 -- ---- readings
 
-ok_from : {A E : Type 0} (r : Result A E) (v : A) → result_ok r ≡ Some v → r ≡ Ok v
+pub ok_from : {A E : Type 0} (r : Result A E) (v : A) → result_ok r ≡ Some v → r ≡ Ok v
 ok_from (Ok w) v e = (let same : w ≡ v = cc in ap (λ x. Ok x) same)
 ok_from (Err f) v e = absurd cc
 
-read_from : {A E : Type 0} (read : List ℕ → Result A E) (n : NoteParts) (v : A) → read_as read n ≡ Some v
+pub read_from : {A E : Type 0} (read : List ℕ → Result A E) (n : NoteParts) (v : A) → read_as read n ≡ Some v
     → IsReadAs read n v
 read_from {A} read n v e =
     elim (keeps_value n) as (λ b. keeps_value n ≡ b → cond b (result_ok (read n.held)) None ≡ Some v
@@ -211,7 +211,7 @@ packages_named clear sets reached refs = steps_named (λ (p : PackageAt). p.uid)
 -- ---- what a step finds
 
 -- It is so where nothing is found, and of what is read.
-step_there : {A F R : Type 0} (sets : List NoteParts) (w : Wanted) (IsThere : R → Type 0)
+pub step_there : {A F R : Type 0} (sets : List NoteParts) (w : Wanted) (IsThere : R → Type 0)
     (make : Target → Option F → R) (read : NoteParts → Option A) (follow : List ℕ → A → F × List ℕ)
     (reached : List ℕ) (r : Result NoteParts Target) → IsStep sets w r
     → ((t : Target) → is_found t ≡ false → IsThere (make t None))
@@ -225,7 +225,7 @@ step_there {A} {F} {R} sets w IsThere make read follow reached (Ok n) s stop go 
       | Some a ↦ λ e. go n a after s.0 s.1 e
     ] refl
 
-steps_there : {U R : Type 0} (IsThere : R → Type 0) (one : List ℕ → U → R × List ℕ)
+pub steps_there : {U R : Type 0} (IsThere : R → Type 0) (one : List ℕ → U → R × List ℕ)
     → ((reached : List ℕ) (u : U) → IsThere (one reached u).0) → (reached : List ℕ) (us : List U)
     → AllByRecursion IsThere (steps one reached us).0
 steps_there IsThere one there reached [] = tt

@@ -1,9 +1,11 @@
 pub mod ComponentLaws
 pub mod ContainerLaws
 pub mod FoundLaws
+pub mod NamedLaws
 pub mod OnceLaws
 pub mod OneTarget
 pub mod TargetLaws
 pub mod ReachedLaws
+pub mod StartLaws
 pub mod WalkLaws
 pub mod TimecodeLaws

@@ -1,7 +1,10 @@
 pub mod Keys
+pub mod Registered
 pub mod Targets
 pub mod Containers
 pub mod Walk
+pub mod Starts
+pub mod NamedContainers
 pub mod Once
 pub mod FoundSets
 pub mod References

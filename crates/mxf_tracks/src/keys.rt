@@ -1,7 +1,10 @@
 //! The keys of the sets that are read as records of tracks (ST 377-1), and the labels of what sequences hold.
-ghost use Rattle.std.specs.Prelude.{◌≡◌};
+ghost use Rattle.std.specs.Prelude.{◌≡◌, false, true};
 ghost use Rattle.mxf_tracks.specs.Keys.{is_clip, is_container_data, is_definition, is_filler, is_sequence, is_set_key};
-ghost use Rattle.mxf_tracks.specs.Keys.{essence_item, is_timecode, is_track, sequence_kind, timecode_item};
+ghost use Rattle.mxf_tracks.specs.Keys.{essence_item, fits, is_timecode, is_track, sequence_kind, timecode_item};
+ghost use Rattle.mxf_tracks.specs.Registered.{data_definition, set_key};
+ghost use Rattle.mxf_tracks.specs.declared.sequence.SequenceKind.TheVariants as kinds;
+ghost use Rattle.mxf_tracks.specs.declared.target.Wanted.TheVariants as wanted;
 
 use crate::sequence::SequenceKind;
 use mxf_klv::Ul;
@@ -99,3 +102,34 @@ pub(crate) fn sequence_kind(label: &[u8; 16]) -> SequenceKind
     }
     SequenceKind::Other(*label)
 }
+
+/// A law of what sequences hold: their registered labels are those of picture, sound and data, of the timecodes of three
+/// standards, and of descriptive metadata. A label of another number of these families is told as it is.
+pub fn labels_have_these_kinds()
+    ensures picture { sequence_kind (data_definition 0x02 0x01) ≡ kinds.Picture }
+    ensures sound { sequence_kind (data_definition 0x02 0x02) ≡ kinds.Sound }
+    ensures data_essence { sequence_kind (data_definition 0x02 0x03) ≡ kinds.Data }
+    ensures timecodes { (sequence_kind (data_definition 0x01 0x01) ≡ kinds.Timecode)
+        × (sequence_kind (data_definition 0x01 0x02) ≡ kinds.Timecode)
+        × (sequence_kind (data_definition 0x01 0x03) ≡ kinds.Timecode) }
+    ensures descriptive { sequence_kind (data_definition 0x01 0x10) ≡ kinds.Descriptive }
+    ensures others { (sequence_kind (data_definition 0x02 0x04) ≡ kinds.Other (data_definition 0x02 0x04))
+        × (sequence_kind (data_definition 0x01 0x04) ≡ kinds.Other (data_definition 0x01 0x04))
+        × (sequence_kind (data_definition 0x01 0x11) ≡ kinds.Other (data_definition 0x01 0x11)) }
+{}
+
+/// A law of which sets the registered keys are of. Neither an Event Track (39) nor a Static Track (3A) is followed as a
+/// track, and no descriptive metadata segment (41) as a component.
+pub fn keys_are_of_these_sets()
+    ensures filler { is_filler (set_key 0x09) ≡ true }
+    ensures sequence { is_sequence (set_key 0x0F) ≡ true }
+    ensures clip { is_clip (set_key 0x11) ≡ true }
+    ensures timecode { is_timecode (set_key 0x14) ≡ true }
+    ensures container_data { is_container_data (set_key 0x23) ≡ true }
+    ensures track { is_track (set_key 0x3B) ≡ true }
+    ensures components { (fits wanted.Component (set_key 0x09) ≡ true) × (fits wanted.Component (set_key 0x11) ≡ true)
+        × (fits wanted.Component (set_key 0x14) ≡ true) × (fits wanted.Component (set_key 0x0F) ≡ false)
+        × (fits wanted.Component (set_key 0x41) ≡ false) }
+    ensures tracks { (fits wanted.Track (set_key 0x39) ≡ false) × (fits wanted.Track (set_key 0x3A) ≡ false)
+        × (fits wanted.Sequence (set_key 0x11) ≡ false) }
+{}

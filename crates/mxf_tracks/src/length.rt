@@ -1,5 +1,5 @@
 //! Lengths of durations.
-ghost use Rattle.std.specs.Prelude.{◌≡◌, Some};
+ghost use Rattle.std.specs.Prelude.{◌≡◌, Some, codes, pos};
 ghost use Rattle.std.specs.Option.{option_map};
 ghost use Rattle.mxf_tracks.specs.Digits.{length_text};
 ghost use Rattle.mxf_tracks.specs.Lengths.{length_of};
@@ -46,3 +46,15 @@ impl fmt::Display for Length {
         )
     }
 }
+
+/// A law of [`Length`]: how some lengths print, up to hours of three digits, and how long an hour of frames at 25 and at
+/// 30000/1001 a second lasts.
+pub fn lengths_are_these()
+    ensures below_a_minute { length_text 30040 ≡ codes "00:00:30.040" }
+    ensures below_two_hours { length_text 5400000 ≡ codes "01:30:00.000" }
+    ensures two_hours { length_text 7200000 ≡ codes "02:00:00.000" }
+    ensures above_a_day { length_text 90061001 ≡ codes "25:01:01.001" }
+    ensures hundred_hours { length_text 360000000 ≡ codes "100:00:00.000" }
+    ensures hours { (length_of 90000 (record { numerator = pos 25; denominator = pos 1 }) ≡ Some 3600000)
+        × (length_of 107892 (record { numerator = pos 30000; denominator = pos 1001 }) ≡ Some 3599996) }
+{}

@@ -1,6 +1,8 @@
 //! Packages.
-ghost use Rattle.std.specs.Prelude.{◌≡◌, ◌==◌, ℕ, List, [], Some, find, map, IfOk};
+ghost use Rattle.std.specs.Prelude.{◌≡◌, ◌↔◌, ◌==◌, ℕ, List, [], Option, Some, find, map, IfOk};
 ghost use Rattle.mxf_klv.specs.Parts.{NoteParts};
+ghost use Rattle.mxf_klv.specs.Rising.{In};
+ghost use Rattle.mxf_klv.specs.declared.kinds.Kind.TheVariants.{MaterialPackage};
 ghost use Rattle.std.specs.List.{AllByRecursion};
 ghost use Rattle.mxf_catalogue.specs.Content.{IsContent};
 ghost use Rattle.mxf_catalogue.specs.Disputes.{clear_notes};
@@ -9,8 +11,16 @@ ghost use Rattle.mxf_references.specs.Resolved.{ResolvedParts, resolved_of};
 ghost use Rattle.mxf_views.specs.Copies.{sets_of};
 ghost use Rattle.mxf_tracks.specs.Containers.{AreContainersOf};
 ghost use Rattle.mxf_tracks.specs.FoundSets.{IsPackageThere};
+ghost use Rattle.mxf_tracks.specs.NamedContainers.{IsContainerOf};
 ghost use Rattle.mxf_tracks.specs.References.{AreTargets, LeadsTo, Named, Reference, references_of};
+ghost use Rattle.mxf_tracks.specs.Starts.{AreOneBehindAnother, IsPackageIn, IsSequenceIn, IsStartBehind};
+ghost use Rattle.mxf_tracks.specs.declared.component.Component.{Component};
+ghost use Rattle.mxf_tracks.specs.declared.container.Container.{Container};
+ghost use Rattle.mxf_tracks.specs.declared.package.FoundPackage.{FoundPackage};
+ghost use Rattle.mxf_tracks.specs.declared.package.PackageKind.TheVariants.{Material};
+ghost use Rattle.mxf_tracks.specs.declared.sequence.FoundSequence.{FoundSequence};
 ghost use Rattle.mxf_tracks.specs.declared.target.Target.{Target};
+ghost use Rattle.mxf_tracks.specs.declared.target.Target.TheVariants.{Found};
 ghost use Rattle.mxf_tracks.specs.Once.{AreOnce, read_of_packages};
 ghost use Rattle.mxf_tracks.specs.Walk.{found_package, package_by, package_in, package_kind, package_of, packages_from};
 ghost use Rattle.mxf_tracks.specs.Walk.{package_there, target_unfollowed, tracks_from_resolved, tracks_in};
@@ -272,4 +282,30 @@ pub fn each_target_is_by_the_references_before()
     ensures one { (notes : List NoteParts) (partition : ℕ) (before : List Reference) (named : Named) (uid : List ℕ)
         (t u : Target) → IsContent notes → LeadsTo (sets_of notes partition) before named uid t
         → LeadsTo (sets_of notes partition) before named uid u → t ≡ u }
+{}
+
+/// A law of [`Tracks::of`]: a component begins where the durations of all components before it in its sequence add up to.
+/// If one of these isn't found, or its duration isn't known, it begins at no known place. Components before it tell one
+/// start.
+pub fn components_begin_behind_those_before()
+    ensures begin { (notes : List NoteParts) (r : ResolvedParts) (s : FoundSequence)
+        → IsSequenceIn (tracks_in notes r) s → AreOneBehindAnother s.components }
+    ensures one { (before : List Component) (s t : Option ℕ) → IsStartBehind before s → IsStartBehind before t
+        → s ≡ t }
+{}
+
+/// A law of [`Tracks::of`]: a package has a container exactly if at least one Essence Container Data set of the copy
+/// names it for the package's identifier, and none names another.
+pub fn containers_are_those_that_sets_name()
+    ensures { (notes : List NoteParts) (r : ResolvedParts) (f : FoundPackage) (c : Container)
+        → IsPackageIn (tracks_in notes r) f
+        → (f.container ≡ Some c) ↔ IsContainerOf (sets_of notes r.partition) f.properties.package_uid c }
+{}
+
+/// A law of [`Tracks::of`]: a package that is found is a material package exactly if the clear note at its offset is a
+/// Material Package.
+pub fn packages_are_of_the_kind_of_their_notes()
+    ensures { (notes : List NoteParts) (r : ResolvedParts) (f : FoundPackage)
+        → (i : IsPackageIn (tracks_in notes r) f) → (n : NoteParts) × In n (clear_notes notes)
+        × (i.0.target ≡ Found n.offset) × ((f.kind ≡ Material) ↔ (kind_of n.key ≡ MaterialPackage)) }
 {}

@@ -1,5 +1,6 @@
 //! Timecodes (SMPTE ST 12-1): the labels of the frames of a day.
-ghost use Rattle.std.specs.Prelude.{◌≡◌, ◌⊎◌, ◌<◌, ◌^◌, ℕ, ℤ, Bool, Some, true};
+ghost use Rattle.std.specs.Prelude.{◌≡◌, ◌⊎◌, ◌<◌, ◌^◌, ℕ, ℤ, Bool, Some, codes, false, pos, true};
+ghost use Rattle.std.specs.Option.{option_map};
 ghost use Rattle.mxf_tracks.specs.Digits.{timecode_text};
 ghost use Rattle.mxf_tracks.specs.Timecodes.{IsLabel, IsTimecodeOf, drops, label_at, label_with, labels_of_day};
 ghost use Rattle.mxf_tracks.specs.Timecodes.{left_out_up_to, number_of, timecode_of};
@@ -131,4 +132,23 @@ pub fn each_label_has_its_number()
     ensures one { (base : ℕ) (a b : Timecode) → IsLabel base a → IsLabel base b → a.is_drop ≡ b.is_drop
         → number_of base a ≡ number_of base b → a ≡ b }
     ensures within { (base : ℕ) (t : Timecode) → IsLabel base t → number_of base t < labels_of_day base t.is_drop }
+{}
+
+/// A law of [`labels_of_day`] and [`Timecode::of`]: how many labels days have, and which labels stand where drop frame
+/// leaves some out (ST 12-1): 2 a minute at base 30 and 4 at base 60, and none each tenth minute.
+pub fn days_have_these_labels()
+    ensures drop_frame { (labels_of_day 30 true ≡ 2589408) × (labels_of_day 60 true ≡ 5178816) }
+    ensures all_counted { (labels_of_day 24 false ≡ 2073600) × (labels_of_day 25 false ≡ 2160000)
+        × (labels_of_day 30 false ≡ 2592000) }
+    ensures minute_of_30 { (option_map timecode_text (timecode_of (pos 1799) 30 true) ≡ Some (codes "00:00:59;29"))
+        × (option_map timecode_text (timecode_of (pos 1800) 30 true) ≡ Some (codes "00:01:00;02")) }
+    ensures tenth_minute_of_30 { (option_map timecode_text (timecode_of (pos 17981) 30 true) ≡ Some (codes "00:09:59;29"))
+        × (option_map timecode_text (timecode_of (pos 17982) 30 true) ≡ Some (codes "00:10:00;00")) }
+    ensures hour_of_30 { option_map timecode_text (timecode_of (pos 107892) 30 true) ≡ Some (codes "01:00:00;00") }
+    ensures minute_of_60 { (option_map timecode_text (timecode_of (pos 3599) 60 true) ≡ Some (codes "00:00:59;59"))
+        × (option_map timecode_text (timecode_of (pos 3600) 60 true) ≡ Some (codes "00:01:00;04")) }
+    ensures tenth_minute_of_60 { (option_map timecode_text (timecode_of (pos 35963) 60 true) ≡ Some (codes "00:09:59;59"))
+        × (option_map timecode_text (timecode_of (pos 35964) 60 true) ≡ Some (codes "00:10:00;00")) }
+    ensures no_drop_frame { (option_map timecode_text (timecode_of (pos 90000) 25 true) ≡ Some (codes "01:00:00:00"))
+        × (option_map timecode_text (timecode_of (pos 1800) 30 false) ≡ Some (codes "00:01:00:00")) }
 {}
