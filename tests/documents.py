@@ -1,19 +1,20 @@
 #!/usr/bin/env python3
 """Looks up each link of the documents: the file is there, and has the heading that the link names. If a link is to a
-source and names a function or a type, or if one is named with its crate and modules (`crate::module::call`, or several as
-`crate::module::{call (clause), call}`), that is there, and the function has the clauses that stand in parentheses after
-it. Sees that each line of a block that names a file of crates/ stands in it. Sees that each row of a table stands in a
-table, which an empty line would end, and that the numbers of tests, edits, runs and files that a document gives are those
-of the scripts and crates. Sees that each row of docs/PROMISES.md names a clause, what tries it or edits that there are,
-and that its list has each public call that can be out of memory.
-Sees that each definition that a clause of a public function of the libraries cites has a sentence where it stands, or in
-docs/MODEL.md. Looks up each file of definitions that this names, in the crate of the heading above. Compares the tables
-of docs/LAYERS.md and crates/README.md with crates.txt. Looks up the names of code of docs/MODEL.md, docs/DECISIONS.md and
-docs/FORMATS.md in the sources.
-Compares what docs/FORMATS.md owns (exit statuses, stops, forms of a source, findings, words of lines) with what README.md,
-docs/GUIDE.md, the man page and the sources say of it. Sees that no sentence of README.md, docs/GUIDE.md, docs/PAGES.md,
-docs/ARCHIVE.md and the man pages begins with "Of" or "Those", and that none has more than 40 words. Only failures are
-printed; the last line is 'N passed, M failed'.
+source and names a function or a type, or if one is named with its crate (`crate::module::call`, `crate::call`, or
+several as `crate::Type::{call (clause), call}`), that is there, no other has this name, and the function has the
+clauses that stand in parentheses after it. So is each name of the tables of docs/PROMISES.md, in the crates that stand
+above its table. Sees that each line of a block that names a file of crates/ stands in it. Sees that each row of a
+table stands in a table, which an empty line would end, and that the numbers of tests, edits, runs and files that a
+document gives are those of the scripts and crates. Sees that each row of docs/PROMISES.md names a clause, what tries
+it or edits that there are, and that its list has each public call that can be out of memory, and no name of none.
+Sees that each definition that a clause of a public function of the libraries cites has a sentence where it stands, or
+in docs/MODEL.md. Looks up each file of definitions that this names, in the crate of the heading above. Compares the
+tables of docs/LAYERS.md and crates/README.md with crates.txt. Looks up the names of code of docs/MODEL.md,
+docs/DECISIONS.md and docs/FORMATS.md in the sources.
+Compares what docs/FORMATS.md owns (exit statuses, stops, forms of a source, findings, words of lines) with what
+README.md, docs/GUIDE.md, the man page and the sources say of it. Sees that no sentence of README.md, docs/GUIDE.md,
+docs/PAGES.md, docs/ARCHIVE.md and the man pages begins with "Of" or "Those", and that none has more than 40 words.
+Only failures are printed; the last line is 'N passed, M failed'.
 """
 import ast
 import collections
@@ -24,6 +25,7 @@ import re
 import sys
 
 import api_pages
+import named_code
 
 TOP = pathlib.Path(__file__).resolve().parent.parent
 LINK = re.compile(r"\[[^\]]*\]\(([^)\s]+)\)")
@@ -32,10 +34,11 @@ CONTRACT = re.compile(r"\[`([\w:]+)`\]\(([^)\s]+\.rt)\)" + CLAUSES)
 PLACED = re.compile(r"`(mxf_\w+(?:::\w+)+)`" + CLAUSES)
 GROUPED = re.compile(r"`(mxf_\w+(?:::\w+)*)::\{([^`]*)\}`")
 LIBRARIES = (
-    "mxf_digests", "mxf_klv", "mxf_sets", "mxf_catalogue", "mxf_skim", "mxf_views", "mxf_references", "mxf_findings", "mxf_doubts", "mxf_tracks", "mxf_clocks",
-    "mxf_places", "mxf_restore", "mxf_map", "mxf_units", "mxf_timed", "mxf_partial", "mxf_read", "mxf_readings",
-    "mxf_verify", "mxf_hand", "mxf_find", "mxf_forms", "mxf_lines", "mxf_skimmed", "mxf_progress",
-)
+    "mxf_digests", "mxf_klv", "mxf_sets", "mxf_catalogue", "mxf_skim", "mxf_views", "mxf_references", "mxf_findings",
+    "mxf_doubts", "mxf_tracks", "mxf_clocks", "mxf_places", "mxf_restore", "mxf_map", "mxf_units", "mxf_timed",
+    "mxf_partial", "mxf_read", "mxf_readings", "mxf_verify", "mxf_hand", "mxf_find", "mxf_forms", "mxf_lines",
+    "mxf_skimmed", "mxf_progress",
+)  # fmt: skip
 # What the program is made of beside them.
 PROGRAM = ("mxf_asked", "mxf_saving", "mxf_watching", "mxf_commands", "mxf_hints", "mxf_sources", "mxf_tool")
 IMPORT = re.compile(r"^ghost use Rattle\.(mxf_\w+)\.specs\.(\w+)\.\{([^}]*)\};", re.MULTILINE)
@@ -95,17 +98,8 @@ def fault_of_contract(text, name, clauses):
     return f"no clause {', '.join(missing)}" if missing else None
 
 
-def place_of(name):
-    """The source in which a name stands that begins with its crate and its modules, and what of it comes after them."""
-    crate, *parts = name.split("::")
-    folder = TOP / "crates" / crate / "src"
-    sources = [folder.joinpath(*parts[:count]).with_suffix(".rt") for count in range(1, len(parts) + 1)]
-    count = max((count for count, source in enumerate(sources, 1) if source.exists()), default=0)
-    return (sources[count - 1] if count else folder / "lib.rt"), parts[count:]
-
-
 def placed_in(line):
-    """The functions and types that a line names with their crates and modules, each with its clauses."""
+    """The functions and types that a line names with their crates, each with its clauses."""
     for name, clauses in PLACED.findall(line):
         yield name, re.findall(r"\w+", clauses)
     for place, names in GROUPED.findall(line):
@@ -120,9 +114,7 @@ def verdicts_of_contracts(document):
             text = text_of(document.parent / path)
             yield number, name, fault_of_contract(text, name.split("::")[-1], re.findall(r"\w+", clauses))
         for name, clauses in placed_in(line):
-            source, own = place_of(name)
-            is_module = not own and source.exists()
-            yield number, name, None if is_module else fault_of_contract(text_of(source), own[-1] if own else "", clauses)
+            yield number, name, named_code.fault_of_name(name, clauses, [])
 
 
 def verdicts_of_tables(document):
@@ -191,7 +183,9 @@ def has_entry(model, file, name):
 def with_sentences(file):
     """The definitions of a file that have a comment right above them."""
     lines = [line.lstrip() for line in text_of(TOP / file).splitlines()]
-    below = [line for above, line in zip(lines, lines[1:]) if above.startswith("--") and not line.startswith(("--", "use "))]
+    below = [
+        line for above, line in zip(lines, lines[1:]) if above.startswith("--") and not line.startswith(("--", "use "))
+    ]
     named = (re.match(r"(?:(?:pub|abbrev|unfoldable|record|data) )*([^\s(){}:]+)", line) for line in below)
     return {name[1] for name in named if name}
 
@@ -199,7 +193,8 @@ def with_sentences(file):
 def has_sentence(file, name):
     """Whether a definition has a sentence of its own where it stands: right above it; above the relation that it tests or
     computes, whose name has capital letters, and may begin with Is or Are; or in a comment that names it."""
-    there, titles = with_sentences(file), {word.title().replace("_", "") for word in (name, re.sub(r"_(of|at|in)$", "", name))}
+    there = with_sentences(file)
+    titles = {word.title().replace("_", "") for word in (name, re.sub(r"_(of|at|in)$", "", name))}
     known = {name, *titles, *(f"Is{title}" for title in titles), *(f"Are{title}" for title in titles)}
     return bool(known & there) or re.search(rf"--.*\b{re.escape(name)}\b", text_of(TOP / file)) is not None
 
@@ -321,6 +316,48 @@ def second_cells(document):
             yield number, heading, cells[1]
 
 
+# The crates whose names stand without them in the tables below, as a section of docs/PROMISES.md says them.
+CRATES_BELOW = re.compile(r"Crates?: (mxf_\w+(?:, mxf_\w+)*)\.")
+# What cells name that several types have, or that is a part of a contract.
+OF_SEVERAL = {"write_to", "read", "of", "Display", "Eq", "Ord", "history", "goes_on"}
+NAMED = re.compile(r"`([\w:]+)(?:::\{([^`]*)\})?`" + CLAUSES)
+
+
+def names_in(cell):
+    """The functions, methods, laws and types that a cell of docs/PROMISES.md names, each with its clauses. What a link
+    shows is no such name."""
+    for name, several, clauses in NAMED.findall(LINK.sub("", cell)):
+        members = re.findall(r"(\w+)(?: \(([\w, ]+)\))?", several) if several else ()
+        yield from ((f"{name}::{member}", re.findall(r"\w+", own)) for member, own in members)
+        if not several and name not in OF_SEVERAL:
+            yield name, re.findall(r"\w+", clauses)
+
+
+@functools.cache
+def defined_in(crate):
+    """The definitions of a crate, and the fields of its records."""
+    files = sorted((TOP / "crates" / crate / "specs").glob("*.antt"))
+    fields = (re.findall(r"^ +pub ([\w-]+) :", text_of(file), re.MULTILINE) for file in files)
+    return {name for file in files for name, _ in declarations(file)}.union(*fields)
+
+
+def verdicts_of_names(document):
+    """For each name of a row of docs/PROMISES.md: its line, the name, and that the crates above the table have no item of
+    that name or several, or that the item lacks a clause; or None. A definition is named by itself. Behind `tried` a name
+    with its crate is looked up, as everywhere."""
+    crates_above, crates_at = [], {}
+    for number, line in enumerate(lines_of(document) if document.name == "PROMISES.md" else (), 1):
+        above = CRATES_BELOW.fullmatch(line)
+        crates_above = above[1].split(", ") if above else [] if line.startswith("#") else crates_above
+        crates_at[number] = crates_above
+    for number, heading, cell in second_cells(document) if crates_at else ():
+        is_named = cell is not None and heading in ("Carried by", "Field or contract")
+        for name, clauses in names_in(cell.partition("tried")[0]) if is_named else ():
+            crates_named = crates_at[number]
+            is_defined = not clauses and any(name in defined_in(crate) for crate in crates_named)
+            yield number, name, None if is_defined else named_code.fault_of_name(name, clauses, crates_named)
+
+
 def fault_of_trial(words):
     """Why these words don't say what tries a promise: they name nothing, or no file that there is; or None."""
     named = TRIED_BY.findall(words)
@@ -331,8 +368,7 @@ def fault_of_trial(words):
 def fault_of_promise(cell):
     """Why nothing carries the promise of a cell: it names no clause and not what tries it; or None."""
     proof, marked, trial = cell.partition("tried")
-    is_named = CONTRACT.search(proof) or PLACED.search(proof) or GROUPED.search(proof)
-    if (proof or not marked) and not is_named and not any(words in proof for words in CARRIED):
+    if (proof or not marked) and not any(names_in(proof)) and not any(words in proof for words in CARRIED):
         return "neither a clause nor what it is tried by"
     return fault_of_trial(trial) if marked else None
 
@@ -376,15 +412,20 @@ def calls_with_memory():
 
 def verdicts_of_memory(document):
     """For each call that can answer that it is out of memory: that the list of such calls in docs/PROMISES.md hasn't
-    its name, or None."""
+    its name, or None. For each name of the list: its line, and that its crates have no item of that name, or several, or
+    None."""
     if document.name != "PROMISES.md":
         return
-    _, _, behind = text_of(document).partition("\n### Calls that take memory\n")
-    listed = behind.split("\n## ")[0]
+    listed, in_list = set(), False
+    for number, line in enumerate(lines_of(document), 1):
+        in_list = line == "### Calls that take memory" if line.startswith("#") else in_list
+        item = re.match(r"- (mxf_\w+(?:, mxf_\w+)*): ", line) if in_list else None
+        for name, _ in names_in(line) if item else ():
+            listed.add(name)
+            yield number, name, named_code.fault_of_name(name, [], item[1].split(", "))
     for owner, name in calls_with_memory():
-        names = [f"`{owner}::{name}`"] if name in ("of", "read") else [f"`{owner}::{name}`", f"`{name}`"]
-        fault = None if any(named in listed for named in names) else "not in the list of calls that take memory"
-        yield 1, f"{owner}::{name}" if owner else name, fault
+        named = f"{owner}::{name}" if owner else name
+        yield 1, named, None if named in listed else "not in the list of calls that take memory"
 
 
 def length_of(script, name):
@@ -403,7 +444,9 @@ def number_in(script, pattern):
 
 def tests_of(crate):
     """How many tests a crate has."""
-    return sum(file.read_text(encoding="utf-8").count("#[test]") for file in (TOP / "crates" / crate / "src").rglob("*.rt"))
+    return sum(
+        file.read_text(encoding="utf-8").count("#[test]") for file in (TOP / "crates" / crate / "src").rglob("*.rt")
+    )
 
 
 def edits_of(crate):
@@ -443,7 +486,9 @@ NAME_OF_CODE = re.compile(r"\b(?!serde_json\b)(?:[a-z]+_\w+|[A-Z]+[a-z]\w*[A-Z]\
 def words_of_sources():
     """The words of all sources, definitions and scripts."""
     files = [file for part in ("src", "specs", "proofs") for file in (TOP / "crates").glob(f"*/{part}/**/*.*t")]
-    files += [file for folder in ("tests", "report") for file in (TOP / folder).rglob("*") if file.suffix in ("", ".py")]
+    files += [
+        file for folder in ("tests", "report") for file in (TOP / folder).rglob("*") if file.suffix in ("", ".py")
+    ]
     return set().union(*(re.findall(r"\w+", text_of(file)) for file in files if file.is_file()))
 
 
@@ -635,7 +680,10 @@ def retold():
         ("status of", formats_faults_named(GUIDE), GUIDE, faults_with_status(GUIDE)),
         ("word of", formats_words(), MAN, man_words()),
         ("stop", formats_stops(), GUIDE, stops_in(GUIDE)),
-        *(("word of " + table, dict.fromkeys(words_below(table), True), *printed_by(*by)) for table, by in PRINTED.items()),
+        *(
+            ("word of " + table, dict.fromkeys(words_below(table), True), *printed_by(*by))
+            for table, by in PRINTED.items()
+        ),
         ("form of a source", formats_forms(), README, forms_in(text_of(TOP / README))),
         ("form of a source", formats_forms(), GUIDE, forms_in(guide)),
         ("form of a source", formats_forms(), MAN, forms_in(man)),
@@ -726,7 +774,7 @@ def verdicts_of_sentences(document):
 
 
 VERDICTS = (
-    verdicts_of_promises, verdicts_of_memory,
+    verdicts_of_promises, verdicts_of_names, verdicts_of_memory,
     verdicts_of_links, verdicts_of_contracts, verdicts_of_tables, verdicts_of_quotes,
     verdicts_of_definitions, verdicts_of_definition_files, verdicts_of_layers, verdicts_of_numbers, verdicts_of_code,
     verdicts_of_facts, verdicts_of_declarations, verdicts_of_sentences,
@@ -735,7 +783,11 @@ VERDICTS = (
 
 def main():
     names = ("README.md", "SECURITY.md", "CONTRIBUTING.md", "CHANGELOG.md", "examples/README.md", "crates/README.md")
-    documents = [*(TOP / name for name in names), *sorted((TOP / "docs").glob("*.md")), *sorted((TOP / "docs").glob("*.1"))]
+    documents = [
+        *(TOP / name for name in names),
+        *sorted((TOP / "docs").glob("*.md")),
+        *sorted((TOP / "docs").glob("*.1")),
+    ]
     passed = failed = 0
     for document in documents:
         kinds = (verdicts_of_sentences,) if document.suffix == ".1" else VERDICTS
