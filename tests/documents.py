@@ -299,6 +299,7 @@ def verdicts_of_declarations(document):
 # the one that rests on rows below.
 CARRIED = ("each function's proof", "only lent (`&`)", "(#end-to-end)")
 TRIED_BY = re.compile(r"(?:tests|benches|crates)/[\w./]*\w|mxf_\w+(?:::\w+)*|\(#[\w-]+\)")
+TOPICS = re.compile(r"topics? (`\w+`(?:, `\w+`)*)")
 
 
 def second_cells(document):
@@ -360,7 +361,8 @@ def verdicts_of_names(document):
 
 def fault_of_trial(words):
     """Why these words don't say what tries a promise: they name nothing, or no file that there is; or None."""
-    named = TRIED_BY.findall(words)
+    topics = re.findall(r"\w+", " ".join(TOPICS.findall(words)))
+    named = TRIED_BY.findall(words) + [f"tests/end_to_end.d/{topic}" for topic in topics]
     missing = [name for name in named if "/" in name and not (TOP / name).exists()]
     return f"no such file as {', '.join(missing)}" if missing else None if named else "not said by what it is tried"
 
@@ -375,7 +377,8 @@ def fault_of_promise(cell):
 
 def fault_of_edits(cell):
     """Why a cell doesn't name edits by their crates, as tests/edits takes them, or None."""
-    named = re.findall(r"`(mxf_\w+)/(\w+)`", cell)
+    grouped = re.findall(r"`(mxf_\w+)/\{?([\w, ]+)\}?`", cell)
+    named = [(crate, name) for crate, names in grouped for name in names.split(", ")]
     missing = [f"{crate}/{name}" for crate, name in named if not list((TOP / "crates" / crate).glob(f"*/{name}.edit"))]
     return f"no such edit as {', '.join(missing)}" if missing else None if named else "no edit is named"
 
