@@ -12,9 +12,8 @@ in docs/MODEL.md. Looks up each file of definitions that this names, in the crat
 tables of docs/LAYERS.md and crates/README.md with crates.txt. Looks up the names of code of docs/MODEL.md,
 docs/DECISIONS.md and docs/FORMATS.md in the sources.
 Compares what docs/FORMATS.md owns (exit statuses, stops, forms of a source, findings, words of lines) with what
-README.md, docs/GUIDE.md, the man page and the sources say of it. Sees that no sentence of the documents,
-but for a few, begins with "Of" or "Those", and that none has more than 40 words. Only failures are printed; the last
-line is 'N passed, M failed'.
+README.md, docs/GUIDE.md, the man page and the sources say of it. Sees that no sentence begins with "Of"
+or "Those", and that none has more than 40 words. Only failures are printed; the last line is 'N passed, M failed'.
 """
 import ast
 import collections
@@ -719,8 +718,6 @@ def fault_of_fact(file, owned, there):
 
 # The longest sentence that a document may have, in words; a word of code is one.
 MOST_WORDS = 40
-# The documents of which no sentence is looked at: what a short name stands for is defined in MODEL.md in one sentence.
-NOT_PLAIN = ("CHANGELOG.md", "CONTRIBUTING.md", "docs/MODEL.md", "examples/README.md")
 FONTS = (".B", ".I", ".BR", ".BI", ".RB", ".IR", ".RI")
 
 
@@ -766,10 +763,7 @@ def fault_of_sentence(words):
 
 def verdicts_of_sentences(document):
     """For each sentence of a document: its line, its first words, and what is wrong with it, or None."""
-    is_man_page = document.suffix == ".1"
-    if document.relative_to(TOP).as_posix() in NOT_PLAIN:
-        return
-    for number, text in man_paragraphs(document) if is_man_page else paragraphs(document):
+    for number, text in man_paragraphs(document) if document.suffix == ".1" else paragraphs(document):
         text = re.sub(r"!?\[([^\]]*)\]\([^)]*\)", r"\1", re.sub(r"`[^`]*`", "`code`", text)).replace("*", "")
         for sentence in re.split(r"(?<=[.!?])\s+", text):
             words = sentence.split()
