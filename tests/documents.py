@@ -301,19 +301,22 @@ TRIED_BY = re.compile(r"(?:tests|benches|crates)/[\w./]*\w|mxf_\w+(?:::\w+)*|\(#
 TOPICS = re.compile(r"topics? (`\w+`(?:, `\w+`)*)")
 
 
-def second_cells(document):
-    """The second cells of all rows of tables: the line of each, the heading above it, and its text. That of a heading
-    has no text."""
-    heading = None
+def cells_below(document):
+    """The cells of all rows of tables but the first of each: the line of each, the number of its column, the heading above
+    it, and its text. That of a heading has no text."""
+    headings = None
     for number, line in enumerate(lines_of(document), 1):
         cells = [cell.strip() for cell in line.split("|")[1:-1]]
-        if not cells:
-            heading = None
-        elif heading is None:
-            heading = cells[1]
-            yield number, heading, None
+        if not cells or headings is None:
+            headings = cells or None
+            yield from ((number, column, heading, None) for column, heading in enumerate(cells[1:], 1))
         elif not re.fullmatch(r"[-| ]+", line):
-            yield number, heading, cells[1]
+            yield from ((number, column, headings[column], cells[column]) for column in range(1, len(cells)))
+
+
+def second_cells(document):
+    """The second cells of all rows of tables: the line of each, the heading above it, and its text."""
+    return ((number, heading, cell) for number, column, heading, cell in cells_below(document) if column == 1)
 
 
 # The crates whose names stand without them in the tables below, as a section of docs/PROMISES.md says them.
@@ -341,21 +344,34 @@ def defined_in(crate):
     return {name for file in files for name, _ in declarations(file)}.union(*fields)
 
 
+# The headings of the columns of docs/PROMISES.md in which each name is looked up.
+NAMING = ("Carried by", "Field or contract", "Rests on these conditions")
+
+
+def texts_with_names(document, crates_at):
+    """The texts of docs/PROMISES.md that name items: the line of each, and the names that are looked up, with their
+    clauses. In a paragraph below the crates of a section these are the names in small letters that have several words.
+    Behind `tried` none is: a name with its crate is looked up as everywhere."""
+    for number, _, heading, cell in cells_below(document):
+        if cell is not None and heading in NAMING:
+            yield number, names_in(cell.partition("tried")[0])
+    for number, line in enumerate(lines_of(document), 1):
+        if crates_at[number] and not line.startswith(("|", "#", "- ")):
+            yield number, (named for named in names_in(line) if re.fullmatch(r"[a-z]+_\w+", named[0]))
+
+
 def verdicts_of_names(document):
-    """For each name of a row of docs/PROMISES.md: its line, the name, and that the crates above the table have no item of
-    that name or several, or that the item lacks a clause; or None. A definition is named by itself. Behind `tried` a name
-    with its crate is looked up, as everywhere."""
+    """For each name of docs/PROMISES.md that is looked up: its line, the name, and that the crates above have no item of
+    that name or several, or that the item lacks a clause; or None. Definitions and fields of records are named too."""
     crates_above, crates_at = [], {}
     for number, line in enumerate(lines_of(document) if document.name == "PROMISES.md" else (), 1):
         above = CRATES_BELOW.fullmatch(line)
         crates_above = above[1].split(", ") if above else [] if line.startswith("#") else crates_above
         crates_at[number] = crates_above
-    for number, heading, cell in second_cells(document) if crates_at else ():
-        is_named = cell is not None and heading in ("Carried by", "Field or contract")
-        for name, clauses in names_in(cell.partition("tried")[0]) if is_named else ():
-            crates_named = crates_at[number]
-            is_defined = not clauses and any(name in defined_in(crate) for crate in crates_named)
-            yield number, name, None if is_defined else named_code.fault_of_name(name, clauses, crates_named)
+    for number, names in texts_with_names(document, crates_at) if crates_at else ():
+        for name, clauses in names:
+            is_defined = not clauses and any(name in defined_in(crate) for crate in crates_at[number])
+            yield number, name, None if is_defined else named_code.fault_of_name(name, clauses, crates_at[number])
 
 
 def fault_of_trial(words):
