@@ -6,7 +6,7 @@
     tests/cases.py --write NAME      the bytes of the first piece of the case of that name, or of a worked file, as they are
 
 Before, the worked files are compared with the bytes in tests/worked and with those that stand in crates of tests, and
-each form of a printed line (forms.txt) has to be wanted by a case.
+each form of a printed line (forms.txt, and the tables of docs/FORMATS.md) has to be wanted by a case.
 
 A case is some lines of a text file in tests/cases. A number sign begins a comment.
 
@@ -438,6 +438,11 @@ def wrong_in_the_cases(files, cases):
     for _, _, form in lines_of(CASES / "forms.txt"):
         if not any(fits(form, line) for line in wanted):
             yield [f"no case wants a line {form}"]
+    for form in json_lines.FORMS:
+        commands = [command for case in cases for command in case.commands if command.name == form.command]
+        lines = (line for command in commands for line in command.lines)
+        if form.command in COMMANDS and not any(map(form.pattern().fullmatch, lines)):
+            yield [f"no case wants a line {form.text} of {form.command}, as docs/FORMATS.md has it"]
 
 
 def run_all(program, word, files):

@@ -1,19 +1,19 @@
 #!/usr/bin/env python3
 """Looks up each link of the documents: the file is there, and has the heading that the link names. If a link is to a
-source and names a function or a type, or if one is named with its crate and modules (`crate::module::call`, or several as
-`crate::module::{call (clause), call}`), that is there, and the function has the clauses that stand in parentheses after
-it. Sees that each line of a block that names a file of crates/ stands in it. Sees that each row of a table stands in a
-table, which an empty line would end, and that the numbers of tests, edits, runs and files that a document gives are those
-of the scripts and crates. Sees that each row of docs/PROMISES.md names a clause, what tries it or edits that there are,
-and that its list has each public call that can be out of memory.
-Sees that each definition that a clause of a public function of the libraries cites has a sentence where it stands, or in
-docs/MODEL.md. Looks up each file of definitions that this names, in the crate of the heading above. Compares the tables
-of docs/LAYERS.md and crates/README.md with crates.txt. Looks up the names of code of docs/MODEL.md, docs/DECISIONS.md and
-docs/FORMATS.md in the sources.
-Compares what docs/FORMATS.md owns (exit statuses, stops, forms of a source, findings, words of lines) with what README.md,
-docs/GUIDE.md, the man page and the sources say of it. Sees that no sentence of README.md, docs/GUIDE.md, docs/PAGES.md,
-docs/ARCHIVE.md and the man pages begins with "Of" or "Those", and that none has more than 40 words. Only failures are
-printed; the last line is 'N passed, M failed'.
+source and names a function or a type, or if one is named with its crate (`crate::module::call`, `crate::call`, or
+several as `crate::Type::{call (clause), call}`), that is there, no other has this name, and the function has the
+clauses that stand in parentheses after it. So is each name of the tables of docs/PROMISES.md, in the crates that stand
+above its table. Sees that each line of a block that names a file of crates/ stands in it. Sees that each row of a
+table stands in a table, which an empty line would end, and that the numbers of tests, edits, runs and files that a
+document gives are those of the scripts and crates. Sees that each row of docs/PROMISES.md names a clause, what tries
+it or edits that there are, and that its list has each public call that can be out of memory, and no name of none.
+Sees that each definition that a clause of a public function of the libraries cites has a sentence where it stands, or
+in docs/MODEL.md. Looks up each file of definitions that this names, in the crate of the heading above. Compares the
+tables of docs/LAYERS.md and crates/README.md with crates.txt. Looks up the names of code of docs/MODEL.md,
+docs/DECISIONS.md and docs/FORMATS.md in the sources.
+Compares what docs/FORMATS.md owns (exit statuses, stops, forms of a source, findings, words of lines) with what
+README.md, docs/GUIDE.md, the man page and the sources say of it. Sees that no sentence begins with "Of"
+or "Those", and that none has more than 40 words. Only failures are printed; the last line is 'N passed, M failed'.
 """
 import ast
 import collections
@@ -24,6 +24,7 @@ import re
 import sys
 
 import api_pages
+import named_code
 
 TOP = pathlib.Path(__file__).resolve().parent.parent
 LINK = re.compile(r"\[[^\]]*\]\(([^)\s]+)\)")
@@ -32,10 +33,11 @@ CONTRACT = re.compile(r"\[`([\w:]+)`\]\(([^)\s]+\.rt)\)" + CLAUSES)
 PLACED = re.compile(r"`(mxf_\w+(?:::\w+)+)`" + CLAUSES)
 GROUPED = re.compile(r"`(mxf_\w+(?:::\w+)*)::\{([^`]*)\}`")
 LIBRARIES = (
-    "mxf_digests", "mxf_klv", "mxf_sets", "mxf_catalogue", "mxf_skim", "mxf_views", "mxf_references", "mxf_findings", "mxf_doubts", "mxf_tracks", "mxf_clocks",
-    "mxf_places", "mxf_restore", "mxf_map", "mxf_units", "mxf_timed", "mxf_partial", "mxf_read", "mxf_readings",
-    "mxf_verify", "mxf_hand", "mxf_find", "mxf_forms", "mxf_lines", "mxf_skimmed", "mxf_progress",
-)
+    "mxf_digests", "mxf_klv", "mxf_sets", "mxf_catalogue", "mxf_skim", "mxf_views", "mxf_references", "mxf_findings",
+    "mxf_doubts", "mxf_tracks", "mxf_clocks", "mxf_places", "mxf_restore", "mxf_map", "mxf_units", "mxf_timed",
+    "mxf_partial", "mxf_read", "mxf_readings", "mxf_verify", "mxf_hand", "mxf_find", "mxf_forms", "mxf_lines",
+    "mxf_skimmed", "mxf_progress",
+)  # fmt: skip
 # What the program is made of beside them.
 PROGRAM = ("mxf_asked", "mxf_saving", "mxf_watching", "mxf_commands", "mxf_hints", "mxf_sources", "mxf_tool")
 IMPORT = re.compile(r"^ghost use Rattle\.(mxf_\w+)\.specs\.(\w+)\.\{([^}]*)\};", re.MULTILINE)
@@ -95,17 +97,8 @@ def fault_of_contract(text, name, clauses):
     return f"no clause {', '.join(missing)}" if missing else None
 
 
-def place_of(name):
-    """The source in which a name stands that begins with its crate and its modules, and what of it comes after them."""
-    crate, *parts = name.split("::")
-    folder = TOP / "crates" / crate / "src"
-    sources = [folder.joinpath(*parts[:count]).with_suffix(".rt") for count in range(1, len(parts) + 1)]
-    count = max((count for count, source in enumerate(sources, 1) if source.exists()), default=0)
-    return (sources[count - 1] if count else folder / "lib.rt"), parts[count:]
-
-
 def placed_in(line):
-    """The functions and types that a line names with their crates and modules, each with its clauses."""
+    """The functions and types that a line names with their crates, each with its clauses."""
     for name, clauses in PLACED.findall(line):
         yield name, re.findall(r"\w+", clauses)
     for place, names in GROUPED.findall(line):
@@ -120,9 +113,7 @@ def verdicts_of_contracts(document):
             text = text_of(document.parent / path)
             yield number, name, fault_of_contract(text, name.split("::")[-1], re.findall(r"\w+", clauses))
         for name, clauses in placed_in(line):
-            source, own = place_of(name)
-            is_module = not own and source.exists()
-            yield number, name, None if is_module else fault_of_contract(text_of(source), own[-1] if own else "", clauses)
+            yield number, name, named_code.fault_of_name(name, clauses, [])
 
 
 def verdicts_of_tables(document):
@@ -191,7 +182,9 @@ def has_entry(model, file, name):
 def with_sentences(file):
     """The definitions of a file that have a comment right above them."""
     lines = [line.lstrip() for line in text_of(TOP / file).splitlines()]
-    below = [line for above, line in zip(lines, lines[1:]) if above.startswith("--") and not line.startswith(("--", "use "))]
+    below = [
+        line for above, line in zip(lines, lines[1:]) if above.startswith("--") and not line.startswith(("--", "use "))
+    ]
     named = (re.match(r"(?:(?:pub|abbrev|unfoldable|record|data) )*([^\s(){}:]+)", line) for line in below)
     return {name[1] for name in named if name}
 
@@ -199,7 +192,8 @@ def with_sentences(file):
 def has_sentence(file, name):
     """Whether a definition has a sentence of its own where it stands: right above it; above the relation that it tests or
     computes, whose name has capital letters, and may begin with Is or Are; or in a comment that names it."""
-    there, titles = with_sentences(file), {word.title().replace("_", "") for word in (name, re.sub(r"_(of|at|in)$", "", name))}
+    there = with_sentences(file)
+    titles = {word.title().replace("_", "") for word in (name, re.sub(r"_(of|at|in)$", "", name))}
     known = {name, *titles, *(f"Is{title}" for title in titles), *(f"Are{title}" for title in titles)}
     return bool(known & there) or re.search(rf"--.*\b{re.escape(name)}\b", text_of(TOP / file)) is not None
 
@@ -304,26 +298,86 @@ def verdicts_of_declarations(document):
 # the one that rests on rows below.
 CARRIED = ("each function's proof", "only lent (`&`)", "(#end-to-end)")
 TRIED_BY = re.compile(r"(?:tests|benches|crates)/[\w./]*\w|mxf_\w+(?:::\w+)*|\(#[\w-]+\)")
+TOPICS = re.compile(r"topics? (`\w+`(?:, `\w+`)*)")
+
+
+def cells_below(document):
+    """The cells of all rows of tables but the first of each: the line of each, the number of its column, the heading above
+    it, and its text. That of a heading has no text."""
+    headings = None
+    for number, line in enumerate(lines_of(document), 1):
+        cells = [cell.strip() for cell in line.split("|")[1:-1]]
+        if not cells or headings is None:
+            headings = cells or None
+            yield from ((number, column, heading, None) for column, heading in enumerate(cells[1:], 1))
+        elif not re.fullmatch(r"[-| ]+", line):
+            yield from ((number, column, headings[column], cells[column]) for column in range(1, len(cells)))
 
 
 def second_cells(document):
-    """The second cells of all rows of tables: the line of each, the heading above it, and its text. That of a heading
-    has no text."""
-    heading = None
+    """The second cells of all rows of tables: the line of each, the heading above it, and its text."""
+    return ((number, heading, cell) for number, column, heading, cell in cells_below(document) if column == 1)
+
+
+# The crates whose names stand without them in the tables below, as a section of docs/PROMISES.md says them.
+CRATES_BELOW = re.compile(r"Crates?: (mxf_\w+(?:, mxf_\w+)*)\.")
+# What cells name that several types have, or that is a part of a contract.
+OF_SEVERAL = {"write_to", "read", "of", "Display", "Eq", "Ord", "history", "goes_on"}
+NAMED = re.compile(r"`([\w:]+)(?:::\{([^`]*)\})?`" + CLAUSES)
+
+
+def names_in(cell):
+    """The functions, methods, laws and types that a cell of docs/PROMISES.md names, each with its clauses. What a link
+    shows is no such name."""
+    for name, several, clauses in NAMED.findall(LINK.sub("", cell)):
+        members = re.findall(r"(\w+)(?: \(([\w, ]+)\))?", several) if several else ()
+        yield from ((f"{name}::{member}", re.findall(r"\w+", own)) for member, own in members)
+        if not several and name not in OF_SEVERAL:
+            yield name, re.findall(r"\w+", clauses)
+
+
+@functools.cache
+def defined_in(crate):
+    """The definitions of a crate, and the fields of its records."""
+    files = sorted((TOP / "crates" / crate / "specs").glob("*.antt"))
+    fields = (re.findall(r"^ +pub ([\w-]+) :", text_of(file), re.MULTILINE) for file in files)
+    return {name for file in files for name, _ in declarations(file)}.union(*fields)
+
+
+# The headings of the columns of docs/PROMISES.md in which each name is looked up.
+NAMING = ("Carried by", "Field or contract", "Rests on these conditions")
+
+
+def texts_with_names(document, crates_at):
+    """The texts of docs/PROMISES.md that name items: the line of each, and the names that are looked up, with their
+    clauses. In a paragraph below the crates of a section these are the names in small letters that have several words.
+    Behind `tried` none is: a name with its crate is looked up as everywhere."""
+    for number, _, heading, cell in cells_below(document):
+        if cell is not None and heading in NAMING:
+            yield number, names_in(cell.partition("tried")[0])
     for number, line in enumerate(lines_of(document), 1):
-        cells = [cell.strip() for cell in line.split("|")[1:-1]]
-        if not cells:
-            heading = None
-        elif heading is None:
-            heading = cells[1]
-            yield number, heading, None
-        elif not re.fullmatch(r"[-| ]+", line):
-            yield number, heading, cells[1]
+        if crates_at[number] and not line.startswith(("|", "#", "- ")):
+            yield number, (named for named in names_in(line) if re.fullmatch(r"[a-z]+_\w+", named[0]))
+
+
+def verdicts_of_names(document):
+    """For each name of docs/PROMISES.md that is looked up: its line, the name, and that the crates above have no item of
+    that name or several, or that the item lacks a clause; or None. Definitions and fields of records are named too."""
+    crates_above, crates_at = [], {}
+    for number, line in enumerate(lines_of(document) if document.name == "PROMISES.md" else (), 1):
+        above = CRATES_BELOW.fullmatch(line)
+        crates_above = above[1].split(", ") if above else [] if line.startswith("#") else crates_above
+        crates_at[number] = crates_above
+    for number, names in texts_with_names(document, crates_at) if crates_at else ():
+        for name, clauses in names:
+            is_defined = not clauses and any(name in defined_in(crate) for crate in crates_at[number])
+            yield number, name, None if is_defined else named_code.fault_of_name(name, clauses, crates_at[number])
 
 
 def fault_of_trial(words):
     """Why these words don't say what tries a promise: they name nothing, or no file that there is; or None."""
-    named = TRIED_BY.findall(words)
+    topics = re.findall(r"\w+", " ".join(TOPICS.findall(words)))
+    named = TRIED_BY.findall(words) + [f"tests/end_to_end.d/{topic}" for topic in topics]
     missing = [name for name in named if "/" in name and not (TOP / name).exists()]
     return f"no such file as {', '.join(missing)}" if missing else None if named else "not said by what it is tried"
 
@@ -331,15 +385,15 @@ def fault_of_trial(words):
 def fault_of_promise(cell):
     """Why nothing carries the promise of a cell: it names no clause and not what tries it; or None."""
     proof, marked, trial = cell.partition("tried")
-    is_named = CONTRACT.search(proof) or PLACED.search(proof) or GROUPED.search(proof)
-    if (proof or not marked) and not is_named and not any(words in proof for words in CARRIED):
+    if (proof or not marked) and not any(names_in(proof)) and not any(words in proof for words in CARRIED):
         return "neither a clause nor what it is tried by"
     return fault_of_trial(trial) if marked else None
 
 
 def fault_of_edits(cell):
     """Why a cell doesn't name edits by their crates, as tests/edits takes them, or None."""
-    named = re.findall(r"`(mxf_\w+)/(\w+)`", cell)
+    grouped = re.findall(r"`(mxf_\w+)/\{?([\w, ]+)\}?`", cell)
+    named = [(crate, name) for crate, names in grouped for name in names.split(", ")]
     missing = [f"{crate}/{name}" for crate, name in named if not list((TOP / "crates" / crate).glob(f"*/{name}.edit"))]
     return f"no such edit as {', '.join(missing)}" if missing else None if named else "no edit is named"
 
@@ -376,15 +430,20 @@ def calls_with_memory():
 
 def verdicts_of_memory(document):
     """For each call that can answer that it is out of memory: that the list of such calls in docs/PROMISES.md hasn't
-    its name, or None."""
+    its name, or None. For each name of the list: its line, and that its crates have no item of that name, or several, or
+    None."""
     if document.name != "PROMISES.md":
         return
-    _, _, behind = text_of(document).partition("\n### Calls that take memory\n")
-    listed = behind.split("\n## ")[0]
+    listed, in_list = set(), False
+    for number, line in enumerate(lines_of(document), 1):
+        in_list = line == "### Calls that take memory" if line.startswith("#") else in_list
+        item = re.match(r"- (mxf_\w+(?:, mxf_\w+)*): ", line) if in_list else None
+        for name, _ in names_in(line) if item else ():
+            listed.add(name)
+            yield number, name, named_code.fault_of_name(name, [], item[1].split(", "))
     for owner, name in calls_with_memory():
-        names = [f"`{owner}::{name}`"] if name in ("of", "read") else [f"`{owner}::{name}`", f"`{name}`"]
-        fault = None if any(named in listed for named in names) else "not in the list of calls that take memory"
-        yield 1, f"{owner}::{name}" if owner else name, fault
+        named = f"{owner}::{name}" if owner else name
+        yield 1, named, None if named in listed else "not in the list of calls that take memory"
 
 
 def length_of(script, name):
@@ -403,7 +462,9 @@ def number_in(script, pattern):
 
 def tests_of(crate):
     """How many tests a crate has."""
-    return sum(file.read_text(encoding="utf-8").count("#[test]") for file in (TOP / "crates" / crate / "src").rglob("*.rt"))
+    return sum(
+        file.read_text(encoding="utf-8").count("#[test]") for file in (TOP / "crates" / crate / "src").rglob("*.rt")
+    )
 
 
 def edits_of(crate):
@@ -443,7 +504,9 @@ NAME_OF_CODE = re.compile(r"\b(?!serde_json\b)(?:[a-z]+_\w+|[A-Z]+[a-z]\w*[A-Z]\
 def words_of_sources():
     """The words of all sources, definitions and scripts."""
     files = [file for part in ("src", "specs", "proofs") for file in (TOP / "crates").glob(f"*/{part}/**/*.*t")]
-    files += [file for folder in ("tests", "report") for file in (TOP / folder).rglob("*") if file.suffix in ("", ".py")]
+    files += [
+        file for folder in ("tests", "report") for file in (TOP / folder).rglob("*") if file.suffix in ("", ".py")
+    ]
     return set().union(*(re.findall(r"\w+", text_of(file)) for file in files if file.is_file()))
 
 
@@ -635,7 +698,10 @@ def retold():
         ("status of", formats_faults_named(GUIDE), GUIDE, faults_with_status(GUIDE)),
         ("word of", formats_words(), MAN, man_words()),
         ("stop", formats_stops(), GUIDE, stops_in(GUIDE)),
-        *(("word of " + table, dict.fromkeys(words_below(table), True), *printed_by(*by)) for table, by in PRINTED.items()),
+        *(
+            ("word of " + table, dict.fromkeys(words_below(table), True), *printed_by(*by))
+            for table, by in PRINTED.items()
+        ),
         ("form of a source", formats_forms(), README, forms_in(text_of(TOP / README))),
         ("form of a source", formats_forms(), GUIDE, forms_in(guide)),
         ("form of a source", formats_forms(), MAN, forms_in(man)),
@@ -666,9 +732,8 @@ def fault_of_fact(file, owned, there):
     return f"{file} says {there}, and this {owned}"
 
 
-# The longest sentence that a document for users may have, in words; a word of code is one.
+# The longest sentence that a document may have, in words; a word of code is one.
 MOST_WORDS = 40
-USER_DOCUMENTS = ("README.md", "docs/GUIDE.md", "docs/PAGES.md", "docs/ARCHIVE.md")
 FONTS = (".B", ".I", ".BR", ".BI", ".RB", ".IR", ".RI")
 
 
@@ -706,18 +771,15 @@ def man_paragraphs(document):
 
 
 def fault_of_sentence(words):
-    """What is wrong with a sentence for users, or None: its noun stands nowhere, or it is too long."""
+    """What is wrong with a sentence, or None: its noun stands nowhere, or it is too long."""
     if words[0] in ("Of", "Those"):
         return f"a sentence begins with {words[0]}"
     return f"a sentence of {len(words)} words" if len(words) > MOST_WORDS else None
 
 
 def verdicts_of_sentences(document):
-    """For each sentence of a document for users: its line, its first words, and what is wrong with it, or None."""
-    is_man_page = document.suffix == ".1"
-    if not is_man_page and document.relative_to(TOP).as_posix() not in USER_DOCUMENTS:
-        return
-    for number, text in man_paragraphs(document) if is_man_page else paragraphs(document):
+    """For each sentence of a document: its line, its first words, and what is wrong with it, or None."""
+    for number, text in man_paragraphs(document) if document.suffix == ".1" else paragraphs(document):
         text = re.sub(r"!?\[([^\]]*)\]\([^)]*\)", r"\1", re.sub(r"`[^`]*`", "`code`", text)).replace("*", "")
         for sentence in re.split(r"(?<=[.!?])\s+", text):
             words = sentence.split()
@@ -726,7 +788,7 @@ def verdicts_of_sentences(document):
 
 
 VERDICTS = (
-    verdicts_of_promises, verdicts_of_memory,
+    verdicts_of_promises, verdicts_of_names, verdicts_of_memory,
     verdicts_of_links, verdicts_of_contracts, verdicts_of_tables, verdicts_of_quotes,
     verdicts_of_definitions, verdicts_of_definition_files, verdicts_of_layers, verdicts_of_numbers, verdicts_of_code,
     verdicts_of_facts, verdicts_of_declarations, verdicts_of_sentences,
@@ -735,7 +797,11 @@ VERDICTS = (
 
 def main():
     names = ("README.md", "SECURITY.md", "CONTRIBUTING.md", "CHANGELOG.md", "examples/README.md", "crates/README.md")
-    documents = [*(TOP / name for name in names), *sorted((TOP / "docs").glob("*.md")), *sorted((TOP / "docs").glob("*.1"))]
+    documents = [
+        *(TOP / name for name in names),
+        *sorted((TOP / "docs").glob("*.md")),
+        *sorted((TOP / "docs").glob("*.1")),
+    ]
     passed = failed = 0
     for document in documents:
         kinds = (verdicts_of_sentences,) if document.suffix == ".1" else VERDICTS
