@@ -1,6 +1,7 @@
 pub mod ComponentLaws
 pub mod ContainerLaws
 pub mod FoundLaws
+pub mod LengthLaws
 pub mod NamedLaws
 pub mod OnceLaws
 pub mod OneTarget

@@ -1,8 +1,9 @@
 //! Lengths of durations.
-ghost use Rattle.std.specs.Prelude.{◌≡◌, Some, codes, pos};
+ghost use Rattle.std.specs.Prelude.{◌≡◌, ◌↔◌, ℕ, Some, codes, pos};
 ghost use Rattle.std.specs.Option.{option_map};
 ghost use Rattle.mxf_tracks.specs.Digits.{length_text};
-ghost use Rattle.mxf_tracks.specs.Lengths.{length_of};
+ghost use Rattle.mxf_sets.specs.declared.record.rate.Rate.{Rate};
+ghost use Rattle.mxf_tracks.specs.Lengths.{IsLengthOf, length_of};
 
 use crate::digits::TwoDigits;
 use mxf_sets::Rate;
@@ -46,6 +47,13 @@ impl fmt::Display for Length {
         )
     }
 }
+
+/// A law of [`Length::of`]: the length is the whole thousandths of a second that the edit units last, and there is one
+/// exactly if both numbers of the rate are above 0.
+pub fn lengths_by_definition()
+    ensures { (duration : ℕ) (rate : Rate) (thousandths : ℕ)
+        → (length_of duration rate ≡ Some thousandths) ↔ IsLengthOf duration rate thousandths }
+{}
 
 /// A law of [`Length`]: how some lengths print, up to hours of three digits, and how long an hour of frames at 25 and at
 /// 30000/1001 a second lasts.
