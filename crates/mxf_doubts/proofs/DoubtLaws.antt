@@ -11,7 +11,7 @@ use Rattle.mxf_views.proofs.CopyLaws.{copies_are, set_note}
 use Rattle.mxf_views.specs.declared.copy.CopyInfo.{CopyInfo}
 use Rattle.mxf_views.specs.Copies.{is_set_note}
 use Rattle.mxf_doubts.specs.declared.doubt.Code.{Code}
-use Rattle.mxf_doubts.specs.declared.doubt.Code.TheVariants.{G01, G02, G03, G06, G07, G08, G09, G10, G11}
+use Rattle.mxf_doubts.specs.declared.doubt.Code.TheVariants.{G01, G02, G03, G04, G06, G07, G08, G09, G10, G11}
 use Rattle.mxf_doubts.specs.declared.doubt.Doubt.{Doubt}
 use Rattle.mxf_doubts.specs.Classes.{is_misfit}
 use Rattle.mxf_doubts.specs.Codes.{all_codes, doubt, doubt_cmp, doubt_cmp-IsAntisymmetric, doubt_total}
@@ -21,6 +21,7 @@ use Rattle.mxf_doubts.specs.Header.{has_set, is_without_one_preface, lacks_prefa
 use Rattle.mxf_doubts.specs.Tracks.{is_untracked}
 use Rattle.mxf_doubts.proofs.ClassLaws.{misfit}
 use Rattle.mxf_doubts.proofs.EndLaws.{behind_ends}
+use Rattle.mxf_doubts.proofs.FirstMissLaws.{first_misses_are}
 use Rattle.mxf_doubts.proofs.MisfitLaws.{index_misfits}
 use Rattle.mxf_doubts.proofs.OrderlyLaws.{unlabelled}
 use Rattle.mxf_doubts.proofs.ReferenceLaws.{lost_references}
@@ -98,6 +99,7 @@ causes : (code : Code) (notes : List NoteParts) (o : ℕ) → IsContent notes �
 causes G01 notes o r b = lacking notes o r
 causes G02 notes o r b = clear_ones (is_strange_inside notes) _ notes o (λ n c. strange_inside notes n r c)
 causes G03 notes o r b = index_misfits notes r o
+causes G04 notes o r b = first_misses_are notes r o
 causes G06 notes o r b = clear_ones (is_strange_outside notes) _ notes o (λ n c. strange_outside notes n r c)
 causes G07 notes o r b = clear_ones (is_untracked notes) _ notes o (λ n c. untracked notes n r b c)
 causes G08 notes o r b = clear_ones is_misfit _ notes o (λ n c. misfit n (b n c.held))
@@ -109,12 +111,13 @@ held : (code : Code) → In code all_codes
 held G01 = inl refl
 held G02 = inr (inl refl)
 held G03 = inr (inr (inl refl))
-held G06 = inr (inr (inr (inl refl)))
-held G07 = inr (inr (inr (inr (inl refl))))
-held G08 = inr (inr (inr (inr (inr (inl refl)))))
-held G09 = inr (inr (inr (inr (inr (inr (inl refl))))))
-held G10 = inr (inr (inr (inr (inr (inr (inr (inl refl)))))))
-held G11 = inr (inr (inr (inr (inr (inr (inr (inr (inl refl))))))))
+held G04 = inr (inr (inr (inl refl)))
+held G06 = inr (inr (inr (inr (inl refl))))
+held G07 = inr (inr (inr (inr (inr (inl refl)))))
+held G08 = inr (inr (inr (inr (inr (inr (inl refl))))))
+held G09 = inr (inr (inr (inr (inr (inr (inr (inl refl)))))))
+held G10 = inr (inr (inr (inr (inr (inr (inr (inr (inl refl))))))))
+held G11 = inr (inr (inr (inr (inr (inr (inr (inr (inr (inl refl)))))))))
 
 -- The doubts are those offsets that are found of their code.
 doubts_are : (notes : List NoteParts) (d : Doubt) → In d (doubts_of notes) ↔ In d.offset (offsets_for d.code notes)

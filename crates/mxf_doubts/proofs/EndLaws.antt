@@ -151,7 +151,7 @@ one_first z o e true t = absurd (cc (t))
 one_first z o e false t = refl
 
 -- The zone of a partition is that by its first packet.
-zone_tells : (notes : List NoteParts) (content : IsContent notes) (p : PartitionParts) (z : EssenceZone)
+pub zone_tells : (notes : List NoteParts) (content : IsContent notes) (p : PartitionParts) (z : EssenceZone)
     → (zone_of notes p ≡ Some z) ↔ ((n : NoteParts) × IsFirstPacket notes p n × IsEssenceZone notes p n z)
 unfolding zone_of
 zone_tells notes content p z = (

@@ -12,10 +12,8 @@ use Rattle.std.specs.Ordering.{ordering_index, ordering_then}
 use Rattle.std.specs.declared.cmp.Ordering.{Ordering}
 use Rattle.std.specs.declared.cmp.Ordering.TheVariants.{Less, Equal, Greater}
 use Rattle.mxf_klv.proofs.Sides.{side_by, sides_rise}
-use Rattle.mxf_sets.specs.declared.segment.numbers.SegmentNumbers.{SegmentNumbers}
 use Rattle.mxf_views.specs.Places.{SegmentAtParts, segments_of}
-use Rattle.mxf_doubts.specs.Sizes.{is_between, size_cmp, size_in}
-use Rattle.mxf_doubts.specs.StreamEnds.{has_other_size, is_other_size}
+use Rattle.mxf_doubts.specs.Sizes.{is_between, is_other_than, size_cmp, size_in}
 use Rattle.mxf_doubts.proofs.FitLaws.{first_hit, none_hit}
 
 pub size_total : IsTotalOrder size_cmp
@@ -202,27 +200,25 @@ one_other i b c x y z = grind arith
 regroup : (f a g b h c : Bool) → (f || g) ≡ h → (a || b) ≡ c → ((f || a) || (g || b)) ≡ (h || c)
 regroup f a g b h c e k = grind arith
 
-any_other : (n : SegmentNumbers) (ss : List SegmentAtParts)
-    → (list_any (is_between (n.index_sid, n.body_sid, 0) (Some n.unit_bytes)) (map size_in ss)
-    || list_any (is_between (n.index_sid, n.body_sid, n.unit_bytes) None) (map size_in ss)) ≡ list_any (is_other_size n) ss
-any_other n [] = refl
-any_other n (s ∷ ss) =
+any_other : (i b c : ℕ) (ss : List SegmentAtParts)
+    → (list_any (is_between (i, b, 0) (Some c)) (map size_in ss) || list_any (is_between (i, b, c) None) (map size_in ss))
+    ≡ list_any (is_other_than i b c) ss
+any_other i b c [] = refl
+any_other i b c (s ∷ ss) =
     let m = s.segment.numbers in
-    regroup (is_between (n.index_sid, n.body_sid, 0) (Some n.unit_bytes) (size_in s))
-    (list_any (is_between (n.index_sid, n.body_sid, 0) (Some n.unit_bytes)) (map size_in ss))
-    (is_between (n.index_sid, n.body_sid, n.unit_bytes) None (size_in s))
-    (list_any (is_between (n.index_sid, n.body_sid, n.unit_bytes) None) (map size_in ss)) (is_other_size n s)
-    (list_any (is_other_size n) ss) (one_other n.index_sid n.body_sid n.unit_bytes m.index_sid m.body_sid m.unit_bytes) (any_other n ss)
+    regroup (is_between (i, b, 0) (Some c) (size_in s)) (list_any (is_between (i, b, 0) (Some c)) (map size_in ss))
+    (is_between (i, b, c) None (size_in s)) (list_any (is_between (i, b, c) None) (map size_in ss)) (is_other_than i b c s)
+    (list_any (is_other_than i b c) ss) (one_other i b c m.index_sid m.body_sid m.unit_bytes) (any_other i b c ss)
 
 -- The sorted sizes are those of the segments.
-pub other_sizes : (notes : List NoteParts) (n : SegmentNumbers) (sizes : List (ℕ × ℕ × ℕ))
+pub other_sizes : (notes : List NoteParts) (i b c : ℕ) (sizes : List (ℕ × ℕ × ℕ))
     → IsPermutation (map size_in (segments_of notes)) sizes
-    → (list_any (is_between (n.index_sid, n.body_sid, 0) (Some n.unit_bytes)) sizes
-    || list_any (is_between (n.index_sid, n.body_sid, n.unit_bytes) None) sizes) ≡ has_other_size notes n
-other_sizes notes n sizes p =
-    let low = is_between (n.index_sid, n.body_sid, 0) (Some n.unit_bytes) in
-    let high = is_between (n.index_sid, n.body_sid, n.unit_bytes) None in
+    → (list_any (is_between (i, b, 0) (Some c)) sizes || list_any (is_between (i, b, c) None) sizes)
+    ≡ list_any (is_other_than i b c) (segments_of notes)
+other_sizes notes i b c sizes p =
+    let low = is_between (i, b, 0) (Some c) in
+    let high = is_between (i, b, c) None in
     let all = map size_in (segments_of notes) in
     ap (λ b. b || list_any high sizes) (sym (list_any-IsPermutation low all sizes p))
     ∙ ap (λ b. list_any low all || b) (sym (list_any-IsPermutation high all sizes p))
-    ∙ any_other n (segments_of notes)
+    ∙ any_other i b c (segments_of notes)

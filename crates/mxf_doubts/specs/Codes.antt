@@ -8,19 +8,20 @@ use Rattle.std.specs.declared.cmp.Ordering.{Ordering}
 use Rattle.std.proofs.Common.{get_or, sym, ◌∙◌, ap}
 use Rattle.std.proofs.lemmas.Cmp.{on_total, then_total, nat_cmp_total, eq_by_cmp_equiv}
 use Rattle.mxf_doubts.specs.declared.doubt.Code.{Code}
-use Rattle.mxf_doubts.specs.declared.doubt.Code.TheVariants.{G01, G02, G03, G06, G07, G08, G09, G10, G11}
+use Rattle.mxf_doubts.specs.declared.doubt.Code.TheVariants.{G01, G02, G03, G04, G06, G07, G08, G09, G10, G11}
 use Rattle.mxf_doubts.specs.declared.doubt.Doubt.{Doubt}
 use Rattle.mxf_klv.specs.NoteOrder.{ties}
 
 -- The codes, rising.
 abbrev pub all_codes : List Code
-all_codes = G01 ∷ G02 ∷ G03 ∷ G06 ∷ G07 ∷ G08 ∷ G09 ∷ G10 ∷ G11 ∷ []
+all_codes = G01 ∷ G02 ∷ G03 ∷ G04 ∷ G06 ∷ G07 ∷ G08 ∷ G09 ∷ G10 ∷ G11 ∷ []
 
 -- The number in the name of a code.
 abbrev pub code_number : Code → ℕ
 code_number G01 = 1
 code_number G02 = 2
 code_number G03 = 3
+code_number G04 = 4
 code_number G06 = 6
 code_number G07 = 7
 code_number G08 = 8
@@ -36,6 +37,7 @@ abbrev pub code_text : Code → List ℕ
 code_text G01 = codes "header metadata without one Preface"
 code_text G02 = codes "strange packet in header metadata"
 code_text G03 = codes "index doesn't fit its partition"
+code_text G04 = codes "no packet where a unit begins"
 code_text G06 = codes "strange packet"
 code_text G07 = codes "essence that no track names"
 code_text G08 = codes "set's key doesn't fit its items"
@@ -59,13 +61,14 @@ doubt_equiv = eq_by_cmp_equiv doubt_total
 
 -- The code with the number, by its place in a list that has some code at the places of other numbers.
 abbrev pub numbered : ℕ → Code
-numbered n = get_or (G01 ∷ G02 ∷ G03 ∷ G03 ∷ G03 ∷ G06 ∷ G07 ∷ G08 ∷ G09 ∷ G10 ∷ G11 ∷ []) (n - 1) G01
+numbered n = get_or (G01 ∷ G02 ∷ G03 ∷ G04 ∷ G04 ∷ G06 ∷ G07 ∷ G08 ∷ G09 ∷ G10 ∷ G11 ∷ []) (n - 1) G01
 
 -- Its number is its place there.
 pub numbered_back : (c : Code) → numbered (code_number c) ≡ c
 numbered_back G01 = refl
 numbered_back G02 = refl
 numbered_back G03 = refl
+numbered_back G04 = refl
 numbered_back G06 = refl
 numbered_back G07 = refl
 numbered_back G08 = refl

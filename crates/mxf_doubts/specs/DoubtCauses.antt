@@ -1,5 +1,5 @@
 -- What each code of a doubt says of the notes (this project's profile).
-use Rattle.std.specs.Prelude.{◌≡◌, ◌≢◌, ℕ, ◌+◌, ◌<◌, ◌≤◌, ◌⊎◌, IsTrue, true, Some, List, [], ◌∷◌, length, take, drop}
+use Rattle.std.specs.Prelude.{◌≡◌, ◌≢◌, ℕ, ◌+◌, ◌-◌, ◌^◌, ◌<◌, ◌≤◌, ◌⊎◌, IsTrue, true, Some, Ok, List, [], ◌∷◌, length, take, drop}
 use Rattle.mxf_klv.specs.declared.kinds.Kind.TheVariants as kinds
 use Rattle.mxf_klv.specs.Parts.{NoteParts}
 use Rattle.mxf_klv.specs.Note.{end_of}
@@ -16,14 +16,16 @@ use Rattle.mxf_views.specs.declared.copy.CopyInfo.{CopyInfo}
 use Rattle.mxf_views.specs.Copies.{IsCopy, IsSetKind}
 use Rattle.mxf_views.specs.Labels.{primer_of}
 use Rattle.mxf_views.specs.Partitions.{PartitionParts, partitions_of}
-use Rattle.mxf_views.specs.Places.{SegmentAtParts, segments_of}
+use Rattle.mxf_views.specs.Places.{IsOnlyPlace, SegmentAtParts, segments_of}
 use Rattle.mxf_places.specs.Held.{IsEndOfFile}
 use Rattle.mxf_places.specs.Named.{IsBehindMetadata, IsOver}
 use Rattle.mxf_sets.specs.declared.pack.random_index.RipEntry.{RipEntry}
 use Rattle.mxf_sets.specs.declared.segment.numbers.SegmentNumbers.{SegmentNumbers}
-use Rattle.mxf_sets.specs.Offset.{stream_offset}
+use Rattle.mxf_sets.specs.Offset.{index_entry, stream_offset}
+use Rattle.mxf_sets.specs.declared.segment.offset.IndexEntry.{IndexEntry}
 use Rattle.mxf_sets.specs.Segment.{SegmentParts}
-use Rattle.mxf_units.specs.Limits.{IsEssenceZone, IsFirstPacket}
+use Rattle.mxf_units.specs.Limits.{IsClipWrapped, IsEssenceZone, IsFirstPacket}
+use Rattle.mxf_units.specs.Standings.{AllHeld, IsLast, IsZone}
 use Rattle.mxf_units.specs.declared.essence_zone.EssenceZone.{EssenceZone}
 use Rattle.mxf_views.specs.RandomIndex.{RipAtParts}
 use Rattle.mxf_views.specs.RandomIndexView.{rip_view_of}
@@ -33,7 +35,7 @@ use Rattle.mxf_views.specs.declared.random_index.Standing.TheVariants.{Held}
 use Rattle.mxf_views.specs.Readings.{IsReadAs}
 use Rattle.mxf_views.specs.SetItems.{IsMadeUpOf}
 use Rattle.mxf_doubts.specs.declared.doubt.Code.{Code}
-use Rattle.mxf_doubts.specs.declared.doubt.Code.TheVariants.{G01, G02, G03, G06, G07, G08, G09, G10, G11}
+use Rattle.mxf_doubts.specs.declared.doubt.Code.TheVariants.{G01, G02, G03, G04, G06, G07, G08, G09, G10, G11}
 use Rattle.mxf_doubts.specs.declared.doubt.Doubt.{Doubt}
 use Rattle.mxf_doubts.specs.Classes.{IsMisfit}
 use Rattle.mxf_doubts.specs.Header.{is_batch_tag, is_reference_tag}
@@ -311,11 +313,94 @@ abbrev pub AtSegment : List NoteParts → ℕ → Type 0
 AtSegment notes offset =
     (s : SegmentAtParts) × In s (segments_of notes) × (s.offset ≡ offset) × IsBehindEnd notes s
 
+-- ---- Where units begin
+
+-- The index is the one that is asked of the stream: some segment is of both, and none of the stream is of a lesser IndexSID.
+pub record IsAskedIndex (notes : List NoteParts) (body_sid index_sid : ℕ) : Type 0 where
+  pub by : SegmentAtParts
+  pub held : In by (segments_of notes)
+  pub body : by.segment.numbers.body_sid ≡ body_sid
+  pub index : by.segment.numbers.index_sid ≡ index_sid
+  pub least : (s : SegmentAtParts) → In s (segments_of notes) → s.segment.numbers.body_sid ≡ body_sid
+      → index_sid ≤ s.segment.numbers.index_sid
+
+-- A segment of the index lists the unit by an entry.
+pub record IsListed (notes : List NoteParts) (index_sid unit : ℕ) : Type 0 where
+  pub by : SegmentAtParts
+  pub held : In by (segments_of notes)
+  pub index : by.segment.numbers.index_sid ≡ index_sid
+  pub entry : IndexEntry
+  pub entry_is : index_entry by.segment unit ≡ Some entry
+
+-- The segment is one of units of one size, of the index and the stream.
+pub record IsSizedIn (notes : List NoteParts) (index_sid body_sid : ℕ) (s : SegmentAtParts) : Type 0 where
+  pub held : In s (segments_of notes)
+  pub sized : 0 < s.segment.numbers.unit_bytes
+  pub index : s.segment.numbers.index_sid ≡ index_sid
+  pub body : s.segment.numbers.body_sid ≡ body_sid
+
+-- All of these state one size.
+abbrev pub AreSizedAlike : List NoteParts → ℕ → ℕ → Type 0
+AreSizedAlike notes index_sid body_sid =
+    (s t : SegmentAtParts) → IsSizedIn notes index_sid body_sid s → IsSizedIn notes index_sid body_sid t
+    → s.segment.numbers.unit_bytes ≡ t.segment.numbers.unit_bytes
+
+-- The index that is asked of the stream puts the unit at the file offset, in the partition of the BodyOffset: all segments that
+-- give the unit a place give one, by an entry or by the only size that is stated. The units of the partition don't all lie in one
+-- packet, and the offset lies in the partition, as far as what is held says.
+pub record IsUnitAt (notes : List NoteParts) (body_sid body_offset unit x : ℕ) : Type 0 where
+  pub number : unit < 2 ^ 64
+  pub index_sid : ℕ
+  pub asked : IsAskedIndex notes body_sid index_sid
+  pub place : ℕ
+  pub placed : IsOnlyPlace (segments_of notes) index_sid unit body_sid place
+  pub sized : IsListed notes index_sid unit ⊎ AreSizedAlike notes index_sid body_sid
+  pub zone : EssenceZone
+  pub zone_is : IsZone notes body_sid place (Ok zone)
+  pub part : zone.body_offset ≡ body_offset
+  pub whole : (p : PartitionParts) (n : NoteParts) → IsLast notes body_sid place p → IsFirstPacket notes p n
+      → IsClipWrapped notes p n → ⊥
+  pub at : x ≡ zone.origin + (place - zone.body_offset)
+  pub below : (limit : ℕ) → zone.limit ≡ Some limit → x < limit
+  pub sure : (zone.is_sure ≡ true) ⊎ AllHeld notes zone.origin (x + 1)
+
+-- An essence element, or of no known kind by a key of the essence containers (bytes 9 to 12, ST 379).
+abbrev pub IsInContainer : NoteParts → Type 0
+IsInContainer n =
+    (kind_of n.key ≡ kinds.Essence)
+    ⊎ ((kind_of n.key ≡ kinds.Other) × (take 4 (drop 8 n.key) ≡ 0x0D ∷ 0x01 ∷ 0x03 ∷ 0x01 ∷ []))
+
+-- A clear packet of an essence container begins at the offset.
+pub record BeginsPacket (notes : List NoteParts) (x : ℕ) : Type 0 where
+  pub packet : NoteParts
+  pub clear : IsClear packet notes
+  pub there : packet.offset ≡ x
+  pub container : IsInContainer packet
+
+-- The offset lies above the first byte of a clear packet of an essence container, or of a clear fill that such a packet follows.
+pub record MissesPacket (notes : List NoteParts) (x : ℕ) : Type 0 where
+  pub packet : NoteParts
+  pub clear : IsClear packet notes
+  pub above : packet.offset < x
+  pub before : x < end_of packet
+  pub leads : IsInContainer packet ⊎ ((kind_of packet.key ≡ kinds.Fill) × BeginsPacket notes (end_of packet))
+
+-- A unit misses its packet there. Between it and each earlier unit of the partition that does lies one at which a packet begins.
+pub record IsFirstMiss (notes : List NoteParts) (x : ℕ) : Type 0 where
+  pub body_sid : ℕ
+  pub body_offset : ℕ
+  pub unit : ℕ
+  pub lies : IsUnitAt notes body_sid body_offset unit x
+  pub misses : MissesPacket notes x
+  pub first : (u y : ℕ) → u < unit → IsUnitAt notes body_sid body_offset u y → MissesPacket notes y
+      → (v : ℕ) × (z : ℕ) × (u < v) × (v < unit) × IsUnitAt notes body_sid body_offset v z × BeginsPacket notes z
+
 -- The cause of the code is met at the offset.
 abbrev pub IsDoubtedAt : Code → List NoteParts → ℕ → Type 0
 IsDoubtedAt G01 notes offset = LacksPreface notes offset
 IsDoubtedAt G02 notes offset = AtClear notes (IsStrangeInside notes) offset
 IsDoubtedAt G03 notes offset = AtPartition notes offset
+IsDoubtedAt G04 notes offset = IsFirstMiss notes offset
 IsDoubtedAt G06 notes offset = AtClear notes (IsStrangeOutside notes) offset
 IsDoubtedAt G07 notes offset = AtClear notes (IsUntracked notes) offset
 IsDoubtedAt G08 notes offset = AtClear notes IsMisfit offset

@@ -9,7 +9,7 @@ use Rattle.mxf_views.specs.Copies.{copies_of, is_fill, is_set_note}
 use Rattle.mxf_views.specs.Partitions.{partitions_of}
 use Rattle.mxf_views.specs.Places.{segments_of}
 use Rattle.mxf_doubts.specs.declared.doubt.Code.{Code}
-use Rattle.mxf_doubts.specs.declared.doubt.Code.TheVariants.{G01, G02, G03, G06, G07, G08, G09, G10, G11}
+use Rattle.mxf_doubts.specs.declared.doubt.Code.TheVariants.{G01, G02, G03, G04, G06, G07, G08, G09, G10, G11}
 use Rattle.mxf_doubts.specs.declared.doubt.Doubt.{Doubt}
 use Rattle.mxf_doubts.specs.Classes.{is_misfit}
 use Rattle.mxf_doubts.specs.Codes.{all_codes, doubt, doubt_cmp}
@@ -19,6 +19,7 @@ use Rattle.mxf_doubts.specs.Sound.{is_first_primer, is_in_sound_zone}
 use Rattle.mxf_doubts.specs.Strange.{is_other, is_strange}
 use Rattle.mxf_doubts.specs.StreamEnds.{is_behind_end}
 use Rattle.mxf_doubts.specs.Tracks.{is_untracked}
+use Rattle.mxf_doubts.specs.UnitStarts.{missed_starts}
 
 -- A packet that header metadata have: a set, a fill, one of no known kind, or the primer pack of a finished copy.
 abbrev pub is_of_header : List NoteParts → NoteParts → Bool
@@ -49,6 +50,7 @@ abbrev pub offsets_for : Code → List NoteParts → List ℕ
 offsets_for G01 notes = map (λ c. c.partition) (filter (lacks_preface notes) (copies_of notes))
 offsets_for G02 notes = clear_at G02 notes
 offsets_for G03 notes = map (λ p. p.offset) (filter (is_index_misfit notes) (partitions_of notes))
+offsets_for G04 notes = missed_starts notes
 offsets_for G06 notes = clear_at G06 notes
 offsets_for G07 notes = clear_at G07 notes
 offsets_for G08 notes = clear_at G08 notes

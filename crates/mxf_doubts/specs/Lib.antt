@@ -9,3 +9,4 @@ pub mod Sound
 pub mod Strange
 pub mod StreamEnds
 pub mod Tracks
+pub mod UnitStarts

@@ -18,6 +18,7 @@ use Rattle.mxf_views.specs.declared.random_index.Standing.TheVariants.{Held, Dif
 use Rattle.mxf_places.specs.Held.{end_of_file}
 use Rattle.mxf_units.specs.EssenceZones.{begins_with, parts_of}
 use Rattle.mxf_units.specs.declared.essence_zone.EssenceZone.{EssenceZone}
+use Rattle.mxf_doubts.specs.Sizes.{is_other_than}
 use Rattle.mxf_units.specs.declared.essence_zone.part.StreamPart.{StreamPart}
 
 -- ---- The last place that a segment gives
@@ -33,9 +34,7 @@ listed_offsets s = filter_map (stream_offset s) (range_with_len (unsigned_abs s.
 
 -- The segment is one of units of one size, of the same index and stream, and of another size.
 abbrev pub is_other_size : SegmentNumbers → SegmentAtParts → Bool
-is_other_size n t =
-    let m = t.segment.numbers in
-    is_constant m && (m.index_sid == n.index_sid) && (m.body_sid == n.body_sid) && not (m.unit_bytes == n.unit_bytes)
+is_other_size n t = is_other_than n.index_sid n.body_sid n.unit_bytes t
 
 abbrev pub has_other_size : List NoteParts → SegmentNumbers → Bool
 has_other_size notes n = list_any (is_other_size n) (segments_of notes)

@@ -22,8 +22,8 @@ use std::cmp::Ordering;
 use std::fmt;
 use std::marker::Model;
 
-/// A kind of doubt. All speak of clear notes: a disputed one is never in doubt, nor is a head. The numbers left out,
-/// G04 and G05, are those of packets where an index puts edit units, which aren't asked yet.
+/// A kind of doubt. All speak of clear notes: a disputed one is never in doubt, nor is a head. The number left out, G05, is
+/// that of units unlike all others, which isn't asked yet.
 ///
 /// A finished copy is one as in [`Views::copies`](mxf_views::Views::copies), and its zone the bytes that it fills.
 #[derive(Clone, Copy, Debug, PartialEq, Eq)]
@@ -39,6 +39,10 @@ pub enum Code {
     /// on where the bytes end, or another segment begins there, or the readable segments in them are all of other IndexSIDs
     /// than the partition's.
     G03,
+    /// The index that is asked of a stream, that of its least IndexSID, puts a unit there: inside of a packet of an essence
+    /// container, or of a fill that one follows. It is the first of such units in a row: no earlier unit of the partition is such, or
+    /// since the last one that is a packet begins at a unit.
+    G04,
     /// A packet that doesn't lie wholly in the zone of a finished copy is strange.
     G06 = 6,
     /// No other packet has the key of an essence element, and no track has the number that the last four bytes of the key
@@ -58,10 +62,11 @@ pub enum Code {
 }
 
 /// All codes.
-const CODES: [Code; 9] = [
+const CODES: [Code; 10] = [
     Code::G01,
     Code::G02,
     Code::G03,
+    Code::G04,
     Code::G06,
     Code::G07,
     Code::G08,
@@ -87,6 +92,7 @@ impl Code {
             Code::G01 => "header metadata without one Preface",
             Code::G02 => "strange packet in header metadata",
             Code::G03 => "index doesn't fit its partition",
+            Code::G04 => "no packet where a unit begins",
             Code::G06 => "strange packet",
             Code::G07 => "essence that no track names",
             Code::G08 => "set's key doesn't fit its items",
@@ -195,6 +201,7 @@ impl Collected {
             Code::G01 => self.add_copies(alloc, asked),
             Code::G02 | Code::G06 | Code::G07 | Code::G08 => self.add_clear(code, asked),
             Code::G03 => self.add_partitions(alloc, asked),
+            Code::G04 => self.add_missed(alloc, asked),
             Code::G09 => self.add_unreferred(alloc, asked),
             Code::G10 => self.add_unlabelled(alloc, asked),
             Code::G11 => self.add_behind(alloc, asked),

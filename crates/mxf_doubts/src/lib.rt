@@ -13,9 +13,11 @@
 //! | Does a finished copy begin with it? | [`SoundZones::begins_with`] | whether it is the primer pack of one |
 //! | Has a set an item that sets of its class don't have? | [`is_misfit`] | whether it has |
 //!
-//! Whether a packet begins where an index puts an edit unit isn't asked yet. Each call's clause says that its answer is a function of the notes; the laws say what the functions are in the
-//! words of notes, copies and items ([`laws::doubts_by_definition`]). Keys, zones and numbers of tracks are listed once, in n
-//! log n steps of what is held, and each question is a search or two.
+//! Whether an edit unit has the packets that others have isn't asked yet. Each call's clause says that its answer is a function of
+//! the notes; the laws say what the functions are in the words of notes, copies, items and units
+//! ([`laws::doubts_by_definition`]). Keys, zones and numbers of tracks are listed once, in n log n steps of what is held, and each
+//! question is a search or two. Of the units of an index those are asked that a segment lists, at which one begins or ends, and that
+//! begin first behind the start of a packet: a law says that the others tell nothing more.
 //!
 //! ```
 //! let keys = Keys::of(alloc, views.catalogue())?;
@@ -39,6 +41,7 @@ mod references;
 mod sizes;
 mod sound;
 mod spans;
+mod starts;
 mod strange;
 mod stream_ends;
 #[cfg(test)]

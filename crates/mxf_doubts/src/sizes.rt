@@ -4,7 +4,7 @@ ghost use Rattle.std.specs.List.{list_any};
 ghost use Rattle.std.specs.List.Sorted.{IsPermutation, IsSorted};
 ghost use Rattle.std.specs.Option.{option_map_or};
 ghost use Rattle.mxf_views.specs.Places.{segments_of};
-ghost use Rattle.mxf_doubts.specs.Sizes.{is_between, size_cmp, size_in, size_of};
+ghost use Rattle.mxf_doubts.specs.Sizes.{is_between, is_other_than, size_cmp, size_in, size_of};
 ghost use Rattle.mxf_doubts.specs.StreamEnds.{has_other_size};
 
 use mxf_klv::OutOfMemory;
@@ -90,7 +90,13 @@ impl<'a> Sizes<'a> {
     pub fn has_other(&self, numbers: &SegmentNumbers) -> bool
         ensures { result ≡ has_other_size self.now numbers.now }
     {
-        let (index_sid, body_sid, bytes) = size_of(numbers);
+        self.has_other_than(numbers.index_sid, numbers.body_sid, numbers.unit_bytes)
+    }
+
+    /// Whether a segment of units of one size, of an index and a stream, states another size than so many bytes.
+    pub fn has_other_than(&self, index_sid: u32, body_sid: u32, bytes: u32) -> bool
+        ensures { result ≡ list_any (is_other_than index_sid body_sid bytes) (segments_of self.now) }
+    {
         has_between(&self.sizes, (index_sid, body_sid, 0), Some(bytes))
             || has_between(&self.sizes, (index_sid, body_sid, bytes), None)
     }

@@ -13,14 +13,23 @@ use Rattle.mxf_klv.specs.Rising.{union}
 use Rattle.mxf_sets.specs.Instance.{instance_uid_at}
 use Rattle.mxf_sets.specs.Offset.{stream_offset}
 use Rattle.mxf_sets.specs.Segment.{is_constant}
+use Rattle.mxf_catalogue.specs.Disputes.{undisputed_notes}
 use Rattle.mxf_places.specs.Claims.{behind_metadata, over_fills}
+use Rattle.mxf_units.specs.EssenceZones.{parts_of, zone_at}
+use Rattle.mxf_units.specs.Streams.{place_of, segments_for}
+use Rattle.mxf_units.specs.Units.{are_all_held, file_offset}
+use Rattle.mxf_units.specs.declared.essence_zone.EssenceZone.{EssenceZone}
+use Rattle.mxf_units.specs.declared.standing.UnitStanding.{UnitStanding}
+use Rattle.mxf_views.specs.declared.index.place.StreamPlace.{StreamPlace}
+use Rattle.std.specs.Prelude.{Result, Ok, Err}
+use Rattle.mxf_views.proofs.Common.{map-map}
 use Rattle.mxf_views.proofs.NumbersLaws.{all_mapped, any_mapped, filter_mapped}
 use Rattle.mxf_views.specs.Copies.{is_fill, sets_from}
 use Rattle.mxf_views.specs.Labels.{is_in_zone}
 use Rattle.mxf_views.specs.Places.{SegmentAtParts}
 use Rattle.mxf_views.specs.SetItems.{set_items, whole_items}
 use Rattle.mxf_doubts.specs.declared.doubt.Code.{Code}
-use Rattle.mxf_doubts.specs.declared.doubt.Code.TheVariants.{G01, G02, G03, G06, G07, G08, G09, G10, G11}
+use Rattle.mxf_doubts.specs.declared.doubt.Code.TheVariants.{G01, G02, G03, G04, G06, G07, G08, G09, G10, G11}
 use Rattle.mxf_doubts.specs.Classes.{class_of, fits, is_misfit}
 use Rattle.mxf_doubts.specs.Codes.{all_codes, doubt, doubt_cmp}
 use Rattle.mxf_doubts.specs.Doubts.{doubts_of, is_note_cause, is_of_header, is_strange_inside, is_strange_outside, offsets_for}
@@ -35,12 +44,16 @@ use Rattle.mxf_doubts.specs.Strange.{is_strange_as}
 use Rattle.mxf_doubts.specs.StreamEnds.{greatest_of, is_behind, is_behind_end, is_of_stream, is_other_size, last_offset, last_zone, listed_offsets}
 use Rattle.mxf_doubts.specs.StreamEnds.{lists_held, zone_of_last}
 use Rattle.mxf_doubts.specs.Tracks.{is_any, is_raw_set, is_untracked, named_tracks, numbers_in, track_number}
+use Rattle.mxf_doubts.specs.Sizes.{is_other_than}
+use Rattle.mxf_doubts.specs.UnitStarts.{begins_alone, begins_packet, borders_of, counts, first_misses, first_of, is_amid, is_below, is_inside}
+use Rattle.mxf_doubts.specs.UnitStarts.{is_number, is_sized, leads_to_packet, listed_in, misses_packet, missed_starts, packet_offsets}
+use Rattle.mxf_doubts.specs.UnitStarts.{start_at, start_cmp, start_in, start_of, stream_indexes, unit_cmp, units_of_part}
 use Rattle.mxf_findings.specs.SameViews.{SameViews}
 use Rattle.mxf_skimmed.specs.Skims.{NoneAlike, noted_beside, skim_beside}
 use Rattle.mxf_skimmed.proofs.SkimmedNotes.{says_same}
 use Rattle.mxf_skimmed.proofs.HeldLaws.{clear_skim}
 use Rattle.mxf_skimmed.proofs.FindingLaws.{clear_offsets}
-use Rattle.mxf_skimmed.proofs.PlaceLaws.{behind_same, clear_at, end_of_file_same, over_same, parts_same}
+use Rattle.mxf_skimmed.proofs.PlaceLaws.{behind_same, clear_at, end_of_file_same, found_at, held_same, over_same, parts_same}
 use Rattle.mxf_skimmed.proofs.ViewLaws.{chosen_stay, set_same, set_stays, skim_has_the_same_views, there, zone_skimmed}
 
 module _ (saved : List NoteParts) where
@@ -315,12 +328,98 @@ module _ (saved : List NoteParts) where
         else stream_offset s.segment (unsigned_abs s.segment.numbers.start + (unsigned_abs s.segment.numbers.duration - 1)))
         else greatest_of None (listed_offsets s.segment))
 
+    -- ---- units
+
+    begins_same : (x : ℕ) → begins_packet (skim notes) x ≡ begins_packet notes x
+    begins_same x =
+        let begins = λ (n : NoteParts). (n.offset == x) && is_container_packet n in
+        any_clear begins (λ n. says_same saved begins n (λ held. refl))
+
+    leads_same : (n : NoteParts) → leads_to_packet (skim notes) (noted n) ≡ leads_to_packet notes n
+    unfolding leads_to_packet
+    leads_same n = λ i. container_same n i || (is_fill (kind_of (key_same n i)) && begins_same (end_same n i) i)
+
+    misses_same : (x : ℕ) → misses_packet (skim notes) x ≡ misses_packet notes x
+    misses_same x =
+        ap (λ l. list_any (is_amid x) (filter (leads_to_packet (skim notes)) l)) clear
+        ∙ ap (list_any (is_amid x)) (filter_mapped (leads_to_packet (skim notes)) noted (clear_notes notes)
+        ∙ (λ i. map noted (filter (λ n. leads_same n i) (clear_notes notes))))
+        ∙ any_mapped (is_amid x) noted (filter (leads_to_packet notes) (clear_notes notes))
+        ∙ (λ i. list_any (λ n. says_same saved (is_amid x) n (λ held. refl) i) (filter (leads_to_packet notes) (clear_notes notes)))
+
+    alone_same : (x : ℕ) → begins_alone (skim notes) x ≡ begins_alone notes x
+    alone_same x = ap is_some (found_at saved notes apart x) ∙ some_same (find (λ n. n.offset == x) (undisputed_notes notes))
+      where
+        some_same : (o : Option NoteParts) → is_some (option_map noted o) ≡ is_some o
+        some_same None = refl
+        some_same (Some n) = refl
+
+    all_held_same : (from to : ℕ) → are_all_held (skim notes) from to ≡ are_all_held notes from to
+    unfolding are_all_held
+    all_held_same from to = λ i. list_all (λ x. held_same saved notes x i) (range_with_len from (to - from))
+
+    inside_zone_same : (z : EssenceZone) (x : ℕ) → is_inside (skim notes) z x ≡ is_inside notes z x
+    inside_zone_same z x = λ i.
+        alone_same z.origin i && (is_below x z.limit && (z.is_sure || all_held_same z.origin (x + 1) i))
+
+    packet_offsets_same : packet_offsets (skim notes) ≡ packet_offsets notes
+    packet_offsets_same =
+        ap (map (λ (n : NoteParts). n.offset)) clear ∙ map-map (λ (n : NoteParts). n.offset) noted (clear_notes notes)
+        ∙ (λ i. map (λ n. offset_same n i) (clear_notes notes))
+
+    counts_same : (index_sid unit body_sid : ℕ) → counts (skim notes) index_sid unit body_sid ≡ counts notes index_sid unit body_sid
+    counts_same index_sid unit body_sid = λ i.
+        option_map_or (λ s. s.index_sid == index_sid) (first_of body_sid (stream_indexes (same.segments i))) false
+        && (list_any (λ u. (u.0 == index_sid) && (u.1 == unit)) (union unit_cmp [] (flat_map listed_in (same.segments i)))
+        || not (option_map_or (λ s. list_any (is_other_than s.index_sid s.body_sid s.unit_bytes) (same.segments i))
+        (first_of body_sid (stream_indexes (filter is_sized (same.segments i)))) false))
+
+    start_in_same : (unit : ℕ) (p : StreamPlace) (r : Result EssenceZone UnitStanding)
+        → start_in (skim notes) unit p r ≡ start_in notes unit p r
+    start_in_same unit p (Err standing) = refl
+    start_in_same unit p (Ok z) =
+        let x = file_offset z p.offset in λ i.
+        if inside_zone_same z x i && (begins_same x i || misses_same x i)
+        then Some (record {
+          body_sid = p.body_sid;
+          body_offset = z.body_offset;
+          unit = unit;
+          offset = x;
+          is_good = begins_same x i;
+        })
+        else None
+
+    start_at_same : (index_sid unit : ℕ) (r : Result StreamPlace UnitStanding)
+        → start_at (skim notes) index_sid unit r ≡ start_at notes index_sid unit r
+    start_at_same index_sid unit (Err standing) = refl
+    start_at_same index_sid unit (Ok p) =
+        ap (λ z. if counts (skim notes) index_sid unit p.body_sid then start_in (skim notes) unit p z else None)
+        (λ i. zone_at (parts_same saved notes apart i) p.body_sid p.offset)
+        ∙ (λ i. if counts_same index_sid unit p.body_sid i
+        then start_in_same unit p (zone_at (parts_of notes) p.body_sid p.offset) i else None)
+
+    start_same : (u : ℕ × ℕ) → start_of (skim notes) u ≡ start_of notes u
+    unfolding start_of
+    start_same u =
+        ap (λ r. if is_number u then start_at (skim notes) u.0 u.1 r else None)
+        (λ i. place_of (filter (λ s. s.segment.numbers.index_sid == u.0) (same.segments i)) u.1)
+        ∙ ap (λ o. if is_number u then o else None) (start_at_same u.0 u.1 (place_of (segments_for notes u.0) u.1))
+
+    missed_same : missed_starts (skim notes) ≡ missed_starts notes
+    unfolding missed_starts
+    missed_same = λ i.
+        first_misses None (union start_cmp [] (filter_map (λ u. start_same u i) (union unit_cmp []
+        ((flat_map listed_in (same.segments i) ++ flat_map borders_of (same.segments i))
+        ++ flat_map (units_of_part (packet_offsets_same i) (stream_indexes (filter is_sized (same.segments i))))
+        (parts_same saved notes apart i)))))
+
     -- ---- all codes
 
     offsets_same : (code : Code) → offsets_for code (skim notes) ≡ offsets_for code notes
     offsets_same G01 = λ i. map (λ c. c.partition) (filter (λ c. lacking_same c i) (same.copies i))
     offsets_same G02 = clear_offsets saved notes apart (is_note_cause G02 (skim notes)) (is_note_cause G02 notes) inside_same
     offsets_same G03 = λ i. map (λ p. p.offset) (filter (λ p. index_misfit_same p i) (same.partitions i))
+    offsets_same G04 = missed_same
     offsets_same G06 = clear_offsets saved notes apart (is_note_cause G06 (skim notes)) (is_note_cause G06 notes) outside_same
     offsets_same G07 = clear_offsets saved notes apart (is_note_cause G07 (skim notes)) (is_note_cause G07 notes) untracked_same
     offsets_same G08 = clear_offsets saved notes apart (is_note_cause G08 (skim notes)) (is_note_cause G08 notes) misfit_same

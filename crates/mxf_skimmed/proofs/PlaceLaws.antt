@@ -93,7 +93,7 @@ module _ (saved : List NoteParts) where
 
   -- ---- what is held
 
-  held_same : (notes : List NoteParts) (x : ℕ) → is_held (skim notes) x ≡ is_held notes x
+  pub held_same : (notes : List NoteParts) (x : ℕ) → is_held (skim notes) x ≡ is_held notes x
   held_same notes x =
       any_mapped (covers x) noted notes ∙ (λ i. list_any (λ n. covers_same x n i) notes)
 
@@ -113,7 +113,7 @@ module _ (saved : List NoteParts) where
     same = skim_has_the_same_views saved notes clear
 
     -- A note that is found at an offset.
-    found_at : (x : ℕ) → find (λ n. n.offset == x) (undisputed_notes (skim notes))
+    pub found_at : (x : ℕ) → find (λ n. n.offset == x) (undisputed_notes (skim notes))
         ≡ option_map noted (find (λ n. n.offset == x) (undisputed_notes notes))
     found_at x =
         ap (find (λ n. n.offset == x)) undisputed ∙ find_mapped (λ n. n.offset == x) noted (undisputed_notes notes)

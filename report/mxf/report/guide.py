@@ -24,6 +24,7 @@ DOUBTS = {
     "G01": ("header metadata without one Preface", "The key of the Preface is damaged, or a set became one. `describe` says nothing of such a copy."),
     "G02": ("strange packet in header metadata", "The key of a set, of a fill or of the primer pack is damaged."),
     "G03": ("index doesn't fit its partition", "The key of an index table segment or of a fill beside it is damaged, or IndexByteCount is. Edit units of that segment aren't known."),
+    "G04": ("no packet where a unit begins", "A stream offset in the index is damaged. Or a piece was handed at a wrong offset, or a packet is lost and what follows it moved up. The units behind it are off too, up to the next one that begins at a packet."),
     "G06": ("strange packet", "Its key is damaged, and it was another packet: a partition pack, a random index pack, essence. Or it is data that only one program knows."),
     "G07": ("essence that no track names", "The number of the track in its key is damaged. Or it is essence that the header metadata don't tell of."),
     "G08": ("set's key doesn't fit its items", "The key of the set is damaged: its items are of another one."),

@@ -1,10 +1,11 @@
-//! Doubts about index table segments by the essence that they index.
+//! Doubts about index table segments and the essence that they index.
 ghost use Rattle.std.specs.Prelude.{◌≡◌, ◌++◌, OnOk};
 ghost use Rattle.mxf_doubts.specs.Doubts.{doubts_for};
 
 use super::Code;
 use super::asked::Asked;
 use super::collected::Collected;
+use crate::starts::missed_starts;
 use crate::stream_ends::StreamEnds;
 use mxf_klv::OutOfMemory;
 use std::alloc::Global;
@@ -19,6 +20,17 @@ impl Collected {
             if ends.is_behind_end(&segment) {
                 self.add(Code::G11, segment.offset)?;
             }
+        }
+        Ok(())
+    }
+
+    /// Units that miss their packets.
+    pub(super) fn add_missed(&mut self, alloc: Global, asked: &Asked<'_>) -> Result<(), OutOfMemory>
+        ensures { OnOk result (self.new ≡ self.old ++ doubts_for Code.G04 asked.now) }
+    {
+        let offsets = missed_starts(alloc, asked.views())?;
+        for offset in offsets.iter() {
+            self.add(Code::G04, *offset)?;
         }
         Ok(())
     }
