@@ -36,6 +36,7 @@ class Folder:
         self.recording = Recording(shown, begun)
         self.saved: Identity | None = None
         self.lock = threading.Lock()
+        self.is_closed = False
         if "\n" in str(path) or not is_text(str(path)):
             raise OwnFault(USAGE, f"bad folder: {path}: mxf_tool takes no such path in a list")
         with self.faults_named():
@@ -81,9 +82,17 @@ class Folder:
 
     def know(self) -> None:
         """Writes what is known of the recording, if that isn't written yet. It stands there before the first of its bytes."""
-        with self.lock:
+        with self.open_lock():
             if self.saved != self.recording.identity:
                 self.save()
+
+    @contextlib.contextmanager
+    def open_lock(self) -> Iterator[None]:
+        """The folder isn't closed meanwhile. If it was, a request that goes on longer than its call makes no file any more."""
+        with self.lock:
+            if self.is_closed:
+                raise KeyboardInterrupt
+            yield
 
     def save(self) -> None:
         """Writes what is known of the recording and which ranges are held, beside and then in place."""
@@ -129,7 +138,9 @@ class Folder:
         One of which nothing came is none."""
         path = self.path / f"{start}.range"
         with self.faults_named():
-            with open(path, "ab") as file:
+            with self.open_lock():
+                file = open(path, "ab")
+            with file:
                 try:
                     yield file
                 finally:
@@ -139,6 +150,8 @@ class Folder:
 
     def close(self) -> None:
         """Lets others have the folder. One that was made and has nothing goes."""
+        with self.lock:
+            self.is_closed = True
         os.close(self.opened)
         if self.is_made:
             with contextlib.suppress(OSError):

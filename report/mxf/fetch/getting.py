@@ -84,18 +84,19 @@ class Round:
 
     def run(self) -> None:
         """Goes on until all have come, or one has failed."""
-        for worker in self.workers:
-            worker.start()
         try:
+            for worker in self.workers:
+                worker.start()
             for worker in self.workers:
                 while worker.is_alive() and not self.is_over.is_set():
                     worker.join(0.1)
         finally:
             self.is_over.set()
-            if any(worker.is_alive() for worker in self.workers):
+            left = [worker for worker in self.workers if worker.is_alive()]
+            if left:
                 self.getting.place.stop()
-            for worker in self.workers:
-                worker.join(PATIENCE / len(self.workers))
+            for worker in left:
+                worker.join(PATIENCE / len(left))
         if self.fault is not None:
             raise self.fault
 
