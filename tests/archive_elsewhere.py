@@ -26,14 +26,22 @@ from web_servers import Nginx, free_port, misbehaving, nginx
 
 KILLS = 12
 
-# Makes a temporary folder and removes it, in a process of two threads for each line that is run for it, of Python too: there a
-# signal comes. Prints the number of lines, and the lines at which a folder stayed, or the status was another than is wanted.
+# Gets bytes into a temporary folder and removes it, in a process of its own for each line that is run for it, also of Python's
+# module of threads: there a signal comes. Prints the number of lines, and the lines at which a folder stayed, or the status was
+# another than is wanted.
 SIGNALLED = """
-import os, signal, sys, threading, time
+import os, pathlib, signal, sys, threading, time
 from mxf import running
+from mxf.fetch.getting import Bounds
+from mxf.fetch.opening import Where, opened
+from mxf.fetch.spans import Span
+
+FILES = {module.__file__ for name, module in sys.modules.items() if name.split(".")[0] in ("mxf", "threading", "tempfile")}
 
 def run():
-    with running.temporary_folder("mxf_archive."):
+    where = Where(sys.argv[1], {}, 5, Bounds(1 << 20, 2, is_silent=True))
+    with running.temporary_folder("mxf_archive.") as folder, opened(where, pathlib.Path(folder), None) as getting:
+        getting.get([Span(0, 1000), Span(20000, 21000)])
         return 0
 
 def status_at(line):
@@ -42,7 +50,7 @@ def status_at(line):
     lines = 0
     def trace(frame, event, _):
         nonlocal lines
-        lines += event == "line"
+        lines += event == "line" and frame.f_code.co_filename in FILES
         if lines == line:
             lines += 1
             os.kill(os.getpid(), signal.SIGTERM)
@@ -330,11 +338,12 @@ def try_kills(store: Store) -> None:
 
 
 def try_signals(t: Trial) -> None:
-    """Wherever a signal comes while a temporary folder is made and removed, none stays."""
+    """Wherever a signal comes while a temporary folder is made, filled by other threads, and removed, none stays."""
     temporary = t.work / "signals"
     temporary.mkdir()
     known = {**os.environ, "PYTHONPATH": str(t.top / "report"), "TMPDIR": str(temporary)}
-    ended = subprocess.run([sys.executable, "-c", SIGNALLED], env=known, capture_output=True, text=True, check=False)
+    words = [sys.executable, "-c", SIGNALLED, str(t.top / "examples/op1a_mpeg2_long_gop.mxf")]
+    ended = subprocess.run(words, env=known, capture_output=True, text=True, check=False)
     lines, _, failed = ended.stdout.strip().partition(" ")
     t.equal("a signal at any line: no folder stays", (failed, ended.stderr), ("[]", ""))
     t.verdict("at each of many lines", lines.isdigit() and int(lines) > 50, lines)

@@ -14,6 +14,7 @@ from mxf.fetch.places import Place
 from mxf.fetch.progress import Progress
 from mxf.fetch.recording import Identity
 from mxf.fetch.spans import OPEN, Span, missing, requests_for, together
+from mxf.running import held_back
 
 PATIENCE = 2.0  # seconds that the other requests have to end, after one has failed
 
@@ -85,8 +86,9 @@ class Round:
     def run(self) -> None:
         """Goes on until all have come, or one has failed."""
         try:
-            for worker in self.workers:
-                worker.start()
+            with held_back():  # Python starts no thread rightly if a signal ends that
+                for worker in self.workers:
+                    worker.start()
             for worker in self.workers:
                 while worker.is_alive() and not self.is_over.is_set():
                     worker.join(0.1)
