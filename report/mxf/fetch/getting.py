@@ -86,7 +86,7 @@ class Round:
     def run(self) -> None:
         """Goes on until all have come, or one has failed."""
         try:
-            with held_back():  # Python starts no thread rightly if a signal ends that
+            with held_back():  # a signal that ends the start of a thread leaves Python's locks in disorder
                 for worker in self.workers:
                     worker.start()
             for worker in self.workers:
