@@ -295,6 +295,10 @@ SHAPES = {
     "doubted_tags": Shape("tags for as many items", "check", 2000, tags, options=("--doubts",)),
     "doubted_references": Shape("references among as many sets", "check", 500, references, options=("--doubts",)),
     "doubted_ends": Shape("partitions and indexes", "check", 4000, ended, options=("--doubts",)),
+    "doubted_lists": Shape("segments of 250 units", "check", 450, listed, options=("--doubts",)),
+    "doubted_partitions": Shape(
+        "partitions with a unit, every other lost", "check", 4000, lambda _: [], lost_partitions, ("--doubts",)
+    ),
     "disputed": Shape("disputed notes", "show", 37_500, disputed),
     "readings": Shape("disputed notes of two sources", "sources", 37_500, disputed),
     "beside": Shape("disputed notes of a reference", "verify", 37_500, beside, contents_beside),
